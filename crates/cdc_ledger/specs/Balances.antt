@@ -1,0 +1,48 @@
+-- The balances of an account, as sums over the entries (TigerBeetle, Account and Two-Phase Transfers).
+use Rattle.std.specs.Prelude.{ℕ, Bool, ◌==◌, ◌&&◌, ◌||◌, not, nat_le, List, if◌then◌else◌, sum_by}
+use Rattle.std.specs.List.{list_any}
+use Rattle.cdc_types.specs.declared.accounts.Balances.{Balances}
+use Rattle.cdc_types.specs.declared.events.Entry.{Entry}
+use Rattle.cdc_types.specs.declared.transfers.Transfer.{Transfer}
+use Rattle.cdc_ledger.specs.History.{History}
+use Rattle.cdc_ledger.specs.Kinds.{holds, moves, posts, voids, expires}
+
+-- the entry posts, voids or expires the pending transfer p
+abbrev pub resolves : Transfer → Entry → Bool
+resolves p e = posts e.kind e.transfer p || voids e.kind e.transfer p || expires e.kind e.transfer p
+
+-- some entry up to the moment t resolves the pending transfer p
+abbrev pub resolved : History → Transfer → ℕ → Bool
+resolved h p t = list_any (λ e. nat_le e.timestamp t && resolves p e) h.entries
+
+-- what the entry still holds back at the moment t
+abbrev pub held : History → ℕ → Entry → ℕ
+held h t e = if holds e.kind && not (resolved h e.transfer t) then e.transfer.amount else 0
+
+-- what the entry moved for good
+abbrev pub moved : Entry → ℕ
+moved e = if moves e.kind then e.transfer.amount else 0
+
+-- the amount of an entry, where it stands up to the moment t and this side of it is the account
+abbrev pub share : (Entry → ℕ) → (Transfer → ℕ) → ℕ → ℕ → Entry → ℕ
+share amount side account t e = if nat_le e.timestamp t && (side e.transfer == account) then amount e else 0
+
+-- the two sides of a transfer
+abbrev pub debit_side : Transfer → ℕ
+debit_side x = x.debit_account_id
+
+abbrev pub credit_side : Transfer → ℕ
+credit_side x = x.credit_account_id
+
+-- the balances of an account at the moment t
+abbrev pub balances : History → ℕ → ℕ → Balances
+balances h account t = record {
+  debits_pending = sum_by (share (held h t) debit_side account t) h.entries;
+  debits_posted = sum_by (share moved debit_side account t) h.entries;
+  credits_pending = sum_by (share (held h t) credit_side account t) h.entries;
+  credits_posted = sum_by (share moved credit_side account t) h.entries;
+}
+
+-- the balances of every number as an account, as of the moment t
+abbrev pub as_of : History → ℕ → ℕ → Balances
+as_of h t = λ account. balances h account t

@@ -1,0 +1,10 @@
+pub mod Balances
+pub mod BatchErrors
+pub mod Due
+pub mod Events
+pub mod Filling
+pub mod History
+pub mod Kinds
+pub mod Sound
+pub mod Submit
+pub mod Verdict

@@ -1,0 +1,149 @@
+-- What the ledger answers to a batch, and the history after it.
+use Rattle.std.specs.Prelude.{ℕ, ◌+◌, ◌-◌, max, Bool, true, false, ◌==◌, ◌&&◌, ◌||◌, nat_lt, Option, Some, None, Result, Ok, Err, List, [], ◌∷◌, ◌++◌, length, if◌then◌else◌, ◌≡◌}
+use Rattle.cdc_types.specs.declared.accounts.NewAccount.{NewAccount}
+use Rattle.cdc_types.specs.declared.batches.Batch.{Batch}
+use Rattle.cdc_types.specs.declared.batches.Batch.TheVariants as batch
+use Rattle.cdc_types.specs.declared.batches.BatchResults.{BatchResults}
+use Rattle.cdc_types.specs.declared.batches.BatchResults.TheVariants as results
+use Rattle.cdc_types.specs.declared.events.Entry.{Entry}
+use Rattle.cdc_types.specs.declared.events.EventKind.{EventKind}
+use Rattle.cdc_types.specs.declared.events.EventKind.TheVariants.{SinglePhase, TwoPhasePending, TwoPhasePosted, TwoPhaseVoided, TwoPhaseExpired}
+use Rattle.cdc_types.specs.declared.results.AccountResult.{AccountResult}
+use Rattle.cdc_types.specs.declared.results.TransferResult.{TransferResult}
+use Rattle.cdc_types.specs.declared.transfers.NewTransfer.{NewTransfer}
+use Rattle.cdc_types.specs.declared.transfers.Transfer.{Transfer}
+use Rattle.cdc_types.specs.Features.{Features, features}
+use Rattle.cdc_types.specs.Flags.{is_pending_request, is_post_request, is_void_request}
+use Rattle.cdc_types.specs.Lines.{first_line}
+use Rattle.cdc_types.specs.Results.{account_number, transfer_number}
+use Rattle.cdc_ledger.specs.declared.errors.BatchError.{BatchError}
+use Rattle.cdc_ledger.specs.declared.errors.BatchError.TheVariants as refusal
+use Rattle.cdc_ledger.specs.History.{Opened, History, empty_history}
+use Rattle.cdc_ledger.specs.Filling.{filled}
+use Rattle.cdc_ledger.specs.Verdict.{max_timestamp, account_verdict, transfer_verdict}
+use Rattle.cdc_ledger.specs.Due.{due}
+
+-- what a request is once it's accepted
+abbrev pub kind_of : NewTransfer → EventKind
+kind_of r =
+    if is_pending_request r then TwoPhasePending
+    else if is_post_request r then TwoPhasePosted
+    else if is_void_request r then TwoPhaseVoided
+    else SinglePhase
+
+-- the history after a request for an account at the moment t: it takes its timestamp whether it is accepted or not
+abbrev pub after_account : History → NewAccount → ℕ → AccountResult → History
+after_account h a t verdict = record h {
+  accounts = if account_number verdict == 0 then h.accounts ++ record { request = a; timestamp = t } ∷ [] else h.accounts;
+  last = t;
+}
+
+-- the history after a request for a transfer at the moment t
+abbrev pub after_transfer : History → NewTransfer → ℕ → TransferResult → History
+after_transfer h r t verdict = record h {
+  entries = if transfer_number verdict == 0
+      then h.entries ++ record { timestamp = t; kind = kind_of r; transfer = filled h r t } ∷ []
+      else h.entries;
+  last = t;
+}
+
+-- the answers to requests for accounts from the moment t on, each on the history so far, and the history after them
+abbrev pub accounts_from : Features → History → ℕ → List NewAccount → List AccountResult × History
+accounts_from offered h t [] = ([], h)
+accounts_from offered h t (a ∷ rest) =
+    let verdict = account_verdict offered h a in
+    let later = accounts_from offered (after_account h a t verdict) (t + 1) rest in
+    (verdict ∷ later.0, later.1)
+
+-- the answers to requests for transfers from the moment t on, likewise
+abbrev pub transfers_from : Features → History → ℕ → List NewTransfer → List TransferResult × History
+transfers_from offered h t [] = ([], h)
+transfers_from offered h t (r ∷ rest) =
+    let verdict = transfer_verdict offered h r t in
+    let later = transfers_from offered (after_transfer h r t verdict) (t + 1) rest in
+    (verdict ∷ later.0, later.1)
+
+-- the history after these pending transfers came to their end, from the moment t on
+abbrev pub expiries_from : History → ℕ → List Transfer → History
+expiries_from h t [] = h
+expiries_from h t (p ∷ rest) =
+    let entry : Entry = record { timestamp = t; kind = TwoPhaseExpired; transfer = p } in
+    expiries_from (record h { entries = h.entries ++ entry ∷ []; last = t }) (t + 1) rest
+
+-- the timestamp of the first item of a batch at the moment now
+abbrev pub base : History → ℕ → ℕ
+base h now = max now (h.last + 1)
+
+-- the moment of a batch
+abbrev pub moment : Batch → ℕ
+moment (batch.Accounts now items) = now
+moment (batch.Transfers now items) = now
+moment (batch.Pulse now) = now
+
+-- how many timestamps a batch takes
+abbrev pub items_of : History → Batch → ℕ
+items_of h (batch.Accounts now items) = length items
+items_of h (batch.Transfers now items) = length items
+items_of h (batch.Pulse now) = length (due h now)
+
+-- the batch has more items than one may have; a pulse has none of its own
+abbrev pub is_too_large : Batch → Bool
+is_too_large (batch.Accounts now items) = nat_lt 1000 (length items)
+is_too_large (batch.Transfers now items) = nat_lt 1000 (length items)
+is_too_large (batch.Pulse now) = false
+
+-- n items from the moment now on would pass the greatest timestamp
+abbrev pub is_past_the_end : History → ℕ → ℕ → Bool
+is_past_the_end h now n = nat_lt 0 n && nat_lt max_timestamp (base h now + n - 1)
+
+-- why a batch is refused as a whole, if it is
+abbrev pub refusal_of : History → Batch → Option BatchError
+refusal_of h b =
+    first_line (
+    (h.closed, refusal.LedgerClosed) ∷
+    (is_too_large b, refusal.BatchTooLarge) ∷
+    (is_past_the_end h (moment b) (items_of h b), refusal.TimestampsExhausted) ∷
+    []
+    )
+
+-- the answer to a batch that isn't refused, and the history after it
+abbrev pub taken : Features → History → Batch → BatchResults × History
+taken offered h (batch.Accounts now items) =
+    let all = accounts_from offered h (base h now) items in (results.Accounts all.0, all.1)
+taken offered h (batch.Transfers now items) =
+    let all = transfers_from offered h (base h now) items in (results.Transfers all.0, all.1)
+taken offered h (batch.Pulse now) =
+    (results.Pulsed (length (due h now)), expiries_from h (base h now) (due h now))
+
+abbrev pub answered : Option BatchError → BatchResults × History → Result (BatchResults × History) BatchError
+answered (Some e) answer = Err e
+answered None answer = Ok answer
+
+-- the answer to a batch and the history after it, or why it is refused
+abbrev pub submit_by : Features → History → Batch → Result (BatchResults × History) BatchError
+submit_by offered h b = answered (refusal_of h b) (taken offered h b)
+
+-- the same by what the ledger offers today
+abbrev pub submit : History → Batch → Result (BatchResults × History) BatchError
+submit h b = submit_by features h b
+
+abbrev pub history_or : History → Result (BatchResults × History) BatchError → History
+history_or h (Ok answer) = answer.1
+history_or h (Err e) = h
+
+-- the history after batches, of which refused ones change nothing
+abbrev pub after_batches : Features → History → List Batch → History
+after_batches offered h [] = h
+after_batches offered h (b ∷ bs) = after_batches offered (history_or h (submit_by offered h b)) bs
+
+-- the history once the ledger is closed, where it is
+abbrev pub closed_if : Bool → History → History
+closed_if close h = record h { closed = close || h.closed }
+
+-- g is made of h by batches and at most one close
+abbrev pub Extends : History → History → Type 0
+Extends g h = (batches : List Batch) × (close : Bool) × (g ≡ closed_if close (after_batches features h batches))
+
+-- batches and at most one close make h of nothing
+abbrev pub IsLegal : History → Type 0
+IsLegal h = Extends h empty_history

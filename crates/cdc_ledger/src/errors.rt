@@ -1,0 +1,49 @@
+//! Why a batch is refused as a whole.
+
+ghost use Rattle.std.specs.Prelude.{◌≡◌};
+ghost use Rattle.cdc_ledger.specs.BatchErrors.{batch_error_number, batch_error_name};
+
+use thiserror::Error;
+
+/// Why a batch is refused as a whole; the ledger is then as it was.
+#[derive(Clone, Copy, Debug, PartialEq, Eq, Error)]
+pub enum BatchError {
+    /// The ledger takes no more batches.
+    #[error("the ledger is closed")]
+    LedgerClosed,
+    /// The batch has more than 1,000 items.
+    #[error("the batch has more than 1,000 items")]
+    BatchTooLarge,
+    /// Its items would pass the greatest timestamp, 2^63-1.
+    #[error("no timestamps are left")]
+    TimestampsExhausted,
+    /// Memory ran out.
+    #[error("out of memory")]
+    OutOfMemory,
+}
+
+impl BatchError {
+    /// The refusal's number, from 1 on; of several that apply the least is answered.
+    pub fn number(self) -> u8
+        ensures { result ≡ batch_error_number self }
+    {
+        match self {
+            BatchError::LedgerClosed => 1,
+            BatchError::BatchTooLarge => 2,
+            BatchError::TimestampsExhausted => 3,
+            BatchError::OutOfMemory => 4,
+        }
+    }
+
+    /// The refusal's name.
+    pub fn name(self) -> &'static str
+        ensures { result.now ≡ batch_error_name self }
+    {
+        match self {
+            BatchError::LedgerClosed => "ledger_closed",
+            BatchError::BatchTooLarge => "batch_too_large",
+            BatchError::TimestampsExhausted => "timestamps_exhausted",
+            BatchError::OutOfMemory => "out_of_memory",
+        }
+    }
+}

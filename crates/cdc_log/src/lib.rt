@@ -1,0 +1,6 @@
+//! The log of events: a list in the order of their timestamps, with room made ahead.
+#![tactic(auto)]
+
+pub mod log;
+
+pub use log::EventLog;

@@ -1,0 +1,27 @@
+-- The bits of the flags (TigerBeetle, Account and Transfer, `flags`).
+use Rattle.std.specs.Prelude.{ℕ, ◌-◌, Bool, not, ◌==◌, ◌&&◌, ◌||◌, bit_and}
+use Rattle.cdc_types.specs.declared.transfers.NewTransfer.{NewTransfer}
+
+-- some of these bits is set
+abbrev pub has_flag : ℕ → ℕ → Bool
+has_flag flags bits = not (bit_and flags bits == 0)
+
+-- a bit is set that isn't among the accepted ones
+abbrev pub has_other_flag : ℕ → ℕ → Bool
+has_other_flag flags accepted = has_flag flags (65535 - accepted)
+
+-- the amount is held back until it is posted or voided
+abbrev pub is_pending_request : NewTransfer → Bool
+is_pending_request t = has_flag t.flags 2
+
+-- a pending transfer is posted
+abbrev pub is_post_request : NewTransfer → Bool
+is_post_request t = has_flag t.flags 4
+
+-- a pending transfer is voided
+abbrev pub is_void_request : NewTransfer → Bool
+is_void_request t = has_flag t.flags 8
+
+-- the transfer names its accounts itself: it is single-phase or pending
+abbrev pub is_plain_request : NewTransfer → Bool
+is_plain_request t = not (is_post_request t || is_void_request t)

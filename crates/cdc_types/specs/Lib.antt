@@ -1,0 +1,5 @@
+pub mod Features
+pub mod Flags
+pub mod Lines
+pub mod Results
+pub mod Shapes

@@ -1,0 +1,16 @@
+//! The data of the ledger, of its events and of the batches that make them, with the first check of a request.
+#![tactic(auto)]
+
+pub mod accounts;
+pub mod batches;
+pub mod bounds;
+pub mod events;
+pub mod results;
+pub mod transfers;
+
+pub use accounts::{Account, AccountFlags, Balances, NewAccount};
+pub use batches::{Batch, BatchResults, Items};
+pub use bounds::Limits;
+pub use events::{Entry, Event, EventAccount, EventKind, EventTransfer, Headers, Properties};
+pub use results::{AccountResult, TransferResult};
+pub use transfers::{NewTransfer, Transfer, TransferFlags};
