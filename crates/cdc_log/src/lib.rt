@@ -2,5 +2,7 @@
 #![tactic(auto)]
 
 pub mod log;
+#[cfg(test)]
+mod tests;
 
 pub use log::EventLog;

@@ -24,10 +24,10 @@ impl<T> Model for Items<T> {
 
 impl<T> Items<T> {
     /// The items of a `Vec`, with no memory taken.
-    pub fn from_vec(items: Vec<T>) -> Items<T>
-        ensures { result ≡ items.items }
+    pub fn from_vec(list: Vec<T>) -> Items<T>
+        ensures { result ≡ list.items }
     {
-        Items { items }
+        Items { items: list }
     }
 
     /// The items as a `Vec`, with no memory taken.

@@ -6,6 +6,8 @@ pub mod batches;
 pub mod bounds;
 pub mod events;
 pub mod results;
+#[cfg(test)]
+mod tests;
 pub mod transfers;
 
 pub use accounts::{Account, AccountFlags, Balances, NewAccount};

@@ -7,104 +7,104 @@ ghost use Rattle.cdc_types.specs.Results.{account_number, account_name, transfer
 #[derive(Clone, Copy, Debug, PartialEq, Eq)]
 pub enum AccountResult {
     /// The account was made.
-    Accepted,
+    Accepted = 0,
     /// A flag is set that the ledger doesn't take.
-    ReservedFlag,
+    ReservedFlag = 1,
     /// The id is 0.
-    IdMustNotBeZero,
+    IdMustNotBeZero = 2,
     /// The id is 2^128-1.
-    IdMustNotBeIntMax,
+    IdMustNotBeIntMax = 3,
     /// Both limits on a balance are asked for.
-    FlagsAreMutuallyExclusive,
+    FlagsAreMutuallyExclusive = 4,
     /// The ledger is 0.
-    LedgerMustNotBeZero,
+    LedgerMustNotBeZero = 5,
     /// The code is 0.
-    CodeMustNotBeZero,
+    CodeMustNotBeZero = 6,
     /// The id is another account's, with other fields.
-    ExistsWithDifferentFields,
+    ExistsWithDifferentFields = 7,
     /// The account is there already.
-    Exists,
+    Exists = 8,
 }
 
 /// What became of a request for a transfer (TigerBeetle, `create_transfers`).
 #[derive(Clone, Copy, Debug, PartialEq, Eq)]
 pub enum TransferResult {
     /// The transfer was made.
-    Accepted,
+    Accepted = 0,
     /// A flag is set that the ledger doesn't take.
-    ReservedFlag,
+    ReservedFlag = 1,
     /// The id is 0.
-    IdMustNotBeZero,
+    IdMustNotBeZero = 2,
     /// The id is 2^128-1.
-    IdMustNotBeIntMax,
+    IdMustNotBeIntMax = 3,
     /// Two of pending, post and void are asked for.
-    FlagsAreMutuallyExclusive,
+    FlagsAreMutuallyExclusive = 4,
     /// Only a post or a void names a pending transfer.
-    PendingIdMustBeZero,
+    PendingIdMustBeZero = 5,
     /// A post or a void names a pending transfer.
-    PendingIdMustNotBeZero,
+    PendingIdMustNotBeZero = 6,
     /// A transfer can't post or void itself.
-    PendingIdMustBeDifferent,
+    PendingIdMustBeDifferent = 7,
     /// Only a pending transfer has a timeout.
-    TimeoutReservedForPendingTransfer,
+    TimeoutReservedForPendingTransfer = 8,
     /// The ledger is 0.
-    LedgerMustNotBeZero,
+    LedgerMustNotBeZero = 9,
     /// The code is 0.
-    CodeMustNotBeZero,
+    CodeMustNotBeZero = 10,
     /// Both accounts are one.
-    AccountsMustBeDifferent,
+    AccountsMustBeDifferent = 11,
     /// The id is another transfer's, with other fields.
-    ExistsWithDifferentFields,
+    ExistsWithDifferentFields = 12,
     /// The transfer is there already.
-    Exists,
+    Exists = 13,
     /// There is no such account.
-    DebitAccountNotFound,
+    DebitAccountNotFound = 14,
     /// There is no such account.
-    CreditAccountNotFound,
+    CreditAccountNotFound = 15,
     /// The accounts are of two ledgers.
-    AccountsMustHaveTheSameLedger,
+    AccountsMustHaveTheSameLedger = 16,
     /// The transfer is of another ledger than its accounts.
-    TransferMustHaveTheSameLedgerAsAccounts,
+    TransferMustHaveTheSameLedgerAsAccounts = 17,
     /// There is no such transfer.
-    PendingTransferNotFound,
+    PendingTransferNotFound = 18,
     /// The transfer isn't a pending one.
-    PendingTransferNotPending,
+    PendingTransferNotPending = 19,
     /// The pending transfer debits another account.
-    PendingTransferHasDifferentDebitAccountId,
+    PendingTransferHasDifferentDebitAccountId = 20,
     /// The pending transfer credits another account.
-    PendingTransferHasDifferentCreditAccountId,
+    PendingTransferHasDifferentCreditAccountId = 21,
     /// The pending transfer is of another ledger.
-    PendingTransferHasDifferentLedger,
+    PendingTransferHasDifferentLedger = 22,
     /// The pending transfer has another code.
-    PendingTransferHasDifferentCode,
+    PendingTransferHasDifferentCode = 23,
     /// More than was held back.
-    ExceedsPendingTransferAmount,
+    ExceedsPendingTransferAmount = 24,
     /// A void of another amount than was held back.
-    PendingTransferHasDifferentAmount,
+    PendingTransferHasDifferentAmount = 25,
     /// The pending transfer was posted.
-    PendingTransferAlreadyPosted,
+    PendingTransferAlreadyPosted = 26,
     /// The pending transfer was voided.
-    PendingTransferAlreadyVoided,
+    PendingTransferAlreadyVoided = 27,
     /// The pending transfer has come to its end.
-    PendingTransferExpired,
+    PendingTransferExpired = 28,
     /// The sum would pass 2^128-1.
-    OverflowsDebitsPending,
+    OverflowsDebitsPending = 29,
     /// The sum would pass 2^128-1.
-    OverflowsCreditsPending,
+    OverflowsCreditsPending = 30,
     /// The sum would pass 2^128-1.
-    OverflowsDebitsPosted,
+    OverflowsDebitsPosted = 31,
     /// The sum would pass 2^128-1.
-    OverflowsCreditsPosted,
+    OverflowsCreditsPosted = 32,
     /// Pending and posted debits together would pass 2^128-1.
-    OverflowsDebits,
+    OverflowsDebits = 33,
     /// Pending and posted credits together would pass 2^128-1.
-    OverflowsCredits,
+    OverflowsCredits = 34,
     /// The end of the pending transfer would pass 2^63-1.
-    OverflowsTimeout,
+    OverflowsTimeout = 35,
     /// The debits would pass the credits of an account that forbids it.
-    ExceedsCredits,
+    ExceedsCredits = 36,
     /// The credits would pass the debits of an account that forbids it.
-    ExceedsDebits,
+    ExceedsDebits = 37,
 }
 
 impl AccountResult {

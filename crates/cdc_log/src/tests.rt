@@ -1,0 +1,64 @@
+//! That a log finds memory, and keeps what is pushed.
+
+ghost use Rattle.std.specs.Prelude.{◌≡◌};
+
+use crate::EventLog;
+use cdc_types::{Event, EventAccount, EventKind, EventTransfer};
+use std::test::Fail;
+
+// An event at this moment, of nothing.
+fn event(timestamp: u64) -> Event
+    ensures { result.timestamp ≡ timestamp }
+{
+    let account = EventAccount {
+        id: 1,
+        debits_pending: 0,
+        debits_posted: 0,
+        credits_pending: 0,
+        credits_posted: 0,
+        user_data_128: 0,
+        user_data_64: 0,
+        user_data_32: 0,
+        code: 10,
+        flags: 0,
+        timestamp: 1000,
+    };
+    Event {
+        timestamp,
+        kind: EventKind::SinglePhase,
+        ledger: 700,
+        transfer: EventTransfer {
+            id: 1,
+            amount: 0,
+            pending_id: 0,
+            user_data_128: 0,
+            user_data_64: 0,
+            user_data_32: 0,
+            timeout: 0,
+            code: 1,
+            flags: 0,
+            timestamp,
+        },
+        debit_account: account,
+        credit_account: account,
+    }
+}
+
+#[test]
+fn a_log_keeps_its_events_in_order(rt: HostRuntime) -> Result<(), Fail> {
+    let mut log = EventLog::new(rt.alloc());
+    assert!(rt; log.is_empty());
+    assert_eq!(rt; (log.len(), log.last_timestamp()), (0, 0));
+    for timestamp in [2000, 2001] {
+        log.reserve(1)?;
+        assert!(rt; log.room() > 0);
+        assert!(rt; log.last_timestamp() < timestamp);
+        log.push(event(timestamp));
+    }
+    assert!(rt; !log.is_empty());
+    assert_eq!(rt; (log.len(), log.last_timestamp()), (2, 2001));
+    for (place, found) in [(0, Some(event(2000))), (1, Some(event(2001))), (2, None)] {
+        assert_eq!(rt; log.get(place).copied(), found);
+    }
+    Ok(())
+}
