@@ -1,0 +1,97 @@
+-- The first transfer of a ledger, 100 from account 1 to account 2, as a body and back.
+use Rattle.std.proofs.Common.{◌≡◌, List, ℕ, codes, Ok, Err, refl}
+use Rattle.std.specs.Fmt.{digits}
+use Rattle.std.specs.Str.{is_utf8, chars}
+use Rattle.serde_json.proofs.OnLiterals.{serde_json_on_literals}
+use Rattle.cdc_types.specs.declared.events.EventTransfer.{EventTransfer}
+use Rattle.cdc_types.specs.declared.events.EventAccount.{EventAccount}
+use Rattle.cdc_types.specs.declared.events.Event.{Event}
+use Rattle.cdc_types.specs.declared.events.EventKind.TheVariants.{SinglePhase}
+use Rattle.cdc_message.specs.declared.errors.DecodeError.TheVariants.{NotAnObject, WrongType}
+use Rattle.cdc_message.specs.declared.fields.Part.TheVariants.{Top}
+use Rattle.cdc_message.specs.declared.fields.FieldName.TheVariants.{Timestamp}
+use Rattle.cdc_message.specs.Fields.{field}
+use Rattle.cdc_message.specs.Bodies.{body}
+use Rattle.cdc_message.specs.Reading.{read}
+
+abbrev first_transfer : EventTransfer
+first_transfer = record {
+  id = 1;
+  amount = 100;
+  pending_id = 0;
+  user_data_128 = 0;
+  user_data_64 = 0;
+  user_data_32 = 0;
+  timeout = 0;
+  code = 1;
+  flags = 0;
+  timestamp = 2000;
+}
+
+abbrev debited : EventAccount
+debited = record {
+  id = 1;
+  debits_pending = 0;
+  debits_posted = 100;
+  credits_pending = 0;
+  credits_posted = 0;
+  user_data_128 = 0;
+  user_data_64 = 0;
+  user_data_32 = 0;
+  code = 10;
+  flags = 0;
+  timestamp = 1000;
+}
+
+abbrev credited : EventAccount
+credited = record {
+  id = 2;
+  debits_pending = 0;
+  debits_posted = 0;
+  credits_pending = 0;
+  credits_posted = 100;
+  user_data_128 = 0;
+  user_data_64 = 0;
+  user_data_32 = 0;
+  code = 10;
+  flags = 0;
+  timestamp = 1001;
+}
+
+abbrev first_event : Event
+first_event = record {
+  timestamp = 2000;
+  kind = SinglePhase;
+  ledger = 700;
+  transfer = first_transfer;
+  debit_account = debited;
+  credit_account = credited;
+}
+
+-- its body
+abbrev first_body : List ℕ
+first_body = codes "{\"credit_account\":{\"code\":10,\"credits_pending\":\"0\",\"credits_posted\":\"100\",\"debits_pending\":\"0\",\"debits_posted\":\"0\",\"flags\":0,\"id\":\"2\",\"timestamp\":\"1001\",\"user_data_128\":\"0\",\"user_data_32\":0,\"user_data_64\":\"0\"},\"debit_account\":{\"code\":10,\"credits_pending\":\"0\",\"credits_posted\":\"0\",\"debits_pending\":\"0\",\"debits_posted\":\"100\",\"flags\":0,\"id\":\"1\",\"timestamp\":\"1000\",\"user_data_128\":\"0\",\"user_data_32\":0,\"user_data_64\":\"0\"},\"ledger\":700,\"timestamp\":\"2000\",\"transfer\":{\"amount\":\"100\",\"code\":1,\"flags\":0,\"id\":\"1\",\"pending_id\":\"0\",\"timeout\":0,\"timestamp\":\"2000\",\"user_data_128\":\"0\",\"user_data_32\":0,\"user_data_64\":\"0\"},\"type\":\"single_phase\"}"
+
+-- the same with the members in the order in which they are checked
+abbrev first_in_order : List ℕ
+first_in_order = codes "{\"timestamp\":\"2000\",\"type\":\"single_phase\",\"ledger\":700,\"transfer\":{\"id\":\"1\",\"amount\":\"100\",\"pending_id\":\"0\",\"user_data_128\":\"0\",\"user_data_64\":\"0\",\"user_data_32\":0,\"timeout\":0,\"code\":1,\"flags\":0,\"timestamp\":\"2000\"},\"debit_account\":{\"id\":\"1\",\"debits_pending\":\"0\",\"debits_posted\":\"100\",\"credits_pending\":\"0\",\"credits_posted\":\"0\",\"user_data_128\":\"0\",\"user_data_64\":\"0\",\"user_data_32\":0,\"code\":10,\"flags\":0,\"timestamp\":\"1000\"},\"credit_account\":{\"id\":\"2\",\"debits_pending\":\"0\",\"debits_posted\":\"0\",\"credits_pending\":\"0\",\"credits_posted\":\"100\",\"user_data_128\":\"0\",\"user_data_64\":\"0\",\"user_data_32\":0,\"code\":10,\"flags\":0,\"timestamp\":\"1001\"}}"
+
+first_is_written : body first_event ≡ first_body
+unfolding body digits
+first_is_written = refl
+
+first_is_read : read first_body ≡ Ok first_event
+unfolding read serde_json_on_literals is_utf8 chars
+first_is_read = refl
+
+order_is_free : read first_in_order ≡ Ok first_event
+unfolding read serde_json_on_literals is_utf8 chars
+order_is_free = refl
+
+a_list_is_no_object : read (codes "[]") ≡ Err NotAnObject
+unfolding read serde_json_on_literals is_utf8 chars
+a_list_is_no_object = refl
+
+a_sign_is_no_digit : read (codes "{\"timestamp\":\"+700\"}") ≡ Err (WrongType (field Top Timestamp))
+unfolding read serde_json_on_literals is_utf8 chars
+a_sign_is_no_digit = refl

@@ -1,0 +1,8 @@
+pub mod Back
+pub mod Bytes
+pub mod Decimals
+pub mod Examples
+pub mod Law
+pub mod Parts
+pub mod Texts
+pub mod Utf8

@@ -1,0 +1,11 @@
+pub mod Bodies
+pub mod Errors
+pub mod Fields
+pub mod Found
+pub mod Headers
+pub mod Kinds
+pub mod Laws
+pub mod Messages
+pub mod Reading
+pub mod Values
+pub mod Widths

@@ -1,0 +1,63 @@
+-- What the parts of a message have to do with its event.
+use Rattle.std.specs.Prelude.{◌≡◌, ℕ, List, Ok}
+use Rattle.std.specs.Result.{result_unwrap_or}
+use Rattle.cdc_types.specs.declared.events.EventKind.TheVariants.{SinglePhase}
+use Rattle.cdc_types.specs.declared.events.EventTransfer.{EventTransfer}
+use Rattle.cdc_types.specs.declared.events.EventAccount.{EventAccount}
+use Rattle.cdc_types.specs.declared.events.Event.{Event}
+use Rattle.cdc_types.specs.declared.events.Headers.{Headers}
+use Rattle.cdc_types.specs.declared.events.Properties.{Properties}
+use Rattle.cdc_message.specs.Bodies.{body}
+use Rattle.cdc_message.specs.Headers.{headers_of_event, AreProperties}
+use Rattle.cdc_message.specs.Reading.{read}
+
+abbrev no_transfer : EventTransfer
+no_transfer = record {
+  id = 0;
+  amount = 0;
+  pending_id = 0;
+  user_data_128 = 0;
+  user_data_64 = 0;
+  user_data_32 = 0;
+  timeout = 0;
+  code = 0;
+  flags = 0;
+  timestamp = 0;
+}
+
+abbrev no_account : EventAccount
+no_account = record {
+  id = 0;
+  debits_pending = 0;
+  debits_posted = 0;
+  credits_pending = 0;
+  credits_posted = 0;
+  user_data_128 = 0;
+  user_data_64 = 0;
+  user_data_32 = 0;
+  code = 0;
+  flags = 0;
+  timestamp = 0;
+}
+
+-- what stands where there is no event
+abbrev no_event : Event
+no_event = record {
+  timestamp = 0;
+  kind = SinglePhase;
+  ledger = 0;
+  transfer = no_transfer;
+  debit_account = no_account;
+  credit_account = no_account;
+}
+
+-- the event that a body holds
+unfoldable pub event_in : List ℕ → Event
+event_in text = result_unwrap_or (read text) no_event
+
+-- headers, properties and text belong to one event
+pub record BelongTo (headers : Headers) (properties : Properties) (text : List ℕ) (event : Event) : Type 0 where
+  pub headers_are : headers ≡ headers_of_event event
+  pub properties_are : AreProperties properties event
+  pub text_is : text ≡ body event
+  pub reads_back : read text ≡ Ok event

@@ -1,0 +1,20 @@
+//! Messages about the movements of the ledger: the JSON text of an event, what it is routed by, and the text read back.
+#![tactic(auto)]
+
+mod decoding;
+mod encoding;
+pub mod errors;
+pub mod fields;
+mod headers;
+mod kinds;
+mod message;
+#[cfg(test)]
+mod tests;
+
+pub use decoding::decode;
+pub use encoding::encode;
+pub use errors::DecodeError;
+pub use fields::{Field, FieldName, Part};
+pub use headers::{headers_of, properties_of};
+pub use kinds::{kind_named, kind_text};
+pub use message::Message;
