@@ -1,5 +1,5 @@
 -- The balances of an account, as sums over the entries (TigerBeetle, Account and Two-Phase Transfers).
-use Rattle.std.specs.Prelude.{ℕ, Bool, ◌==◌, ◌&&◌, ◌||◌, not, nat_le, List, if◌then◌else◌, sum_by}
+use Rattle.std.specs.Prelude.{ℕ, Bool, ◌==◌, ◌&&◌, ◌||◌, not, nat_le, if◌then◌else◌, sum_by}
 use Rattle.std.specs.List.{list_any}
 use Rattle.cdc_types.specs.declared.accounts.Balances.{Balances}
 use Rattle.cdc_types.specs.declared.events.Entry.{Entry}

@@ -1,6 +1,5 @@
 -- What the ledger tells of its entries (TigerBeetle, Change Data Capture).
-use Rattle.std.specs.Prelude.{ℕ, Option, unwrap_or, List, map}
-use Rattle.cdc_types.specs.declared.accounts.NewAccount.{NewAccount}
+use Rattle.std.specs.Prelude.{ℕ, unwrap_or, List, map}
 use Rattle.cdc_types.specs.declared.accounts.Balances.{Balances}
 use Rattle.cdc_types.specs.declared.accounts.Account.{Account}
 use Rattle.cdc_types.specs.declared.events.Entry.{Entry}

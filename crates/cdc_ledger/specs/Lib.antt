@@ -1,10 +1,15 @@
+pub mod Accounts
+pub mod Answers
 pub mod Balances
 pub mod BatchErrors
+pub mod Changes
 pub mod Due
+pub mod Entries
 pub mod Events
 pub mod Filling
 pub mod History
 pub mod Kinds
 pub mod Sound
 pub mod Submit
+pub mod Tables
 pub mod Verdict

@@ -1,5 +1,5 @@
 -- What the ledger answers to a batch, and the history after it.
-use Rattle.std.specs.Prelude.{ℕ, ◌+◌, ◌-◌, max, Bool, true, false, ◌==◌, ◌&&◌, ◌||◌, nat_lt, Option, Some, None, Result, Ok, Err, List, [], ◌∷◌, ◌++◌, length, if◌then◌else◌, ◌≡◌}
+use Rattle.std.specs.Prelude.{ℕ, ◌+◌, ◌-◌, max, Bool, false, ◌==◌, ◌&&◌, ◌||◌, nat_lt, Option, Some, None, Result, Ok, Err, List, [], ◌∷◌, ◌++◌, length, if◌then◌else◌, ◌≡◌}
 use Rattle.cdc_types.specs.declared.accounts.NewAccount.{NewAccount}
 use Rattle.cdc_types.specs.declared.batches.Batch.{Batch}
 use Rattle.cdc_types.specs.declared.batches.Batch.TheVariants as batch
@@ -18,7 +18,7 @@ use Rattle.cdc_types.specs.Lines.{first_line}
 use Rattle.cdc_types.specs.Results.{account_number, transfer_number}
 use Rattle.cdc_ledger.specs.declared.errors.BatchError.{BatchError}
 use Rattle.cdc_ledger.specs.declared.errors.BatchError.TheVariants as refusal
-use Rattle.cdc_ledger.specs.History.{Opened, History, empty_history}
+use Rattle.cdc_ledger.specs.History.{History, empty_history}
 use Rattle.cdc_ledger.specs.Filling.{filled}
 use Rattle.cdc_ledger.specs.Verdict.{max_timestamp, account_verdict, transfer_verdict}
 use Rattle.cdc_ledger.specs.Due.{due}
@@ -95,6 +95,16 @@ is_too_large (batch.Pulse now) = false
 -- n items from the moment now on would pass the greatest timestamp
 abbrev pub is_past_the_end : History → ℕ → ℕ → Bool
 is_past_the_end h now n = nat_lt 0 n && nat_lt max_timestamp (base h now + n - 1)
+
+-- why a batch of n items at the moment now is refused as a whole, if it is
+abbrev pub refusal_at : History → ℕ → ℕ → Option BatchError
+refusal_at h now n =
+    first_line (
+    (h.closed, refusal.LedgerClosed) ∷
+    (nat_lt 1000 n, refusal.BatchTooLarge) ∷
+    (is_past_the_end h now n, refusal.TimestampsExhausted) ∷
+    []
+    )
 
 -- why a batch is refused as a whole, if it is
 abbrev pub refusal_of : History → Batch → Option BatchError

@@ -12,7 +12,7 @@ use Rattle.cdc_types.specs.declared.results.TransferResult.TheVariants as transf
 use Rattle.cdc_types.specs.declared.transfers.NewTransfer.{NewTransfer}
 use Rattle.cdc_types.specs.declared.transfers.Transfer.{Transfer}
 use Rattle.cdc_types.specs.Features.{Features}
-use Rattle.cdc_types.specs.Flags.{has_flag, is_pending_request, is_post_request, is_void_request, is_plain_request}
+use Rattle.cdc_types.specs.Flags.{has_flag, is_pending_request, is_void_request, is_plain_request}
 use Rattle.cdc_types.specs.Lines.{first_line}
 use Rattle.cdc_types.specs.Shapes.{max_128, account_shape_lines, transfer_shape_lines}
 use Rattle.cdc_ledger.specs.History.{Opened, History, opened}
@@ -36,10 +36,13 @@ known_account_lines None a = []
 known_account_lines (Some o) a =
     (not (is_same_account a o.request), account.ExistsWithDifferentFields) ∷ (true, account.Exists) ∷ []
 
+-- all lines on an account, in order
+abbrev pub account_lines : Features → History → NewAccount → List (Bool × AccountResult)
+account_lines offered h a = account_shape_lines offered a ++ known_account_lines (opened h a.id) a
+
 -- what becomes of a request for an account
 abbrev pub account_verdict : Features → History → NewAccount → AccountResult
-account_verdict offered h a =
-    unwrap_or (first_line (account_shape_lines offered a ++ known_account_lines (opened h a.id) a)) account.Accepted
+account_verdict offered h a = unwrap_or (first_line (account_lines offered h a)) account.Accepted
 
 -- the lines on a transfer that is there already
 abbrev pub known_transfer_lines : Option Entry → History → NewTransfer → List (Bool × TransferResult)

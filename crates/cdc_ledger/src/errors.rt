@@ -3,6 +3,7 @@
 ghost use Rattle.std.specs.Prelude.{◌≡◌};
 ghost use Rattle.cdc_ledger.specs.BatchErrors.{batch_error_number, batch_error_name};
 
+use std::alloc::AllocError;
 use thiserror::Error;
 
 /// Why a batch is refused as a whole; the ledger is then as it was.
@@ -20,6 +21,17 @@ pub enum BatchError {
     /// Memory ran out.
     #[error("out of memory")]
     OutOfMemory,
+}
+
+impl From<AllocError> for BatchError {
+    ghost use Rattle.std.specs.Prelude.{◌≡◌};
+    ghost use Rattle.cdc_ledger.specs.declared.errors.BatchError.TheVariants.{OutOfMemory};
+
+    ghost from_gives = { λ _ e. e ≡ OutOfMemory };
+
+    fn from(_error: AllocError) -> BatchError {
+        BatchError::OutOfMemory
+    }
 }
 
 impl BatchError {

@@ -1,19 +1,31 @@
 //! What the ledger keeps, and the steps that it takes.
 
-ghost use Rattle.std.specs.Prelude.{◌≡◌, ◌+◌, ◌-◌, ◌≤◌, ◌<◌, max, IsNone, OnOk, IfSome};
-ghost use Rattle.std.specs.Vec.{vec_len, vec_capacity};
-ghost use Rattle.cdc_log.specs.Log.{last_timestamp_of};
+ghost use Rattle.std.specs.Prelude.{◌≡◌, ℕ, ◌+◌, ◌≤◌, ◌<◌, true, None, option_map, [], length, vec_capacity, OnOk, IfErr};
+ghost use Rattle.std.specs.Option.{option_copied};
+ghost use Rattle.cdc_types.specs.Features.{features};
+ghost use Rattle.cdc_types.specs.Lines.{first_line};
+ghost use Rattle.cdc_ledger.specs.Accounts.{opened_by};
+ghost use Rattle.cdc_ledger.specs.Answers.{Answers};
+ghost use Rattle.cdc_ledger.specs.Changes.{pushed, with_account, timed};
+ghost use Rattle.cdc_ledger.specs.Entries.{single_entry};
+ghost use Rattle.cdc_ledger.specs.Events.{account_now};
+ghost use Rattle.cdc_ledger.specs.Filling.{stored};
+ghost use Rattle.cdc_ledger.specs.History.{empty_history, opened};
+ghost use Rattle.cdc_ledger.specs.Submit.{accounts_from, after_account, after_transfer, base as first_timestamp, refusal_at, transfers_from};
+ghost use Rattle.cdc_ledger.specs.Tables.{IsKept, history_of, room_for_accounts, room_for_entries};
+ghost use Rattle.cdc_ledger.specs.Verdict.{max_timestamp, account_lines, account_verdict, transfer_lines, transfer_verdict};
 
+use crate::accounts::{event_of, find_account, is_same_account, move_amount, opened_account};
 use crate::errors::BatchError;
-use crate::sums::sum_refusal;
+use crate::transfers::{as_asked, find_entry, known_refusal, refusal_between};
 use cdc_log::EventLog;
 use cdc_types::{
-    Account, AccountResult, Balances, Entry, Event, EventAccount, EventKind, EventTransfer, Limits,
-    NewAccount, NewTransfer, Transfer, TransferResult,
+    Account, AccountResult, Batch, BatchResults, Entry, EventKind, Limits, NewAccount, NewTransfer,
+    TransferResult,
 };
-use std::alloc::{AllocError, Global};
+use std::alloc::Global;
 
-// The accounts with their running balances, the entries, their events, and how far the ledger has come.
+/// The accounts with their running balances, the entries, their events, and how far the ledger has come.
 #[derive(Drop)]
 pub(crate) struct Tables {
     pub(crate) accounts: Vec<Account>,
@@ -21,109 +33,14 @@ pub(crate) struct Tables {
     pub(crate) log: EventLog,
     pub(crate) last: u64,
     pub(crate) closed: bool,
-    ghost within: { last ≤ 9223372036854775807 },
-    ghost told: { last_timestamp_of log.events ≤ last },
-}
-
-// The transfer that is stored for a request.
-fn as_asked(request: &NewTransfer, timestamp: u64) -> Transfer {
-    Transfer {
-        id: request.id,
-        debit_account_id: request.debit_account_id,
-        credit_account_id: request.credit_account_id,
-        amount: request.amount,
-        pending_id: request.pending_id,
-        user_data_128: request.user_data_128,
-        user_data_64: request.user_data_64,
-        user_data_32: request.user_data_32,
-        timeout: request.timeout,
-        ledger: request.ledger,
-        code: request.code,
-        flags: request.flags,
-        timestamp,
-    }
-}
-
-// The account that is kept for a request.
-fn opened(request: &NewAccount, timestamp: u64) -> Account {
-    Account {
-        id: request.id,
-        user_data_128: request.user_data_128,
-        user_data_64: request.user_data_64,
-        user_data_32: request.user_data_32,
-        ledger: request.ledger,
-        code: request.code,
-        flags: request.flags,
-        balances: Balances {
-            debits_pending: 0,
-            debits_posted: 0,
-            credits_pending: 0,
-            credits_posted: 0,
-        },
-        timestamp,
-    }
-}
-
-// What is shown where there is no such account; each entry has both of its own.
-const NOBODY: EventAccount = EventAccount {
-    id: 0,
-    debits_pending: 0,
-    debits_posted: 0,
-    credits_pending: 0,
-    credits_posted: 0,
-    user_data_128: 0,
-    user_data_64: 0,
-    user_data_32: 0,
-    code: 0,
-    flags: 0,
-    timestamp: 0,
-};
-
-// A transfer as an event shows it.
-fn shown_transfer(transfer: &Transfer) -> EventTransfer {
-    EventTransfer {
-        id: transfer.id,
-        amount: transfer.amount,
-        pending_id: transfer.pending_id,
-        user_data_128: transfer.user_data_128,
-        user_data_64: transfer.user_data_64,
-        user_data_32: transfer.user_data_32,
-        timeout: transfer.timeout,
-        code: transfer.code,
-        flags: transfer.flags,
-        timestamp: transfer.timestamp,
-    }
-}
-
-// An account as an event shows it.
-fn shown_account(account: &Account) -> EventAccount {
-    EventAccount {
-        id: account.id,
-        debits_pending: account.balances.debits_pending,
-        debits_posted: account.balances.debits_posted,
-        credits_pending: account.balances.credits_pending,
-        credits_posted: account.balances.credits_posted,
-        user_data_128: account.user_data_128,
-        user_data_64: account.user_data_64,
-        user_data_32: account.user_data_32,
-        code: account.code,
-        flags: account.flags,
-        timestamp: account.timestamp,
-    }
-}
-
-// Whether the account is the one that is asked for.
-fn is_same_account(account: &Account, request: &NewAccount) -> bool {
-    account.user_data_128 == request.user_data_128
-        && account.user_data_64 == request.user_data_64
-        && account.user_data_32 == request.user_data_32
-        && account.ledger == request.ledger
-        && account.code == request.code
-        && account.flags == request.flags
 }
 
 impl Tables {
-    pub(crate) fn new(alloc: Global) -> Tables {
+    /// Nothing was taken yet.
+    pub(crate) fn new(alloc: Global) -> Tables
+        ensures history { history_of result ≡ empty_history }
+        ensures kept { IsKept result }
+    {
         Tables {
             accounts: Vec::new(alloc),
             entries: Vec::new(alloc),
@@ -133,216 +50,310 @@ impl Tables {
         }
     }
 
-    // Where the account of this id is kept.
-    fn place_of(&self, id: u128) -> Option<usize>
-        ensures { IfSome result (λ place. place < vec_len self.now.accounts) }
+    /// The account of this id with its balances now.
+    pub(crate) fn account(&self, id: u128) -> Option<&Account>
+        requires { IsKept self.now }
+        ensures { let h = history_of self.now in
+            option_copied result ≡ option_map (account_now h) (opened h id) }
     {
-        self.accounts.iter().position(|account| account.id == id)
+        find_account(self.accounts.as_slice(), id)
     }
 
-    pub(crate) fn account(&self, id: u128) -> Option<&Account> {
-        self.accounts.iter().find(|account| account.id == id)
+    /// The entry that stored the transfer of this id.
+    pub(crate) fn entry(&self, id: u128) -> Option<&Entry>
+        ensures { option_copied result ≡ stored (history_of self.now) id }
+    {
+        find_entry(self.entries.as_slice(), id)
     }
 
-    pub(crate) fn transfer(&self, id: u128) -> Option<&Transfer> {
-        for entry in self.entries.iter() {
-            if entry.kind != EventKind::TwoPhaseExpired && entry.transfer.id == id {
-                return Some(&entry.transfer);
+    /// The first line that refuses the request, if any does.
+    fn account_refusal(&self, request: &NewAccount) -> Option<AccountResult>
+        requires { IsKept self.now }
+        ensures { result ≡ first_line (account_lines features (history_of self.now) request.now) }
+    {
+        if let Some(refusal) = request.check() {
+            return Some(refusal);
+        }
+        match self.account(request.id) {
+            Some(account) if is_same_account(account, request) => Some(AccountResult::Exists),
+            Some(_) => Some(AccountResult::ExistsWithDifferentFields),
+            None => None,
+        }
+    }
+
+    /// Takes this timestamp, and nothing else.
+    fn take_timestamp(&mut self, timestamp: u64)
+        requires kept { IsKept self.old }
+        requires later { self.old.last ≤ timestamp }
+        requires within { timestamp ≤ max_timestamp }
+        ensures history { history_of self.new ≡ timed (history_of self.old) timestamp }
+        ensures kept { IsKept self.new }
+        ensures same { self.new ≡ record self.old { last = timestamp } }
+    {
+        self.last = timestamp;
+    }
+
+    /// Opens the account that is asked for. No account has its id, and there is room for it.
+    fn open_account(&mut self, request: &NewAccount, timestamp: u64)
+        requires kept { IsKept self.old }
+        requires later { self.old.last ≤ timestamp }
+        requires within { timestamp ≤ max_timestamp }
+        requires free { opened (history_of self.old) request.now.id ≡ None }
+        requires room { 0 < room_for_accounts self.old }
+        ensures history { history_of self.new ≡ with_account (history_of self.old) (opened_by request.now timestamp) }
+        ensures kept { IsKept self.new }
+        ensures room { room_for_accounts self.new + 1 ≡ room_for_accounts self.old }
+    {
+        self.accounts
+            .push_reserved(opened_account(request, timestamp));
+        self.last = timestamp;
+    }
+
+    /// Takes a request for an account, for which there is room, at this moment.
+    fn take_account(&mut self, request: &NewAccount, timestamp: u64) -> AccountResult
+        requires kept { IsKept self.old }
+        requires later { self.old.last < timestamp }
+        requires within { timestamp ≤ max_timestamp }
+        requires room { 0 < room_for_accounts self.old }
+        ensures result { result ≡ account_verdict features (history_of self.old) request.now }
+        ensures history { history_of self.new ≡ after_account (history_of self.old) request.now timestamp result }
+        ensures kept { IsKept self.new }
+        ensures room { room_for_accounts self.old ≤ room_for_accounts self.new + 1 }
+    {
+        match self.account_refusal(request) {
+            Some(refusal) => {
+                self.take_timestamp(timestamp);
+                refusal
+            }
+            None => {
+                self.open_account(request, timestamp);
+                AccountResult::Accepted
             }
         }
-        None
     }
 
-    // The timestamp of the first item of a batch at this moment.
-    pub(crate) fn base(&self, now: u64) -> u64
-        ensures { result ≡ max now (self.now.last + 1) }
+    /// The first line that refuses the request, if any does, at any moment from now on.
+    fn transfer_refusal(&self, request: &NewTransfer) -> Option<TransferResult>
+        requires { IsKept self.now }
+        ensures { (t : ℕ) → self.now.last ≤ t →
+            result ≡ first_line (transfer_lines features (history_of self.now) request.now t) }
+    {
+        if let Some(refusal) = request.check_shape() {
+            return Some(refusal);
+        }
+        if let Some(entry) = self.entry(request.id) {
+            return Some(known_refusal(entry, request));
+        }
+        let Some(debited) = self.account(request.debit_account_id) else {
+            return Some(TransferResult::DebitAccountNotFound);
+        };
+        let Some(credited) = self.account(request.credit_account_id) else {
+            return Some(TransferResult::CreditAccountNotFound);
+        };
+        refusal_between(debited, credited, request)
+    }
+
+    /// Stores the transfer that is asked for, which no line refuses, and tells of it. There is room for it.
+    fn store_transfer(&mut self, request: &NewTransfer, timestamp: u64)
+        requires kept { IsKept self.old }
+        requires later { self.old.last < timestamp }
+        requires within { timestamp ≤ max_timestamp }
+        requires accepted { first_line (transfer_lines features (history_of self.old) request.now timestamp) ≡ None }
+        requires room { 0 < room_for_entries self.old }
+        ensures history { history_of self.new ≡ pushed (history_of self.old) (single_entry request.now timestamp) }
+        ensures kept { IsKept self.new }
+        ensures room { room_for_entries self.new + 1 ≡ room_for_entries self.old }
+    {
+        let transfer = as_asked(request, timestamp);
+        move_amount(self.accounts.as_mut_slice(), &transfer);
+        let entry = Entry {
+            timestamp,
+            kind: EventKind::SinglePhase,
+            transfer,
+        };
+        let event = event_of(self.accounts.as_slice(), &entry);
+        self.log.push(event);
+        self.entries.push_reserved(entry);
+        self.last = timestamp;
+    }
+
+    /// Takes a request for a transfer, for which there is room, at this moment.
+    fn take_transfer(&mut self, request: &NewTransfer, timestamp: u64) -> TransferResult
+        requires kept { IsKept self.old }
+        requires later { self.old.last < timestamp }
+        requires within { timestamp ≤ max_timestamp }
+        requires room { 0 < room_for_entries self.old }
+        ensures result { result ≡ transfer_verdict features (history_of self.old) request.now timestamp }
+        ensures history { history_of self.new ≡ after_transfer (history_of self.old) request.now timestamp result }
+        ensures kept { IsKept self.new }
+        ensures room { room_for_entries self.old ≤ room_for_entries self.new + 1 }
+    {
+        match self.transfer_refusal(request) {
+            Some(refusal) => {
+                self.take_timestamp(timestamp);
+                refusal
+            }
+            None => {
+                self.store_transfer(request, timestamp);
+                TransferResult::Accepted
+            }
+        }
+    }
+
+    /// The timestamp of the first item of a batch at this moment.
+    fn base(&self, now: u64) -> u64
+        requires { self.now.last ≤ max_timestamp }
+        ensures { result ≡ first_timestamp (history_of self.now) now }
     {
         now.max(self.last + 1)
     }
 
-    // Why a batch of this many items at this moment is refused, if it is.
-    pub(crate) fn refusal(&self, now: u64, items: usize) -> Option<BatchError>
-        ensures few { IsNone result → items ≤ 1000 }
-        ensures fits { IsNone result → 0 < items → max now (self.now.last + 1) + items ≤ 9223372036854775808 }
+    /// Why a batch of this many items at this moment is refused, if it is.
+    fn batch_refusal(&self, now: u64, items: usize) -> Option<BatchError>
+        requires { self.now.last ≤ max_timestamp }
+        ensures { result ≡ refusal_at (history_of self.now) now items }
     {
-        let base = self.base(now);
         if self.closed {
             Some(BatchError::LedgerClosed)
         } else if items > Limits::BATCH_ITEMS {
             Some(BatchError::BatchTooLarge)
-        } else if items > 0
-            && (base > Limits::TIMESTAMP || Limits::TIMESTAMP - base < items as u64 - 1)
-        {
+        } else if items > 0 && self.base(now).saturating_add(items as u64 - 1) > Limits::TIMESTAMP {
             Some(BatchError::TimestampsExhausted)
         } else {
             None
         }
     }
 
-    // Makes room for this many more accounts.
-    pub(crate) fn reserve_accounts(&mut self, additional: usize) -> Result<(), BatchError>
-        ensures room { OnOk result (vec_len self.new.accounts + additional ≤ vec_capacity self.new.accounts) }
-        ensures last { self.new.last ≡ self.old.last }
+    /// Makes room for this many more accounts.
+    fn reserve_accounts(&mut self, additional: usize) -> Result<(), BatchError>
+        requires { IsKept self.old }
+        ensures history { history_of self.new ≡ history_of self.old }
+        ensures kept { IsKept self.new }
+        ensures room { OnOk result (additional ≤ room_for_accounts self.new) }
+        ensures memory { IfErr result (λ e. e ≡ BatchError.OutOfMemory) }
     {
-        self.accounts
-            .reserve(additional)
-            .map_err(|_| BatchError::OutOfMemory)
+        self.accounts.reserve(additional)?;
+        Ok(())
     }
 
-    // Makes room for this many more transfers and their events.
-    pub(crate) fn reserve_transfers(&mut self, additional: usize) -> Result<(), BatchError>
-        ensures room { OnOk result (vec_len self.new.entries + additional ≤ vec_capacity self.new.entries) }
-        ensures log_room { OnOk result (additional ≤ self.new.log.room) }
-        ensures last { self.new.last ≡ self.old.last }
+    /// Makes room for this many more entries and their events.
+    fn reserve_entries(&mut self, additional: usize) -> Result<(), BatchError>
+        requires { IsKept self.old }
+        ensures history { history_of self.new ≡ history_of self.old }
+        ensures kept { IsKept self.new }
+        ensures room { OnOk result (additional ≤ room_for_entries self.new) }
+        ensures memory { IfErr result (λ e. e ≡ BatchError.OutOfMemory) }
     {
-        self.entries
-            .reserve(additional)
-            .map_err(|_| BatchError::OutOfMemory)?;
-        self.log
-            .reserve(additional)
-            .map_err(|_| BatchError::OutOfMemory)
+        self.entries.reserve(additional)?;
+        self.log.reserve(additional)?;
+        Ok(())
     }
 
-    // What becomes of a request for an account.
-    fn account_verdict(&self, request: &NewAccount) -> AccountResult {
-        if let Some(refusal) = request.check() {
-            return refusal;
-        }
-        match self.account(request.id) {
-            Some(account) if is_same_account(account, request) => AccountResult::Exists,
-            Some(_) => AccountResult::ExistsWithDifferentFields,
-            None => AccountResult::Accepted,
-        }
-    }
-
-    // What becomes of a request for a transfer.
-    fn transfer_verdict(&self, request: &NewTransfer) -> TransferResult {
-        if let Some(refusal) = request.check_shape() {
-            return refusal;
-        }
-        if let Some(known) = self.transfer(request.id) {
-            if as_asked(request, known.timestamp) == *known {
-                return TransferResult::Exists;
-            }
-            return TransferResult::ExistsWithDifferentFields;
-        }
-        let Some(debited) = self.account(request.debit_account_id) else {
-            return TransferResult::DebitAccountNotFound;
-        };
-        let Some(credited) = self.account(request.credit_account_id) else {
-            return TransferResult::CreditAccountNotFound;
-        };
-        if debited.ledger != credited.ledger {
-            TransferResult::AccountsMustHaveTheSameLedger
-        } else if request.ledger != debited.ledger {
-            TransferResult::TransferMustHaveTheSameLedgerAsAccounts
-        } else {
-            sum_refusal(debited, credited, request).unwrap_or(TransferResult::Accepted)
-        }
-    }
-
-    // Takes a request for an account at this moment. There is room for it.
-    pub(crate) fn take_account(&mut self, request: &NewAccount, timestamp: u64) -> AccountResult
-        requires room { vec_len self.old.accounts < vec_capacity self.old.accounts }
-        requires later { self.old.last < timestamp }
-        requires within { timestamp ≤ 9223372036854775807 }
-        ensures last { self.new.last ≡ timestamp }
-        ensures len { vec_len self.new.accounts ≤ vec_len self.old.accounts + 1 }
-        ensures capacity { vec_capacity self.new.accounts ≡ vec_capacity self.old.accounts }
+    /// Takes requests for accounts, for which there is room, from the moment `base` on.
+    fn take_accounts(
+        &mut self,
+        base: u64,
+        requests: &[NewAccount],
+        mut results: Vec<AccountResult>,
+    ) -> Vec<AccountResult>
+        requires kept { IsKept self.old }
+        requires later { self.old.last < base }
+        requires within { 0 < length requests.now → base + length requests.now ≤ max_timestamp + 1 }
+        requires room { length requests.now ≤ room_for_accounts self.old }
+        requires empty { results.items ≡ [] }
+        requires results_room { length requests.now ≤ vec_capacity results }
+        ensures taken { accounts_from features (history_of self.old) base requests.now
+            ≡ (result.items, history_of self.new) }
+        ensures kept { IsKept self.new }
     {
-        let result = self.account_verdict(request);
-        if result == AccountResult::Accepted {
-            self.accounts.push_reserved(opened(request, timestamp));
+        for (place, request) in requests.iter().enumerate() {
+            results.push_reserved(self.take_account(request, base + place as u64));
         }
-        self.last = timestamp;
-        result
+        results
     }
 
-    // Adds the amount of a transfer to what its debit account has been debited.
-    fn debit(&mut self, transfer: &Transfer)
-        ensures entries { (self.new.entries ≡ self.old.entries) × (self.new.log ≡ self.old.log) }
-        ensures last { self.new.last ≡ self.old.last }
+    /// Takes requests for transfers, for which there is room, from the moment `base` on.
+    fn take_transfers(
+        &mut self,
+        base: u64,
+        requests: &[NewTransfer],
+        mut results: Vec<TransferResult>,
+    ) -> Vec<TransferResult>
+        requires kept { IsKept self.old }
+        requires later { self.old.last < base }
+        requires within { 0 < length requests.now → base + length requests.now ≤ max_timestamp + 1 }
+        requires room { length requests.now ≤ room_for_entries self.old }
+        requires empty { results.items ≡ [] }
+        requires results_room { length requests.now ≤ vec_capacity results }
+        ensures taken { transfers_from features (history_of self.old) base requests.now
+            ≡ (result.items, history_of self.new) }
+        ensures kept { IsKept self.new }
     {
-        if let Some(place) = self.place_of(transfer.debit_account_id) {
-            let balances = &mut self.accounts[place].balances;
-            balances.debits_posted = balances.debits_posted.saturating_add(transfer.amount);
+        for (place, request) in requests.iter().enumerate() {
+            results.push_reserved(self.take_transfer(request, base + place as u64));
         }
+        results
     }
 
-    // Adds the amount of a transfer to what its credit account has been credited.
-    fn credit(&mut self, transfer: &Transfer)
-        ensures entries { (self.new.entries ≡ self.old.entries) × (self.new.log ≡ self.old.log) }
-        ensures last { self.new.last ≡ self.old.last }
+    /// Takes a batch of requests for accounts.
+    pub(crate) fn create_accounts(
+        &mut self,
+        alloc: Global,
+        now: u64,
+        requests: &[NewAccount],
+    ) -> Result<Vec<AccountResult>, BatchError>
+        requires { IsKept self.old }
+        ensures answers { Answers (λ v. BatchResults.Accounts v.items) (history_of self.old)
+            (Batch.Accounts now requests.now) result (history_of self.new) }
+        ensures kept { IsKept self.new }
     {
-        if let Some(place) = self.place_of(transfer.credit_account_id) {
-            let balances = &mut self.accounts[place].balances;
-            balances.credits_posted = balances.credits_posted.saturating_add(transfer.amount);
+        if let Some(refusal) = self.batch_refusal(now, requests.len()) {
+            return Err(refusal);
         }
+        let results = Vec::with_capacity(alloc, requests.len())?;
+        self.reserve_accounts(requests.len())?;
+        let base = self.base(now);
+        Ok(self.take_accounts(base, requests, results))
     }
 
-    // The account of this id as an event shows it.
-    fn shown(&self, id: u128) -> EventAccount {
-        match self.account(id) {
-            Some(account) => shown_account(account),
-            None => NOBODY,
-        }
-    }
-
-    // The event of an entry whose amount was moved already.
-    fn event_of(&self, entry: &Entry) -> Event
-        ensures { result.timestamp ≡ entry.now.timestamp }
+    /// Takes a batch of requests for transfers.
+    pub(crate) fn create_transfers(
+        &mut self,
+        alloc: Global,
+        now: u64,
+        requests: &[NewTransfer],
+    ) -> Result<Vec<TransferResult>, BatchError>
+        requires { IsKept self.old }
+        ensures answers { Answers (λ v. BatchResults.Transfers v.items) (history_of self.old)
+            (Batch.Transfers now requests.now) result (history_of self.new) }
+        ensures kept { IsKept self.new }
     {
-        Event {
-            timestamp: entry.timestamp,
-            kind: entry.kind,
-            ledger: entry.transfer.ledger,
-            transfer: shown_transfer(&entry.transfer),
-            debit_account: self.shown(entry.transfer.debit_account_id),
-            credit_account: self.shown(entry.transfer.credit_account_id),
+        if let Some(refusal) = self.batch_refusal(now, requests.len()) {
+            return Err(refusal);
+        }
+        let results = Vec::with_capacity(alloc, requests.len())?;
+        self.reserve_entries(requests.len())?;
+        let base = self.base(now);
+        Ok(self.take_transfers(base, requests, results))
+    }
+
+    /// Brings the pending transfers whose time is up to their end. There are none today.
+    pub(crate) fn pulse(&self, now: u64) -> Result<u64, BatchError>
+        requires { IsKept self.now }
+        ensures { let h = history_of self.now in Answers BatchResults.Pulsed h (Batch.Pulse now) result h }
+    {
+        match self.batch_refusal(now, 0) {
+            Some(refusal) => Err(refusal),
+            None => Ok(0),
         }
     }
 
-    // Stores an accepted transfer and tells of it. There is room for it.
-    fn store(&mut self, request: &NewTransfer, timestamp: u64)
-        requires room { vec_len self.old.entries < vec_capacity self.old.entries }
-        requires log_room { 0 < self.old.log.room }
-        requires later { self.old.last < timestamp }
-        requires within { timestamp ≤ 9223372036854775807 }
-        ensures last { self.new.last ≡ timestamp }
-        ensures len { vec_len self.new.entries ≡ vec_len self.old.entries + 1 }
-        ensures capacity { vec_capacity self.new.entries ≡ vec_capacity self.old.entries }
-        ensures log_room { self.new.log.room + 1 ≡ self.old.log.room }
+    /// Takes no more batches.
+    pub(crate) fn close(&mut self)
+        requires { IsKept self.old }
+        ensures history { history_of self.new ≡ record (history_of self.old) { closed = true } }
+        ensures kept { IsKept self.new }
     {
-        let transfer = as_asked(request, timestamp);
-        self.debit(&transfer);
-        self.credit(&transfer);
-        let entry = Entry {
-            timestamp,
-            kind: EventKind::SinglePhase,
-            transfer,
-        };
-        let event = self.event_of(&entry);
-        self.last = timestamp;
-        self.entries.push_reserved(entry);
-        self.log.push(event);
-    }
-
-    // Takes a request for a transfer at this moment. There is room for it.
-    pub(crate) fn take_transfer(&mut self, request: &NewTransfer, timestamp: u64) -> TransferResult
-        requires room { vec_len self.old.entries < vec_capacity self.old.entries }
-        requires log_room { 0 < self.old.log.room }
-        requires later { self.old.last < timestamp }
-        requires within { timestamp ≤ 9223372036854775807 }
-        ensures last { self.new.last ≡ timestamp }
-        ensures len { vec_len self.new.entries ≤ vec_len self.old.entries + 1 }
-        ensures capacity { vec_capacity self.new.entries ≡ vec_capacity self.old.entries }
-        ensures log_room { self.old.log.room ≤ self.new.log.room + 1 }
-    {
-        let result = self.transfer_verdict(request);
-        if result == TransferResult::Accepted {
-            self.store(request, timestamp);
-        }
-        self.last = timestamp;
-        result
+        self.closed = true;
     }
 }

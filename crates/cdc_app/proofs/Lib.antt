@@ -1,0 +1,7 @@
+pub mod BookLemmas
+pub mod LineLemmas
+pub mod NumberLemmas
+pub mod ReadLemmas
+pub mod TextLemmas
+pub mod WordLemmas
+pub mod BookLaws

@@ -1,0 +1,13 @@
+pub mod Book
+pub mod Drafts
+pub mod Faults
+pub mod Fields
+pub mod Numbers
+pub mod Parts
+pub mod Printed
+pub mod Refusals
+pub mod Report
+pub mod Scripts
+pub mod Statements
+pub mod Steps
+pub mod Words

@@ -1,0 +1,52 @@
+-- All that `books` prints for a script.
+use Rattle.std.specs.Prelude.{ℕ, ◌+◌, true, List, [], ◌∷◌, ◌++◌, map, Result, Ok, Err}
+use Rattle.cdc_types.specs.declared.batches.BatchResults.{BatchResults}
+use Rattle.cdc_types.specs.Features.{features}
+use Rattle.cdc_ledger.specs.declared.errors.BatchError.{BatchError}
+use Rattle.cdc_ledger.specs.Events.{events}
+use Rattle.cdc_ledger.specs.History.{History, empty_history}
+use Rattle.cdc_ledger.specs.Submit.{submit, history_or, after_batches}
+use Rattle.cdc_app.specs.declared.books.Ending.{Ending}
+use Rattle.cdc_app.specs.declared.books.Ending.TheVariants.{Done, Refused}
+use Rattle.cdc_app.specs.declared.faults.ScriptFault.{ScriptFault}
+use Rattle.cdc_app.specs.declared.scripts.ClientBatch.{ClientBatch}
+use Rattle.cdc_app.specs.declared.scripts.Script.{Script}
+use Rattle.cdc_app.specs.Report.{batch_line, subscriber_lines, script_fault_line}
+use Rattle.cdc_app.specs.Scripts.{script_of}
+
+-- the ledger's answer, without the history after it
+abbrev pub answer : Result (BatchResults × History) BatchError → Result BatchResults BatchError
+answer (Ok answered) = Ok answered.0
+answer (Err e) = Err e
+
+-- the lines of batches that are handed in one after another, the first having this number
+abbrev pub batch_lines : ℕ → History → List ClientBatch → List ℕ
+batch_lines n h [] = []
+batch_lines n h (b ∷ rest) =
+    batch_line n (answer (submit h b.batch)) ++ batch_lines (n + 1) (history_or h (submit h b.batch)) rest
+
+-- the history after batches
+abbrev pub history_after : History → List ClientBatch → History
+history_after h batches = after_batches features h (map (λ b. b.batch) batches)
+
+-- the history that a script makes, with a close at the end
+abbrev pub history_of : Script → History
+history_of script = record (history_after empty_history script.batches) { closed = true }
+
+-- what a script prints: the lines of its batches, and then those of a subscriber that has taken all events and the end
+abbrev pub printed : Script → List ℕ
+printed script = batch_lines 1 empty_history script.batches ++ subscriber_lines 1 (events (history_of script))
+
+-- what is printed, and how the command ends
+pub record Outcome : Type 0 where
+  pub text : List ℕ
+  pub ending : Ending
+
+-- what a script that is read, or its fault, makes of the command
+abbrev pub outcome : Result Script ScriptFault → Outcome
+outcome (Ok script) = record { text = printed script; ending = Done }
+outcome (Err fault) = record { text = script_fault_line fault; ending = Refused }
+
+-- what the command makes of the bytes that it reads
+abbrev pub outcome_of : List ℕ → Outcome
+outcome_of bytes = outcome (script_of bytes)

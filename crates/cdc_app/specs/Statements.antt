@@ -1,0 +1,116 @@
+-- What one line of a script says, after the lines above it.
+use Rattle.std.specs.Prelude.{◌≡◌, ℕ, ◌+◌, ◌==◌, ◌||◌, nat_le, nat_lt, List, [], ◌∷◌, Option, Some, None, Result, Ok, Err, codes, unwrap_or, slice_index, if◌then◌else◌}
+use Rattle.std.specs.Str.{bytes_eq}
+use Rattle.cdc_types.specs.Lines.{first_line}
+use Rattle.cdc_app.specs.declared.faults.FaultKind.{FaultKind}
+use Rattle.cdc_app.specs.declared.faults.FaultKind.TheVariants.{BadText, UnknownWord, WrongCount, NoOpenBatch, BadBinding, TooManySubscribers, BadClient}
+use Rattle.cdc_app.specs.declared.fields.ItemKind.{ItemKind}
+use Rattle.cdc_app.specs.declared.fields.ItemKind.TheVariants as item
+use Rattle.cdc_app.specs.declared.statements.Context.{Context}
+use Rattle.cdc_app.specs.declared.statements.Statement.{Statement}
+use Rattle.cdc_app.specs.declared.statements.Statement.TheVariants as says
+use Rattle.cdc_app.specs.Fields.{fields_of, account_of, transfer_of}
+use Rattle.cdc_app.specs.Numbers.{number_of}
+use Rattle.cdc_app.specs.Steps.{◌>>=◌}
+use Rattle.cdc_app.specs.Words.{words, is_printable}
+
+-- how many subscriber lines a script may have
+abbrev pub max_subscribers : ℕ
+max_subscribers = 1
+
+-- the greatest number of a client
+abbrev pub max_client : ℕ
+max_client = 2
+
+-- before anything else is asked of a word, its bytes are looked at
+abbrev pub checked : {A : Type 0} → List ℕ → Result A FaultKind → Result A FaultKind
+checked word meaning = if is_printable word then meaning else Err BadText
+
+-- the line ends here; a further word is at fault
+abbrev pub ended : {A : Type 0} → FaultKind → A → List (List ℕ) → Result A FaultKind
+ended fault said [] = Ok said
+ended fault said (word ∷ rest) = checked word (Err fault)
+
+-- a number of 64 bits, and the words after it
+abbrev pub number_word : List (List ℕ) → Result (ℕ × List (List ℕ)) FaultKind
+number_word [] = Err WrongCount
+number_word (word ∷ rest) = checked word (number_of 18446744073709551615 word >>= λ n. Ok (n, rest))
+
+-- the binding of a subscriber. So far there is one that can be read: all, without pairs
+abbrev pub binding_line : List (List ℕ) → Result Statement FaultKind
+binding_line [] = Err BadBinding
+binding_line (mode ∷ rest) =
+    checked mode (if bytes_eq mode (codes "all") then ended BadBinding says.Subscriber rest else Err BadBinding)
+
+-- a subscriber, unless there are as many as there may be
+abbrev pub subscriber_line : ℕ → List (List ℕ) → Result Statement FaultKind
+subscriber_line subscribers rest = if nat_le max_subscribers subscribers then Err TooManySubscribers else binding_line rest
+
+-- the client of the batches that follow
+abbrev pub client_line : List (List ℕ) → Result Statement FaultKind
+client_line rest = do
+  number ← number_word rest
+  if (number.0 == 0) || nat_lt max_client number.0 then Err BadClient else ended WrongCount (says.Client number.0) number.1
+
+-- a moment alone
+abbrev pub moment_line : List (List ℕ) → Result ℕ FaultKind
+moment_line rest = do
+  number ← number_word rest
+  ended WrongCount number.0 number.1
+
+-- an account of the open batch, which has to be one of accounts
+abbrev pub account_line : Option ItemKind → List (List ℕ) → Result Statement FaultKind
+account_line (Some item.Account) rest = fields_of item.Account rest >>= λ fields. Ok (says.Account (account_of fields))
+account_line _ rest = Err NoOpenBatch
+
+-- a transfer of the open batch, which has to be one of transfers
+abbrev pub transfer_line : Option ItemKind → List (List ℕ) → Result Statement FaultKind
+transfer_line (Some item.Transfer) rest = fields_of item.Transfer rest >>= λ fields. Ok (says.Transfer (transfer_of fields))
+transfer_line _ rest = Err NoOpenBatch
+
+-- the first word decides what the words after it mean
+abbrev pub meaning : Context → List ℕ → List (List ℕ) → Result Statement FaultKind
+meaning context first rest = checked first (unwrap_or (first_line (
+    (bytes_eq first (codes "subscriber"), subscriber_line context.subscribers rest) ∷
+    (bytes_eq first (codes "client"), client_line rest) ∷
+    (bytes_eq first (codes "accounts"), (moment_line rest >>= λ now. Ok (says.Accounts now))) ∷
+    (bytes_eq first (codes "transfers"), (moment_line rest >>= λ now. Ok (says.Transfers now))) ∷
+    (bytes_eq first (codes "pulse"), (moment_line rest >>= λ now. Ok (says.Pulse now))) ∷
+    (bytes_eq first (codes "account"), account_line context.open_batch rest) ∷
+    (bytes_eq first (codes "transfer"), transfer_line context.open_batch rest) ∷
+    [])) (Err UnknownWord))
+
+-- what words say: nothing where there are none
+abbrev pub words_say : Context → List (List ℕ) → Result (Option Statement) FaultKind
+words_say context [] = Ok None
+words_say context (first ∷ rest) = meaning context first rest >>= λ said. Ok (Some said)
+
+-- what a line says: nothing where it is blank, or begins with a number sign
+abbrev pub line_says : Context → List ℕ → Result (Option Statement) FaultKind
+line_says context line = if slice_index line 0 == 35 then Ok None else words_say context (words line)
+
+-- what a statement leaves for the lines below it: a batch is open after the line that begins it and after its items
+abbrev pub after : Context → Statement → Context
+after context says.Subscriber = record { open_batch = None; subscribers = context.subscribers + 1 }
+after context (says.Accounts now) = record { open_batch = Some item.Account; subscribers = context.subscribers }
+after context (says.Transfers now) = record { open_batch = Some item.Transfer; subscribers = context.subscribers }
+after context (says.Account a) = record { open_batch = Some item.Account; subscribers = context.subscribers }
+after context (says.Transfer t) = record { open_batch = Some item.Transfer; subscribers = context.subscribers }
+after context (says.Client n) = record { open_batch = None; subscribers = context.subscribers }
+after context (says.Pulse now) = record { open_batch = None; subscribers = context.subscribers }
+
+-- the statement is no item of a batch
+abbrev pub IsNoItem : Statement → Type 0
+IsNoItem (says.Account a) = ⊥
+IsNoItem (says.Transfer t) = ⊥
+IsNoItem _ = Unit {0}
+
+-- an item finds a batch of its kind open
+abbrev pub HasBatch : Option ItemKind → Statement → Type 0
+HasBatch open_batch (says.Account a) = open_batch ≡ Some item.Account
+HasBatch open_batch (says.Transfer t) = open_batch ≡ Some item.Transfer
+HasBatch open_batch _ = Unit {0}
+
+-- the statement may follow
+abbrev pub IsSuited : Context → Statement → Type 0
+IsSuited context said = HasBatch context.open_batch said

@@ -1,0 +1,132 @@
+//! What can be wrong with a script, and with a run of the program.
+
+ghost use Rattle.std.specs.Prelude.{◌≡◌};
+ghost use Rattle.cdc_app.specs.Faults.{kind_number, kind_name};
+
+use std::alloc::AllocError;
+use thiserror::Error;
+
+/// What is wrong at a place of a script.
+#[derive(Clone, Copy, Debug, PartialEq, Eq)]
+pub enum FaultKind {
+    /// A byte that is neither a printable ASCII character nor a line's end.
+    BadText,
+    /// No line begins with this word.
+    UnknownWord,
+    /// A word is missing, or one too many.
+    WrongCount,
+    /// Not one or more digits.
+    BadNumber,
+    /// Above the greatest number of its field.
+    NumberOutOfRange,
+    /// Not `key=value`, or a key that the line doesn't have.
+    UnknownKey,
+    /// The key stands in the line already.
+    KeyTwice,
+    /// No batch that takes the item is open.
+    NoOpenBatch,
+    /// The binding can't be read.
+    BadBinding,
+    /// More subscribers than there may be.
+    TooManySubscribers,
+    /// No client has this number.
+    BadClient,
+    /// The script has no subscriber.
+    NoSubscriber,
+    /// The script has too many bytes.
+    TooLong,
+}
+
+impl FaultKind {
+    /// The fault's number, from 1.
+    pub fn number(self) -> u8
+        ensures { result ≡ kind_number self }
+    {
+        self as u8 + 1
+    }
+
+    /// The fault's name as it is printed.
+    pub fn name(self) -> &'static str
+        ensures { result.now ≡ kind_name self }
+    {
+        match self {
+            FaultKind::BadText => "bad_text",
+            FaultKind::UnknownWord => "unknown_word",
+            FaultKind::WrongCount => "wrong_count",
+            FaultKind::BadNumber => "bad_number",
+            FaultKind::NumberOutOfRange => "number_out_of_range",
+            FaultKind::UnknownKey => "unknown_key",
+            FaultKind::KeyTwice => "key_twice",
+            FaultKind::NoOpenBatch => "no_open_batch",
+            FaultKind::BadBinding => "bad_binding",
+            FaultKind::TooManySubscribers => "too_many_subscribers",
+            FaultKind::BadClient => "bad_client",
+            FaultKind::NoSubscriber => "no_subscriber",
+            FaultKind::TooLong => "too_long",
+        }
+    }
+}
+
+/// What is wrong with a script, and in which line, from 1; 0 for the script as a whole.
+#[derive(Clone, Copy, Debug, PartialEq, Eq)]
+pub struct ScriptFault {
+    /// The line.
+    pub line: u64,
+    /// What is wrong there.
+    pub kind: FaultKind,
+}
+
+/// Why no script was read.
+#[derive(Debug, Drop, Error)]
+pub enum ScriptError {
+    /// The script is bad.
+    #[error("line {}: {}", .0.line, .0.kind.name())]
+    Fault(ScriptFault),
+    /// A read failed.
+    #[error("read_fault")]
+    ReadFault,
+    /// No memory was left.
+    #[error("out_of_memory")]
+    OutOfMemory,
+}
+
+impl From<AllocError> for ScriptError {
+    ghost use Rattle.cdc_app.specs.declared.faults.ScriptError.TheVariants.{OutOfMemory};
+
+    ghost from_gives = { λ _ e. e ≡ OutOfMemory };
+
+    fn from(_error: AllocError) -> ScriptError {
+        ScriptError::OutOfMemory
+    }
+}
+
+/// Why a command gave up.
+#[derive(Clone, Copy, Debug, PartialEq, Eq, Error)]
+pub enum ProgramFault {
+    /// A read failed, or a file can't be opened.
+    #[error("read_fault")]
+    ReadFault,
+    /// A write failed.
+    #[error("write_fault")]
+    WriteFault,
+    /// No memory was left.
+    #[error("out_of_memory")]
+    OutOfMemory,
+}
+
+impl ProgramFault {
+    /// The line that is printed last.
+    pub fn line(self) -> &'static str {
+        match self {
+            ProgramFault::ReadFault => "fault: read_fault\n",
+            ProgramFault::WriteFault => "fault: write_fault\n",
+            ProgramFault::OutOfMemory => "fault: out_of_memory\n",
+        }
+    }
+}
+
+impl From<AllocError> for ProgramFault {
+    fn from(_error: AllocError) -> ProgramFault {
+        ProgramFault::OutOfMemory
+    }
+}

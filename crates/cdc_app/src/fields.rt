@@ -1,0 +1,255 @@
+//! The fields of an item: `key=value` words.
+
+ghost use Rattle.std.specs.Prelude.{◌≡◌, ◌≤◌, Ok, Err, MatchResult};
+ghost use Rattle.cdc_app.specs.Fields.{key_name, key_place, keys_of, key_named, greatest_of, with_field, no_fields, field_of, fields_of, account_of, transfer_of};
+ghost use Rattle.cdc_app.specs.Words.{words as words_of};
+
+use crate::faults::FaultKind;
+use crate::numbers::read_number;
+use crate::words::{is_printable_word, next_word, split_once};
+use cdc_types::{NewAccount, NewTransfer};
+
+/// What a line says of an item: the fields of accounts and of transfers, each 0 where the line doesn't give it.
+#[derive(Clone, Copy, Debug, PartialEq, Eq)]
+pub struct Fields {
+    pub id: u128,
+    pub debit_account_id: u128,
+    pub credit_account_id: u128,
+    pub amount: u128,
+    pub pending_id: u128,
+    pub user_data_128: u128,
+    pub user_data_64: u64,
+    pub user_data_32: u32,
+    pub timeout: u32,
+    pub ledger: u32,
+    pub code: u16,
+    pub flags: u16,
+}
+
+/// The name of a field.
+#[derive(Clone, Copy, Debug, PartialEq, Eq)]
+pub enum Key {
+    Id,
+    DebitAccountId,
+    CreditAccountId,
+    Amount,
+    PendingId,
+    UserData128,
+    UserData64,
+    UserData32,
+    Timeout,
+    Ledger,
+    Code,
+    Flags,
+}
+
+/// What an item asks for.
+#[derive(Clone, Copy, Debug, PartialEq, Eq)]
+pub enum ItemKind {
+    /// An account to be made.
+    Account,
+    /// A transfer to be made.
+    Transfer,
+}
+
+impl ItemKind {
+    /// The fields of an item.
+    fn keys(self) -> &'static [Key]
+        ensures { result.now ≡ keys_of self }
+    {
+        match self {
+            ItemKind::Account => &[
+                Key::Id,
+                Key::UserData128,
+                Key::UserData64,
+                Key::UserData32,
+                Key::Ledger,
+                Key::Code,
+                Key::Flags,
+            ],
+            ItemKind::Transfer => &[
+                Key::Id,
+                Key::DebitAccountId,
+                Key::CreditAccountId,
+                Key::Amount,
+                Key::PendingId,
+                Key::UserData128,
+                Key::UserData64,
+                Key::UserData32,
+                Key::Timeout,
+                Key::Ledger,
+                Key::Code,
+                Key::Flags,
+            ],
+        }
+    }
+
+    /// The field of that name, if the item has it.
+    fn key_named(self, name: &[u8]) -> Option<Key>
+        ensures { result ≡ key_named self name.now }
+    {
+        self.keys()
+            .iter()
+            .copied()
+            .find(|key| key.name().as_bytes() == name)
+    }
+}
+
+impl Key {
+    /// The field's name.
+    fn name(self) -> &'static str
+        ensures { result.now ≡ key_name self }
+    {
+        match self {
+            Key::Id => "id",
+            Key::DebitAccountId => "debit_account_id",
+            Key::CreditAccountId => "credit_account_id",
+            Key::Amount => "amount",
+            Key::PendingId => "pending_id",
+            Key::UserData128 => "user_data_128",
+            Key::UserData64 => "user_data_64",
+            Key::UserData32 => "user_data_32",
+            Key::Timeout => "timeout",
+            Key::Ledger => "ledger",
+            Key::Code => "code",
+            Key::Flags => "flags",
+        }
+    }
+
+    /// The field's place among all of them.
+    fn place(self) -> usize
+        ensures place { result ≡ key_place self }
+        ensures bound { result ≤ 11 }
+    {
+        self as usize
+    }
+
+    /// The field's greatest number.
+    fn greatest(self) -> u128
+        ensures { result ≡ greatest_of self }
+    {
+        match self {
+            Key::UserData64 => u128::from(u64::MAX),
+            Key::UserData32 | Key::Timeout | Key::Ledger => u128::from(u32::MAX),
+            Key::Code | Key::Flags => u128::from(u16::MAX),
+            _ => u128::MAX,
+        }
+    }
+}
+
+impl Fields {
+    /// What a line without a field says.
+    fn none() -> Fields
+        ensures { result ≡ no_fields }
+    {
+        Fields {
+            id: 0,
+            debit_account_id: 0,
+            credit_account_id: 0,
+            amount: 0,
+            pending_id: 0,
+            user_data_128: 0,
+            user_data_64: 0,
+            user_data_32: 0,
+            timeout: 0,
+            ledger: 0,
+            code: 0,
+            flags: 0,
+        }
+    }
+
+    /// The fields with one more given.
+    fn with(self, key: Key, value: u128) -> Fields
+        requires { value ≤ greatest_of key }
+        ensures { result ≡ with_field self key value }
+    {
+        let mut fields = self;
+        match key {
+            Key::Id => fields.id = value,
+            Key::DebitAccountId => fields.debit_account_id = value,
+            Key::CreditAccountId => fields.credit_account_id = value,
+            Key::Amount => fields.amount = value,
+            Key::PendingId => fields.pending_id = value,
+            Key::UserData128 => fields.user_data_128 = value,
+            Key::UserData64 => fields.user_data_64 = value as u64,
+            Key::UserData32 => fields.user_data_32 = value as u32,
+            Key::Timeout => fields.timeout = value as u32,
+            Key::Ledger => fields.ledger = value as u32,
+            Key::Code => fields.code = value as u16,
+            Key::Flags => fields.flags = value as u16,
+        }
+        fields
+    }
+
+    /// The account that the fields ask for.
+    pub fn account(self) -> NewAccount
+        ensures { result ≡ account_of self }
+    {
+        NewAccount {
+            id: self.id,
+            user_data_128: self.user_data_128,
+            user_data_64: self.user_data_64,
+            user_data_32: self.user_data_32,
+            ledger: self.ledger,
+            code: self.code,
+            flags: self.flags,
+        }
+    }
+
+    /// The transfer that the fields ask for.
+    pub fn transfer(self) -> NewTransfer
+        ensures { result ≡ transfer_of self }
+    {
+        NewTransfer {
+            id: self.id,
+            debit_account_id: self.debit_account_id,
+            credit_account_id: self.credit_account_id,
+            amount: self.amount,
+            pending_id: self.pending_id,
+            user_data_128: self.user_data_128,
+            user_data_64: self.user_data_64,
+            user_data_32: self.user_data_32,
+            timeout: self.timeout,
+            ledger: self.ledger,
+            code: self.code,
+            flags: self.flags,
+        }
+    }
+}
+
+/// The field that one `key=value` word gives, with its value.
+fn read_field(word: &[u8], kind: ItemKind) -> Result<(Key, u128), FaultKind>
+    ensures field { result ≡ field_of kind word.now }
+    ensures bound { MatchResult result (λ field. field.1 ≤ greatest_of field.0) (λ e. Unit {0}) }
+{
+    if !is_printable_word(word) {
+        return Err(FaultKind::BadText);
+    }
+    let (name, value) = split_once(word, b'=').ok_or(FaultKind::UnknownKey)?;
+    let key = kind.key_named(name).ok_or(FaultKind::UnknownKey)?;
+    let number = read_number(value, key.greatest())?;
+    Ok((key, number))
+}
+
+/// What the words of an item give. There has to be one, and no key may come twice.
+pub fn read_fields(words: &[u8], kind: ItemKind) -> Result<Fields, FaultKind>
+    ensures { result ≡ fields_of kind (words_of words.now) }
+{
+    let mut fields = Fields::none();
+    let mut given = [false; 12];
+    let mut rest = words;
+    if next_word(words).is_none() {
+        return Err(FaultKind::WrongCount);
+    }
+    while let Some((word, after)) = next_word(rest) {
+        let (key, value) = read_field(word, kind)?;
+        let place = key.place();
+        if given[place] {
+            return Err(FaultKind::KeyTwice);
+        }
+        given[place] = true;
+        fields = fields.with(key, value);
+        rest = after;
+    }
+    Ok(fields)
+}

@@ -1,0 +1,57 @@
+//! The words of the command line.
+
+use clap::error::ErrorKind;
+use clap::{Arg, ArgAction, Command, Error};
+use std::alloc::{AllocError, Global};
+
+/// What the words ask for.
+#[derive(Clone, Copy, Debug, PartialEq, Eq)]
+pub enum Action<'a> {
+    /// The report of a script, from this file; `-` is standard input.
+    Books { file: &'a str },
+}
+
+/// Why words ask for nothing.
+#[derive(Clone, Copy, Debug, PartialEq, Eq, thiserror::Error)]
+pub enum OptionsFault {
+    /// No command has such words.
+    #[error("no command has such words")]
+    BadWords,
+    /// No memory was left.
+    #[error("out of memory")]
+    OutOfMemory,
+}
+
+/// The words of the program, without its own name.
+const STANDARD_INPUT: &str = "-";
+
+/// What the words of the program ask for, its own name not being one. Without words it is `books -`.
+pub fn options<'a>(alloc: Global, words: &'a [&'a str]) -> Result<Action<'a>, OptionsFault> {
+    if words.is_empty() {
+        return Ok(Action::Books {
+            file: STANDARD_INPUT,
+        });
+    }
+    match file_of(alloc, words) {
+        Ok(Some(file)) => Ok(Action::Books { file }),
+        Ok(None) => Err(OptionsFault::BadWords),
+        Err(error) if error.kind() == ErrorKind::OutOfMemory => Err(OptionsFault::OutOfMemory),
+        Err(_) => Err(OptionsFault::BadWords),
+    }
+}
+
+/// The file of `books FILE`.
+fn file_of<'a>(alloc: Global, words: &'a [&'a str]) -> Result<Option<&'a str>, Error> {
+    let file = Arg::new(alloc, "FILE")
+        .required(true)
+        .action(ArgAction::Set);
+    let books = Command::new(alloc, "books").arg(file)?;
+    let program = Command::new(alloc, "relayplum")
+        .no_binary_name(true)
+        .subcommand(books)?;
+    let matches = program.try_get_matches_from(words)?;
+    match matches.subcommand() {
+        Some((_, of_books)) => Ok(of_books.get_str("FILE")),
+        None => Ok(None),
+    }
+}

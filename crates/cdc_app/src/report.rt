@@ -1,0 +1,164 @@
+//! What `books` prints: a line for each batch, and then what the subscriber holds.
+
+ghost use Rattle.std.specs.Prelude.{◌≡◌, ◌++◌, codes, Err, OnOk, string_bytes};
+ghost use Rattle.std.specs.List.{flat_map};
+ghost use Rattle.cdc_types.specs.Results.{account_number, transfer_number};
+ghost use Rattle.cdc_app.specs.Report.{spaced, named, answer_text, batch_line, account_line, subscriber_text, script_fault_line};
+
+use crate::book::BookEntry;
+use crate::faults::ScriptFault;
+use cdc_ledger::BatchError;
+use cdc_types::{AccountResult, BatchResults, TransferResult};
+use itoa::{Buffer, Integer};
+use std::alloc::AllocError;
+
+/// Writes a number in decimal digits.
+fn push_number<I: Integer>(text: &mut String, number: I) -> Result<(), AllocError>
+    ensures { OnOk result (string_bytes text.new ≡ string_bytes text.old ++ I.text number) }
+{
+    let mut buffer = Buffer::new();
+    text.push_str(buffer.format(number))
+}
+
+/// Writes a space and a number.
+fn push_spaced<I: Integer>(text: &mut String, number: I) -> Result<(), AllocError>
+    ensures { OnOk result (string_bytes text.new ≡ string_bytes text.old ++ (codes " " ++ I.text number)) }
+{
+    text.push_str(" ")?;
+    push_number(text, number)
+}
+
+/// The line of a batch: its number from 1, and what the ledger answered.
+pub fn push_batch(
+    text: &mut String,
+    number: u64,
+    answer: &Result<BatchResults, BatchError>,
+) -> Result<(), AllocError>
+    ensures { OnOk result (string_bytes text.new ≡ string_bytes text.old ++ batch_line number answer.now) }
+{
+    text.push_str("batch ")?;
+    push_number(text, number)?;
+    push_answer(text, answer)?;
+    text.push_str("\n")
+}
+
+/// What the ledger answered to a batch.
+fn push_answer(
+    text: &mut String,
+    answer: &Result<BatchResults, BatchError>,
+) -> Result<(), AllocError>
+    ensures { OnOk result (string_bytes text.new ≡ string_bytes text.old ++ answer_text answer.now) }
+{
+    match answer {
+        Ok(BatchResults::Accounts(results)) => push_account_results(text, results.as_slice()),
+        Ok(BatchResults::Transfers(results)) => push_transfer_results(text, results.as_slice()),
+        Ok(BatchResults::Pulsed(count)) => {
+            text.push_str(": pulse ")?;
+            push_number(text, *count)
+        }
+        Err(refusal) => push_refusal(text, *refusal),
+    }
+}
+
+/// A space and a number for each account that was asked for.
+fn push_account_results(text: &mut String, results: &[AccountResult]) -> Result<(), AllocError>
+    ensures { OnOk result (string_bytes text.new ≡
+        string_bytes text.old ++ (codes ":" ++ flat_map (λ r. spaced (account_number r)) results.now)) }
+{
+    text.push_str(":")?;
+    for result in results {
+        push_spaced(text, result.number())?;
+    }
+    Ok(())
+}
+
+/// A space and a number for each transfer that was asked for.
+fn push_transfer_results(text: &mut String, results: &[TransferResult]) -> Result<(), AllocError>
+    ensures { OnOk result (string_bytes text.new ≡
+        string_bytes text.old ++ (codes ":" ++ flat_map (λ r. spaced (transfer_number r)) results.now)) }
+{
+    text.push_str(":")?;
+    for result in results {
+        push_spaced(text, result.number())?;
+    }
+    Ok(())
+}
+
+/// Why a batch was refused as a whole.
+fn push_refusal(text: &mut String, refusal: BatchError) -> Result<(), AllocError>
+    ensures { OnOk result (string_bytes text.new ≡ string_bytes text.old ++ answer_text (Err refusal)) }
+{
+    text.push_str(" refused:")?;
+    push_spaced(text, refusal.number())?;
+    text.push_str(" ")?;
+    text.push_str(refusal.name())
+}
+
+/// The lines of a subscriber that has taken all of its events and the end: its number from 1, how many events it has
+/// applied, the timestamp of the last one in nanoseconds, and its book.
+pub fn push_subscriber(
+    text: &mut String,
+    number: u64,
+    applied: u64,
+    last: u64,
+    book: &[BookEntry],
+) -> Result<(), AllocError>
+    ensures { OnOk result (string_bytes text.new ≡ string_bytes text.old ++ subscriber_text number applied last book.now) }
+{
+    push_named(text, "subscriber", number)?;
+    push_named(text, " applied", applied)?;
+    push_named(text, " last", last)?;
+    text.push_str(" ended yes closed no\n")?;
+    push_accounts(text, book)?;
+    Ok(())
+}
+
+/// A word, a space and a number.
+fn push_named(text: &mut String, name: &str, number: u64) -> Result<(), AllocError>
+    ensures { OnOk result (string_bytes text.new ≡ string_bytes text.old ++ named name.now number) }
+{
+    text.push_str(name)?;
+    push_spaced(text, number)
+}
+
+/// The lines of the accounts of a book.
+fn push_accounts(text: &mut String, book: &[BookEntry]) -> Result<(), AllocError>
+    ensures { OnOk result (string_bytes text.new ≡ string_bytes text.old ++ flat_map account_line book.now) }
+{
+    for entry in book {
+        push_account(text, entry)?;
+    }
+    Ok(())
+}
+
+/// The line of an account of a book.
+fn push_account(text: &mut String, entry: &BookEntry) -> Result<(), AllocError>
+    ensures { OnOk result (string_bytes text.new ≡ string_bytes text.old ++ account_line entry.now) }
+{
+    text.push_str("account")?;
+    push_spaced(text, entry.id)?;
+    push_spaced(text, entry.balances.debits_pending)?;
+    push_spaced(text, entry.balances.debits_posted)?;
+    push_spaced(text, entry.balances.credits_pending)?;
+    push_spaced(text, entry.balances.credits_posted)?;
+    text.push_str("\n")
+}
+
+/// The line of a fault of a script.
+pub fn push_script_fault(text: &mut String, fault: ScriptFault) -> Result<(), AllocError>
+    ensures { OnOk result (string_bytes text.new ≡ string_bytes text.old ++ script_fault_line fault) }
+{
+    text.push_str("fault: script line")?;
+    push_spaced(text, fault.line)?;
+    text.push_str(": ")?;
+    push_line_end(text, fault.kind.name())?;
+    Ok(())
+}
+
+/// The last word of a line.
+fn push_line_end(text: &mut String, word: &str) -> Result<(), AllocError>
+    ensures { OnOk result (string_bytes text.new ≡ string_bytes text.old ++ (word.now ++ codes "\n")) }
+{
+    text.push_str(word)?;
+    text.push_str("\n")
+}

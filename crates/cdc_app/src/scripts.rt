@@ -1,0 +1,115 @@
+//! Scripts: the batches that clients hand in.
+
+ghost use Rattle.std.specs.Prelude.{◌≡◌, ◌+◌, ◌≤◌, [], length, Ok, IfErr, IfOk, IfSome, MatchResult};
+ghost use Rattle.std.specs.Io.KnownBytes.{Consumes, IsAtEnd};
+ghost use Rattle.std.specs.Str.Lines.{lines};
+ghost use Rattle.cdc_app.specs.Drafts.{script_from};
+ghost use Rattle.cdc_app.specs.Refusals.{IsFault, IsNoFault, ConsumesAtMost};
+ghost use Rattle.cdc_app.specs.Scripts.{max_bytes, script_of_lines, script_of};
+
+use crate::drafts::Draft;
+use crate::faults::{FaultKind, ScriptError, ScriptFault};
+use crate::statements::read_statement;
+use crate::words::next_line;
+use cdc_types::{Batch, Items, Limits};
+use std::alloc::Global;
+use std::io::Read;
+
+/// A batch, and the client that hands it in.
+#[derive(Drop)]
+pub struct ClientBatch {
+    /// The client's number, from 1.
+    pub client: u64,
+    /// What is handed in.
+    pub batch: Batch,
+}
+
+/// What a script says. It has one subscriber, of all events.
+#[derive(Drop)]
+pub struct Script {
+    /// The batches in the order of their lines.
+    pub batches: Items<ClientBatch>,
+}
+
+/// How many bytes are asked for at once.
+const PIECE: usize = 8192;
+
+/// Reads the bytes of a script, one more than it may have at most. No read follows one that failed.
+fn read_text<R: Read>(alloc: Global, reader: &mut R) -> Result<Vec<u8>, ScriptError>
+    ensures bounded { ConsumesAtMost (max_bytes + 1) (R.remaining reader.old) (R.remaining reader.new) }
+    ensures text { IfOk result (λ text. Consumes (R.remaining reader.old) (R.remaining reader.new) text.items) }
+    ensures whole { IfOk result (λ text. length text.items ≤ max_bytes → IsAtEnd (R.remaining reader.new)) }
+    ensures refused { IfErr result IsNoFault }
+{
+    let mut text = Vec::new(alloc);
+    let mut piece = [0u8; PIECE];
+    while text.len() <= Limits::SCRIPT_BYTES {
+        let room = (Limits::SCRIPT_BYTES + 1 - text.len()).min(PIECE);
+        let Ok(count) = reader.read(&mut piece[..room]) else {
+            return Err(ScriptError::ReadFault);
+        };
+        if count == 0 {
+            return Ok(text);
+        }
+        text.extend_from_slice(&piece[..count])?;
+    }
+    Ok(text)
+}
+
+/// What the lines of a text say.
+fn read_lines(alloc: Global, text: &[u8]) -> Result<Draft, ScriptError>
+    requires { length text.now ≤ max_bytes }
+    ensures { MatchResult result
+        (λ draft. script_of_lines (lines text.now) ≡ script_from draft [])
+        (λ error. IsFault error (script_of_lines (lines text.now))) }
+{
+    let mut draft = Draft::new(alloc);
+    let mut rest = text;
+    let mut line_number: u64 = 0;
+    while let Some((line, after)) = next_line(rest) {
+        line_number += 1;
+        match read_statement(line, draft.context()) {
+            Ok(None) => {}
+            Ok(Some(statement)) => draft.add(alloc, statement)?,
+            Err(kind) => return Err(script_error(line_number, kind)),
+        }
+        rest = after;
+    }
+    Ok(draft)
+}
+
+/// The script that a text writes.
+fn parse(alloc: Global, text: &[u8]) -> Result<Script, ScriptError>
+    ensures { MatchResult result (λ script. script_of text.now ≡ Ok script) (λ error. IsFault error (script_of text.now)) }
+{
+    if text.len() > Limits::SCRIPT_BYTES {
+        return Err(script_error(0, FaultKind::TooLong));
+    }
+    let draft = read_lines(alloc, text)?;
+    if draft.subscribers == 0 {
+        return Err(script_error(0, FaultKind::NoSubscriber));
+    }
+    let batches = draft.finish()?;
+    Ok(Script {
+        batches: Items::from_vec(batches),
+    })
+}
+
+/// A fault of a script as an error.
+fn script_error(line: u64, kind: FaultKind) -> ScriptError
+    ensures { result ≡ ScriptError.Fault (record { line = line; kind = kind }) }
+{
+    ScriptError::Fault(ScriptFault { line, kind })
+}
+
+/// Reads a script. It asks for at most one byte more than a script may have, and for no more after a read that failed.
+pub fn read_script<R: Read>(alloc: Global, reader: &mut R) -> Result<Script, ScriptError>
+    ensures read { IfSome (R.remaining reader.old) (λ bytes.
+        MatchResult result (λ script. script_of bytes ≡ Ok script) (λ error. IsFault error (script_of bytes))) }
+    ensures bounded { ConsumesAtMost (max_bytes + 1) (R.remaining reader.old) (R.remaining reader.new) }
+{
+    match read_text(alloc, reader) {
+        Ok(text) => parse(alloc, &text),
+        Err(error) => Err(error),
+    }
+}

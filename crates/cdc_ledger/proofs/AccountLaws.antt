@@ -1,0 +1,35 @@
+-- The accounts with their balances after each change.
+use Rattle.std.proofs.Common.{ℕ, ◌<◌, ◌≤◌, List, [], ◌∷◌, ◌++◌, ◌≡◌, map, None, ap, ap₂, ◌∙◌, sym}
+use Rattle.std.specs.List.{AllByRecursion}
+use Rattle.std.proofs.lemmas.List.{map_push}
+use Rattle.cdc_types.specs.declared.accounts.Account.{Account}
+use Rattle.cdc_types.specs.declared.events.Entry.{Entry}
+use Rattle.cdc_types.specs.declared.events.EventKind.TheVariants.{SinglePhase}
+use Rattle.cdc_ledger.specs.History.{Opened, History, opened}
+use Rattle.cdc_ledger.specs.Events.{accounts_now, account_now, account_with}
+use Rattle.cdc_ledger.specs.Sound.{HasAccounts}
+use Rattle.cdc_ledger.proofs.Changes.{pushed, with_account, timed, IsUpTo, account_added, no_balances}
+use Rattle.cdc_ledger.proofs.Elements.{AllByRecursion-every, map_same, map-map}
+use Rattle.cdc_ledger.proofs.BalanceLaws.{balances_later, balances-pushed, balances_none}
+
+map_every : (f g : Opened → Account) → ((o : Opened) → f o ≡ g o) → (os : List Opened) → map f os ≡ map g os
+map_every f g same os = map_same f g os (AllByRecursion-every (λ o. f o ≡ g o) same os)
+
+pub accounts_now-timed : (h : History) (t : ℕ) → IsUpTo h.last h → h.last ≤ t → accounts_now (timed h t) ≡ accounts_now h
+accounts_now-timed h t within later = map_every (account_now (timed h t)) (account_now h)
+    (λ o. ap (account_with o) (balances_later h o.request.id h.last t within later)) h.accounts
+
+pub accounts_now-pushed : (h : History) (e : Entry) → IsUpTo h.last h → h.last < e.timestamp → e.kind ≡ SinglePhase
+    → accounts_now (pushed h e) ≡ map (account_added e.transfer) (accounts_now h)
+accounts_now-pushed h e within after single =
+    map_every (account_now (pushed h e)) (λ o. account_added e.transfer (account_now h o))
+    (λ o. ap (account_with o) (balances-pushed h e o.request.id within after single)) h.accounts
+    ∙ sym (map-map (account_added e.transfer) (account_now h) h.accounts)
+
+pub accounts_now-with_account : (h : History) (o : Opened) → IsUpTo h.last h → AllByRecursion (HasAccounts h) h.entries
+    → opened h o.request.id ≡ None → h.last ≤ o.timestamp → accounts_now (with_account h o) ≡ accounts_now h ++ account_with o no_balances ∷ []
+accounts_now-with_account h o within known free later =
+    map_push (account_now (with_account h o)) h.accounts o
+    ∙ ap₂ (λ xs x. xs ++ x ∷ [])
+    (map_every (account_now (with_account h o)) (account_now h) (λ x. ap (account_with x) (balances_later h x.request.id h.last o.timestamp within later)) h.accounts)
+    (ap (account_with o) (balances_none h o.request.id o.timestamp known free))

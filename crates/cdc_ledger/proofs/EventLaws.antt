@@ -1,0 +1,77 @@
+-- The events after one more entry or account, and their timestamps.
+use Rattle.std.proofs.Common.{ℕ, ◌<◌, ◌≤◌, [], ◌∷◌, ◌++◌, ◌≡◌, length, map, ap, ap₂, ◌∙◌, arith}
+use Rattle.std.specs.Prelude.{unwrap_or, Option}
+use Rattle.std.specs.List.{AllByRecursion}
+use Rattle.std.proofs.lemmas.List.{map_push, length-map}
+use Rattle.cdc_types.specs.declared.events.Entry.{Entry}
+use Rattle.cdc_types.specs.declared.events.Event.{Event}
+use Rattle.cdc_types.specs.declared.events.EventAccount.{EventAccount}
+use Rattle.cdc_types.specs.declared.accounts.Balances.{Balances}
+use Rattle.cdc_types.specs.declared.events.EventKind.TheVariants.{SinglePhase}
+use Rattle.cdc_ledger.specs.History.{Opened, History, opened}
+use Rattle.cdc_ledger.specs.Balances.{balances}
+use Rattle.cdc_ledger.specs.Events.{event_of, events, shown_account, shown_transfer, nobody}
+use Rattle.cdc_ledger.specs.Sound.{HasAccounts}
+use Rattle.cdc_ledger.proofs.Changes.{pushed, with_account, IsUpTo, added}
+use Rattle.cdc_ledger.proofs.Elements.{AllByRecursion-weaker, map_same, map-map}
+use Rattle.cdc_ledger.proofs.BalanceLaws.{balances-pushed, balances-pushed_before}
+use Rattle.cdc_ledger.proofs.OpenedLaws.{opened-with_account_same}
+
+-- `events` reads the accounts and the entries alone, so a change of last or closed leaves it by computation
+
+-- the event of an entry, by the accounts and their balances
+abbrev event_with : Entry → Option Opened → Option Opened → Balances → Balances → Event
+event_with e debit credit debits credits = record {
+  timestamp = e.timestamp;
+  kind = e.kind;
+  ledger = e.transfer.ledger;
+  transfer = shown_transfer e.transfer;
+  debit_account = shown_account (unwrap_or debit nobody) debits;
+  credit_account = shown_account (unwrap_or credit nobody) credits;
+}
+
+same_balances : (e : Entry) (d c : Option Opened) (s s' t t' : Balances) → s ≡ s' → t ≡ t' → event_with e d c s t ≡ event_with e d c s' t'
+same_balances e d c s s' t t' p q = ap₂ (λ x y. event_with e d c x y) p q
+
+same_accounts : (e : Entry) (d d' c c' : Option Opened) (s t : Balances) → d ≡ d' → c ≡ c' → event_with e d c s t ≡ event_with e d' c' s t
+same_accounts e d d' c c' s t p q = ap₂ (λ x y. event_with e x y s t) p q
+
+-- an entry after all others, of any kind
+pub events-pushed : (h : History) (e : Entry) → IsUpTo h.last h → h.last < e.timestamp → events (pushed h e) ≡ events h ++ event_of (pushed h e) e ∷ []
+events-pushed h e within after =
+    map_push (event_of (pushed h e)) h.entries e
+    ∙ ap (λ xs. xs ++ event_of (pushed h e) e ∷ []) (map_same (event_of (pushed h e)) (event_of h) h.entries
+    (AllByRecursion-weaker (λ x. x.timestamp ≤ h.last) (λ x. event_of (pushed h e) x ≡ event_of h x)
+    (λ x at. same_balances x (opened h x.transfer.debit_account_id) (opened h x.transfer.credit_account_id) _ _ _ _ (balances-pushed_before h e x.transfer.debit_account_id x.timestamp (omega arith)) (balances-pushed_before h e x.transfer.credit_account_id x.timestamp (omega arith)))
+    h.entries within))
+
+-- how the account stands right after a single-phase transfer
+abbrev pub account_after : History → Entry → ℕ → EventAccount
+account_after h e id = shown_account (unwrap_or (opened h id) nobody) (added e.transfer id (balances h id h.last))
+
+-- the event of a single-phase entry, by the balances before it
+pub event_of-pushed : (h : History) (e : Entry) → IsUpTo h.last h → h.last < e.timestamp → e.kind ≡ SinglePhase
+    → event_of (pushed h e) e ≡ record {
+      timestamp = e.timestamp;
+      kind = e.kind;
+      ledger = e.transfer.ledger;
+      transfer = shown_transfer e.transfer;
+      debit_account = account_after h e e.transfer.debit_account_id;
+      credit_account = account_after h e e.transfer.credit_account_id;
+    }
+event_of-pushed h e within after single = same_balances e (opened h e.transfer.debit_account_id) (opened h e.transfer.credit_account_id) _ _ _ _
+    (balances-pushed h e e.transfer.debit_account_id within after single) (balances-pushed h e e.transfer.credit_account_id within after single)
+
+-- one more account, where each entry's accounts were there
+pub events-with_account : (h : History) (o : Opened) → AllByRecursion (HasAccounts h) h.entries → events (with_account h o) ≡ events h
+events-with_account h o known = map_same (event_of (with_account h o)) (event_of h) h.entries
+    (AllByRecursion-weaker (HasAccounts h) (λ e. event_of (with_account h o) e ≡ event_of h e)
+    (λ e has. same_accounts e _ _ _ _ (balances h e.transfer.debit_account_id e.timestamp) (balances h e.transfer.credit_account_id e.timestamp)
+    (opened-with_account_same h o e.transfer.debit_account_id has.0) (opened-with_account_same h o e.transfer.credit_account_id has.1))
+    h.entries known)
+
+pub timestamps-events : (h : History) → map (λ x. x.timestamp) (events h) ≡ map (λ e. e.timestamp) h.entries
+timestamps-events h = map-map (λ x. x.timestamp) (event_of h) h.entries
+
+pub length-events : (h : History) → length (events h) ≡ length h.entries
+length-events h = length-map h.entries (event_of h)

@@ -1,0 +1,49 @@
+-- What is kept of the tables stays kept.
+use Rattle.std.proofs.Common.{ℕ, ◌≤◌, [], ◌∷◌, ◌++◌, ◌≡◌, None, ap, ◌∙◌, sym, subst, map}
+use Rattle.std.proofs.lemmas.List.{map_push}
+use Rattle.cdc_types.specs.declared.accounts.NewAccount.{NewAccount}
+use Rattle.cdc_ledger.specs.declared.tables.Tables.{Tables}
+use Rattle.cdc_ledger.specs.Accounts.{opened_as, fresh_account}
+use Rattle.cdc_ledger.specs.Changes.{with_account}
+use Rattle.cdc_ledger.specs.Events.{accounts_now, events}
+use Rattle.cdc_ledger.specs.History.{History, Opened, opened}
+use Rattle.cdc_ledger.specs.Sound.{IsSound}
+use Rattle.cdc_ledger.specs.Tables.{IsKept, history_of}
+use Rattle.cdc_ledger.specs.Verdict.{max_timestamp}
+use Rattle.cdc_ledger.proofs.AccountLaws.{accounts_now-timed, accounts_now-with_account}
+use Rattle.cdc_ledger.proofs.EventLaws.{events-with_account}
+use Rattle.cdc_ledger.proofs.SoundLaws.{IsSound-timed, IsSound-with_account}
+
+-- from the history that the tables hold
+pub IsKept-from : (t : Tables) (h : History) → history_of t ≡ h → t.accounts.items ≡ accounts_now h → t.log.events ≡ events h → IsSound h → IsKept t
+IsKept-from t h same balanced logged sound = record {
+  balanced = balanced ∙ ap accounts_now (sym same);
+  logged = logged ∙ ap events (sym same);
+  sound = subst IsSound (sym same) sound;
+}
+
+pub IsKept-timed : (t : Tables) (n : ℕ) → IsKept t → t.last ≤ n → n ≤ max_timestamp → IsKept (record t { last = n })
+IsKept-timed t n kept later within = record {
+  balanced = kept.balanced ∙ sym (accounts_now-timed (history_of t) n kept.sound.past later);
+  logged = kept.logged;
+  sound = IsSound-timed (history_of t) n kept.sound later within;
+}
+
+pub history-opened : (t t' : Tables) (r : NewAccount) (n : ℕ) → t'.accounts.items ≡ t.accounts.items ++ fresh_account r n ∷ []
+    → t'.entries.items ≡ t.entries.items → t'.last ≡ n → t'.closed ≡ t.closed
+    → history_of t' ≡ with_account (history_of t) (record { request = r; timestamp = n })
+history-opened t t' r n accounts entries last closed =
+    let opened : map opened_as t'.accounts.items ≡ map opened_as t.accounts.items ++ record { request = r; timestamp = n } ∷ [] =
+    ap (map opened_as) accounts ∙ map_push opened_as t.accounts.items (fresh_account r n) in
+    cc
+
+pub IsKept-opened : (t t' : Tables) (r : NewAccount) (n : ℕ) → IsKept t → opened (history_of t) r.id ≡ None → t.last ≤ n → n ≤ max_timestamp
+    → t'.accounts.items ≡ t.accounts.items ++ fresh_account r n ∷ [] → t'.log.events ≡ t.log.events
+    → history_of t' ≡ with_account (history_of t) (record { request = r; timestamp = n }) → IsKept t'
+IsKept-opened t t' r n kept free later within accounts log same =
+    let h : History = history_of t in
+    let o : Opened = record { request = r; timestamp = n } in
+    IsKept-from t' (with_account h o) same
+    (accounts ∙ ap (λ xs. xs ++ fresh_account r n ∷ []) kept.balanced ∙ sym (accounts_now-with_account h o kept.sound.past kept.sound.known free later))
+    (log ∙ kept.logged ∙ sym (events-with_account h o kept.sound.known))
+    (IsSound-with_account h o kept.sound free later within)

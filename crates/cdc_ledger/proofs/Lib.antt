@@ -1,0 +1,21 @@
+pub mod Changes
+mod Examples
+pub mod Elements
+pub mod LineLaws
+pub mod BalanceLaws
+pub mod OpenedLaws
+pub mod EventLaws
+pub mod AccountLaws
+pub mod BatchLaws
+pub mod LegalLaws
+pub mod SoundLaws
+pub mod AcceptedLaws
+pub mod KeptLaws
+pub mod Found
+pub mod Single
+pub mod Refused
+pub mod Kept
+pub mod Stored
+pub mod Answered
+pub mod Pulsed
+pub mod Legal

@@ -1,0 +1,16 @@
+use Rattle.std.proofs.Common.{◌≡◌, ◌+◌, ◌≤◌, ◌<◌, length, vec_len, vec_capacity}
+use Rattle.cdc_types.specs.Features.{features}
+use Rattle.cdc_ledger.specs.Tables.{IsKept, history_of, room_for_accounts}
+use Rattle.cdc_ledger.proofs.BatchLaws.{AccountsGoOn}
+use Rattle.cdc_ledger.proofs.tables.Tables.take_accounts.Given as goal
+
+-- the results so far and those to the rest are the results to all, and there is room for the rest
+abbrev pub invariant-loop-place : goal.invariant-loop-place
+invariant-loop-place l = record {
+  on : AccountsGoOn features (history_of l.fn.self) l.base l.requests l.place l.results.items (history_of l.self);
+  kept : IsKept l.self;
+  later : l.self.last < l.base + l.place;
+  count : vec_len l.results ≡ l.place;
+  results_room : length l.requests ≤ vec_capacity l.results;
+  room : length l.requests ≤ room_for_accounts l.self + l.place;
+}

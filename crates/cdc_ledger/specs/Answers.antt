@@ -1,0 +1,17 @@
+-- What a call that takes a batch promises of its answer.
+use Rattle.std.specs.Prelude.{◌≡◌, Result, Ok, Err, IsOk}
+use Rattle.cdc_types.specs.declared.batches.Batch.{Batch}
+use Rattle.cdc_types.specs.declared.batches.BatchResults.{BatchResults}
+use Rattle.cdc_ledger.specs.declared.errors.BatchError.{BatchError}
+use Rattle.cdc_ledger.specs.declared.errors.BatchError.TheVariants.{LedgerClosed, BatchTooLarge, TimestampsExhausted, OutOfMemory}
+use Rattle.cdc_ledger.specs.History.{History}
+use Rattle.cdc_ledger.specs.Submit.{submit}
+
+-- from the history h to the history g the batch was answered as `submit` says, or memory ran out for an answer;
+-- after any refusal the history is as it was
+abbrev pub Answers : {A : Type 0} → (A → BatchResults) → History → Batch → Result A BatchError → History → Type 0
+Answers shown h b (Ok results) g = submit h b ≡ Ok (shown results, g)
+Answers shown h b (Err LedgerClosed) g = (submit h b ≡ Err LedgerClosed) × (g ≡ h)
+Answers shown h b (Err BatchTooLarge) g = (submit h b ≡ Err BatchTooLarge) × (g ≡ h)
+Answers shown h b (Err TimestampsExhausted) g = (submit h b ≡ Err TimestampsExhausted) × (g ≡ h)
+Answers shown h b (Err OutOfMemory) g = IsOk (submit h b) × (g ≡ h)

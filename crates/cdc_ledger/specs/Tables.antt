@@ -1,0 +1,36 @@
+-- What the ledger's tables stand for, and what is kept of them between two calls.
+use Rattle.std.specs.Prelude.{ℕ, ◌-◌, ◌≡◌, min, map, vec_len, vec_capacity}
+use Rattle.cdc_ledger.specs.declared.tables.Tables.{Tables}
+use Rattle.cdc_ledger.specs.Accounts.{opened_as}
+use Rattle.cdc_ledger.specs.Events.{accounts_now, events}
+use Rattle.cdc_ledger.specs.History.{History}
+use Rattle.cdc_ledger.specs.Sound.{IsSound}
+use Rattle.cdc_ledger.specs.Submit.{IsLegal}
+
+-- the history that the tables hold
+abbrev pub history_of : Tables → History
+history_of t = record {
+  accounts = map opened_as t.accounts.items;
+  entries = t.entries.items;
+  last = t.last;
+  closed = t.closed;
+}
+
+-- for how many more accounts there is room
+abbrev pub room_for_accounts : Tables → ℕ
+room_for_accounts t = vec_capacity t.accounts - vec_len t.accounts
+
+-- for how many more entries and their events there is room
+abbrev pub room_for_entries : Tables → ℕ
+room_for_entries t = min (vec_capacity t.entries - vec_len t.entries) t.log.room
+
+-- the running balances are the sums over the entries, and the log has the events of the history
+pub record IsKept (t : Tables) : Type 0 where
+  pub balanced : t.accounts.items ≡ accounts_now (history_of t)
+  pub logged : t.log.events ≡ events (history_of t)
+  pub sound : IsSound (history_of t)
+
+-- the same, and batches and at most one close make the history
+pub record IsSoundlyKept (t : Tables) : Type 0 where
+  pub kept : IsKept t
+  pub legal : IsLegal (history_of t)
