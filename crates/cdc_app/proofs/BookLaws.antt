@@ -1,5 +1,5 @@
 -- The book of a ledger's events holds the ledger's balances as of the last of them.
-use Rattle.std.proofs.Common.{◌≡◌, ℕ, ◌+◌, ◌<◌, ◌≤◌, Bool, true, false, cond, List, [], ◌∷◌, ◌++◌, map, refl, sym, ap, ◌∙◌, append_assoc, append-nil, add-zero, arith, inl, inr}
+use Rattle.std.proofs.Common.{◌≡◌, ℕ, ◌<◌, ◌≤◌, Bool, true, false, cond, List, [], ◌∷◌, ◌++◌, map, refl, sym, ap, ◌∙◌, append_assoc, append-nil, add-zero, arith, inl, inr}
 use Rattle.std.proofs.lemmas.Bool.{ne_eqb, eq-eqb}
 use Rattle.std.proofs.lemmas.Bool.Decides.{eqb_tells}
 use Rattle.std.proofs.lemmas.Grind.{flat_map-append}
@@ -15,7 +15,7 @@ use Rattle.cdc_types.specs.declared.events.EventKind.TheVariants.{SinglePhase}
 use Rattle.cdc_types.specs.declared.transfers.Transfer.{Transfer}
 use Rattle.cdc_log.specs.Log.{last_from, last_timestamp_of}
 use Rattle.cdc_ledger.specs.History.{Opened, History, opened}
-use Rattle.cdc_ledger.specs.Balances.{balances, as_of}
+use Rattle.cdc_ledger.specs.Balances.{balances}
 use Rattle.cdc_ledger.specs.Events.{events, event_of, nobody}
 use Rattle.cdc_ledger.specs.Sound.{RiseFrom, HasAccounts, IsSound}
 use Rattle.cdc_ledger.proofs.Changes.{pushed, IsUpTo, added}
@@ -24,7 +24,13 @@ use Rattle.cdc_ledger.proofs.BalanceLaws.{balances-pushed}
 use Rattle.cdc_ledger.proofs.EventLaws.{events-pushed}
 use Rattle.cdc_ledger.proofs.OpenedLaws.{opened_id}
 use Rattle.cdc_app.specs.declared.book.BookEntry.{BookEntry}
-use Rattle.cdc_app.specs.Book.{entry_of, sides, is_among, first_appearances, unseen, last_shown, book_of}
+use Rattle.cdc_app.specs.Book.{entry_of, sides, is_among, last_shown, accounts_of, book_of}
+use Rattle.cdc_app.specs.declared.scripts.Script.{Script}
+use Rattle.cdc_app.specs.Held.{entry_as_of, HoldsBalances}
+use Rattle.cdc_app.specs.Printed.{history_after, history_of}
+use Rattle.cdc_ledger.specs.History.{empty_history}
+use Rattle.cdc_ledger.proofs.SoundLaws.{IsSound-empty, IsSound-closed}
+use Rattle.cdc_ledger.proofs.KeptLaws.{IsSound-after_batches}
 
 -- what events show last of the account of this id
 abbrev seen : ℕ → List Event → Option BookEntry
@@ -64,10 +70,6 @@ id_found h id (Some x) is found = opened_id h x id is
 added_other : (x : Transfer) (account : ℕ) (sums : Balances) → x.debit_account_id ≢ account → x.credit_account_id ≢ account → added x account sums ≡ sums
 added_other x account sums debit credit =
     rw (ne_eqb x.debit_account_id account debit, ne_eqb x.credit_account_id account credit) (simp add-zero)
-
--- the account with the ledger's balances as of the moment t
-abbrev pub entry_as_of : History → ℕ → ℕ → BookEntry
-entry_as_of h t id = record { id = id; balances = as_of h t id }
 
 -- what each account's last event shows of it are its balances at the last timestamp
 abbrev ShowsLast : History → Type 0
@@ -144,10 +146,6 @@ all_found (x ∷ rest) = (
     found_before None b found = cc
     found_before (Some y) b found = refl
 
--- the accounts of events, in the order of their first appearance
-abbrev pub accounts_of : List Event → List ℕ
-accounts_of es = first_appearances (map (λ entry. entry.id) (flat_map sides es))
-
 -- the book of a ledger's events holds, for each account that they have, the ledger's balances as of the last of them
 pub book_of-events : (h : History) → IsSound h → book_of (events h) ≡ map (entry_as_of h (last_timestamp_of (events h))) (accounts_of (events h))
 book_of-events h sound =
@@ -156,3 +154,10 @@ book_of-events h sound =
     same : (id : ℕ) (o : Option BookEntry) → seen id (events h) ≡ o → IsSome o → last_shown (flat_map sides (events h)) id ≡ entry_as_of h (last_timestamp_of (events h)) id
     same id None is found = cc
     same id (Some b) is found = rw is (seen-as_of h sound id b is)
+
+-- the book of a script's events holds the ledger's balances
+pub holds_balances : (script : Script) → HoldsBalances (history_of script)
+holds_balances script =
+    book_of-events (history_of script)
+    (IsSound-closed (history_after empty_history script.batches)
+    (IsSound-after_batches empty_history (map (λ b. b.batch) script.batches) IsSound-empty))

@@ -1,3 +1,4 @@
+mod Examples
 pub mod BookLemmas
 pub mod LineLemmas
 pub mod NumberLemmas

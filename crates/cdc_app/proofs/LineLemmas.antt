@@ -1,5 +1,5 @@
 -- Lines, taken in one after another.
-use Rattle.std.proofs.Common.{◌≡◌, ℕ, ◌+◌, List, [], ◌∷◌, Option, Some, None, Result, Ok, Err, refl}
+use Rattle.std.proofs.Common.{◌≡◌, ℕ, ◌+◌, List, ◌∷◌, Some, None, Result, Ok, Err, refl}
 use Rattle.cdc_app.specs.declared.faults.FaultKind.{FaultKind}
 use Rattle.cdc_app.specs.declared.faults.ScriptFault.{ScriptFault}
 use Rattle.cdc_app.specs.declared.scripts.Script.{Script}

@@ -1,5 +1,5 @@
 -- Bytes that a reader loses, piece by piece.
-use Rattle.std.proofs.Common.{◌≡◌, ℕ, ◌+◌, ◌≤◌, List, ◌++◌, length, Option, Some, None, arith, length-append, append_assoc, refl}
+use Rattle.std.proofs.Common.{ℕ, ◌+◌, ◌≤◌, List, ◌++◌, length, Option, Some, None, arith, length-append, append_assoc, refl}
 use Rattle.std.specs.Io.KnownBytes.{Consumes}
 use Rattle.cdc_app.specs.Refusals.{ConsumesAtMost}
 

@@ -1,7 +1,6 @@
 -- The book of a list of events: each account that they show, with its balances in the last event that has it.
 use Rattle.std.specs.Prelude.{ℕ, Bool, ◌==◌, List, [], ◌∷◌, ◌++◌, map, fold, find, reverse, unwrap_or, if◌then◌else◌}
 use Rattle.std.specs.List.{list_any, flat_map}
-use Rattle.cdc_types.specs.declared.accounts.Balances.{Balances}
 use Rattle.cdc_types.specs.declared.events.Event.{Event}
 use Rattle.cdc_types.specs.declared.events.EventAccount.{EventAccount}
 use Rattle.cdc_app.specs.declared.book.BookEntry.{BookEntry}
@@ -48,6 +47,10 @@ book_of_sides shown = map (last_shown shown) (first_appearances (map (λ entry. 
 -- the book of events
 abbrev pub book_of : List Event → List BookEntry
 book_of events = book_of_sides (flat_map sides events)
+
+-- the accounts of events, in the order of their first appearance
+abbrev pub accounts_of : List Event → List ℕ
+accounts_of events = first_appearances (map (λ entry. entry.id) (flat_map sides events))
 
 -- an entry takes the place of the one with its number, or comes last
 abbrev pub put : BookEntry → List BookEntry → List BookEntry

@@ -2,7 +2,9 @@ pub mod Book
 pub mod Drafts
 pub mod Faults
 pub mod Fields
+pub mod Held
 pub mod Numbers
+pub mod Options
 pub mod Parts
 pub mod Printed
 pub mod Refusals

@@ -1,5 +1,6 @@
 -- All that `books` prints for a script.
-use Rattle.std.specs.Prelude.{ℕ, ◌+◌, true, List, [], ◌∷◌, ◌++◌, map, Result, Ok, Err}
+use Rattle.std.specs.Prelude.{◌≡◌, ℕ, ◌+◌, true, List, [], ◌∷◌, ◌++◌, map, Option, IfSome, Result, Ok, Err}
+use Rattle.std.specs.Io.KnownBytes.{Appends}
 use Rattle.cdc_types.specs.declared.batches.BatchResults.{BatchResults}
 use Rattle.cdc_types.specs.Features.{features}
 use Rattle.cdc_ledger.specs.declared.errors.BatchError.{BatchError}
@@ -7,11 +8,12 @@ use Rattle.cdc_ledger.specs.Events.{events}
 use Rattle.cdc_ledger.specs.History.{History, empty_history}
 use Rattle.cdc_ledger.specs.Submit.{submit, history_or, after_batches}
 use Rattle.cdc_app.specs.declared.books.Ending.{Ending}
-use Rattle.cdc_app.specs.declared.books.Ending.TheVariants.{Done, Refused}
+use Rattle.cdc_app.specs.declared.books.Ending.TheVariants.{Done, Failed, Refused}
+use Rattle.cdc_app.specs.declared.faults.ProgramFault.TheVariants as fault
 use Rattle.cdc_app.specs.declared.faults.ScriptFault.{ScriptFault}
 use Rattle.cdc_app.specs.declared.scripts.ClientBatch.{ClientBatch}
 use Rattle.cdc_app.specs.declared.scripts.Script.{Script}
-use Rattle.cdc_app.specs.Report.{batch_line, subscriber_lines, script_fault_line}
+use Rattle.cdc_app.specs.Report.{batch_line, subscriber_lines, script_fault_line, program_fault_line}
 use Rattle.cdc_app.specs.Scripts.{script_of}
 
 -- the ledger's answer, without the history after it
@@ -37,6 +39,18 @@ history_of script = record (history_after empty_history script.batches) { closed
 abbrev pub printed : Script → List ℕ
 printed script = batch_lines 1 empty_history script.batches ++ subscriber_lines 1 (events (history_of script))
 
+-- the exit status of a command that ends so
+abbrev pub status_of : Ending → ℕ
+status_of Done = 0
+status_of (Failed why) = 1
+status_of Refused = 2
+
+-- the command didn't give up
+abbrev pub IsNoFailure : Ending → Type 0
+IsNoFailure Done = Unit {0}
+IsNoFailure (Failed why) = ⊥
+IsNoFailure Refused = Unit {0}
+
 -- what is printed, and how the command ends
 pub record Outcome : Type 0 where
   pub text : List ℕ
@@ -50,3 +64,12 @@ outcome (Err fault) = record { text = script_fault_line fault; ending = Refused 
 -- what the command makes of the bytes that it reads
 abbrev pub outcome_of : List ℕ → Outcome
 outcome_of bytes = outcome (script_of bytes)
+
+-- what is written by a command that ends so, of which the bytes of the script are known or not
+abbrev pub Writes : Option (List ℕ) → Option (List ℕ) → Option (List ℕ) → Ending → Type 0
+Writes script old new Done = IfSome script (λ bytes. Appends old new (outcome_of bytes).text × ((outcome_of bytes).ending ≡ Done))
+Writes script old new Refused =
+    IfSome script (λ bytes. Appends old new (outcome_of bytes).text × ((outcome_of bytes).ending ≡ Refused))
+Writes script old new (Failed fault.ReadFault) = Appends old new (program_fault_line fault.ReadFault)
+Writes script old new (Failed fault.OutOfMemory) = Appends old new (program_fault_line fault.OutOfMemory)
+Writes script old new (Failed fault.WriteFault) = Unit {0}

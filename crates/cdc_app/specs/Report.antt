@@ -1,5 +1,5 @@
 -- What is printed: lines of text, each with its line feed.
-use Rattle.std.specs.Prelude.{ℕ, ◌+◌, List, [], ◌∷◌, ◌++◌, length, codes, decimal, Result, Ok, Err}
+use Rattle.std.specs.Prelude.{ℕ, List, ◌++◌, length, codes, decimal, Result, Ok, Err}
 use Rattle.std.specs.List.{flat_map}
 use Rattle.cdc_types.specs.declared.batches.BatchResults.{BatchResults}
 use Rattle.cdc_types.specs.declared.batches.BatchResults.TheVariants as results
@@ -9,6 +9,8 @@ use Rattle.cdc_log.specs.Log.{last_timestamp_of}
 use Rattle.cdc_ledger.specs.declared.errors.BatchError.{BatchError}
 use Rattle.cdc_ledger.specs.BatchErrors.{batch_error_number, batch_error_name}
 use Rattle.cdc_app.specs.declared.book.BookEntry.{BookEntry}
+use Rattle.cdc_app.specs.declared.faults.ProgramFault.{ProgramFault}
+use Rattle.cdc_app.specs.declared.faults.ProgramFault.TheVariants as fault
 use Rattle.cdc_app.specs.declared.faults.ScriptFault.{ScriptFault}
 use Rattle.cdc_app.specs.Book.{book_of}
 use Rattle.cdc_app.specs.Faults.{kind_name}
@@ -51,4 +53,10 @@ subscriber_lines number events = subscriber_text number (length events) (last_ti
 
 -- the line of a bad script
 abbrev pub script_fault_line : ScriptFault → List ℕ
-script_fault_line fault = codes "fault: script line" ++ (spaced fault.line ++ (codes ": " ++ (kind_name fault.kind ++ codes "\n")))
+script_fault_line at = codes "fault: script line" ++ (spaced at.line ++ (codes ": " ++ (kind_name at.kind ++ codes "\n")))
+
+-- the line of a command that gave up
+abbrev pub program_fault_line : ProgramFault → List ℕ
+program_fault_line fault.ReadFault = codes "fault: read_fault\n"
+program_fault_line fault.WriteFault = codes "fault: write_fault\n"
+program_fault_line fault.OutOfMemory = codes "fault: out_of_memory\n"

@@ -1,11 +1,14 @@
 //! The command `books`: the batches of a script go to a ledger, and its events, through their JSON text, into a book.
 
-ghost use Rattle.std.specs.Prelude.{◌≡◌, ◌≢◌, ◌+◌, ◌++◌, List, length, IfOk, IfSome, OnOk, string_bytes};
+ghost use Rattle.std.specs.Prelude.{◌≡◌, ◌⊎◌, ◌+◌, ◌++◌, IfOk, IfSome, OnOk, string_bytes};
 ghost use Rattle.std.specs.Io.KnownBytes.{Appends};
 ghost use Rattle.cdc_ledger.specs.History.{empty_history};
 ghost use Rattle.cdc_ledger.specs.Submit.{submit, history_or};
 ghost use Rattle.cdc_app.specs.Book.{book_of as book_of_events};
-ghost use Rattle.cdc_app.specs.Printed.{answer, batch_lines, history_after, printed as printed_text, outcome_of};
+ghost use Rattle.cdc_app.specs.declared.scripts.Script.{Script as Said};
+ghost use Rattle.cdc_app.specs.Held.{HoldsBalances};
+ghost use Rattle.cdc_app.specs.Report.{program_fault_line};
+ghost use Rattle.cdc_app.specs.Printed.{answer, batch_lines, history_after, history_of, printed as printed_text, outcome_of, status_of, IsNoFailure, Writes};
 ghost use Rattle.cdc_app.specs.Refusals.{ConsumesAtMost};
 ghost use Rattle.cdc_app.specs.Scripts.{max_bytes};
 
@@ -25,16 +28,22 @@ use std::io::{Read, Write};
 pub enum Ending {
     /// It did all that was asked.
     Done,
-    /// A read, a write or a growth failed.
-    Failed,
+    /// It gave up.
+    Failed(ProgramFault),
     /// What was asked can't be done.
     Refused,
 }
 
 impl Ending {
-    /// The exit status of the program: 0, 1 or 2.
-    pub fn status(self) -> u8 {
-        self as u8
+    /// The exit status of the program.
+    pub fn status(self) -> u8
+        ensures { result ≡ status_of self }
+    {
+        match self {
+            Ending::Done => 0,
+            Ending::Failed(_) => 1,
+            Ending::Refused => 2,
+        }
     }
 }
 
@@ -48,10 +57,11 @@ pub struct Output {
 }
 
 /// Reads a script, and prints what the ledger answers to its batches and what a subscriber of all events then holds; of a
-/// bad script its fault. Nothing is written after a write that failed.
+/// bad script its fault. A command that gives up prints why, and nothing else; nothing is written after a write that
+/// failed.
 pub fn books<R: Read, W: Write>(alloc: Global, reader: &mut R, writer: &mut W) -> Ending
-    ensures printed { IfSome (R.remaining reader.old) (λ bytes. result ≢ Ending.Failed →
-        Appends (W.contents writer.old) (W.contents writer.new) (outcome_of bytes).text × (result ≡ (outcome_of bytes).ending)) }
+    ensures writes { Writes (R.remaining reader.old) (W.contents writer.old) (W.contents writer.new) result }
+    ensures holds { (script : Said) → HoldsBalances (history_of script) }
     ensures bounded { ConsumesAtMost (max_bytes + 1) (R.remaining reader.old) (R.remaining reader.new) }
 {
     match run(alloc, reader) {
@@ -62,26 +72,28 @@ pub fn books<R: Read, W: Write>(alloc: Global, reader: &mut R, writer: &mut W) -
 
 /// Prints a text at once.
 fn print<W: Write>(writer: &mut W, text: &str, ending: Ending) -> Ending
-    ensures { result ≢ Ending.Failed → Appends (W.contents writer.old) (W.contents writer.new) text.now × (result ≡ ending) }
+    ensures { (result ≡ Ending.Failed ProgramFault.WriteFault)
+        ⊎ ((result ≡ ending) × Appends (W.contents writer.old) (W.contents writer.new) text.now) }
 {
     if writer.write_all(text.as_bytes()).is_err() || writer.flush().is_err() {
-        return Ending::Failed;
+        return Ending::Failed(ProgramFault::WriteFault);
     }
     ending
 }
 
-/// Prints the line of a fault of the program.
+/// Prints the line of a command that gave up.
 pub fn print_fault<W: Write>(writer: &mut W, fault: ProgramFault) -> Ending
-    ensures { result ≡ Ending.Failed }
+    ensures { (result ≡ Ending.Failed ProgramFault.WriteFault)
+        ⊎ ((result ≡ Ending.Failed fault) × Appends (W.contents writer.old) (W.contents writer.new) (program_fault_line fault)) }
 {
-    let _written = print(writer, fault.line(), Ending::Failed);
-    Ending::Failed
+    print(writer, fault.line(), Ending::Failed(fault))
 }
 
 /// What `books` prints for the script of a reader.
 fn run<R: Read>(alloc: Global, reader: &mut R) -> Result<Output, ProgramFault>
     ensures output { IfSome (R.remaining reader.old) (λ bytes. IfOk result (λ output.
         (string_bytes output.text ≡ (outcome_of bytes).text) × (output.ending ≡ (outcome_of bytes).ending))) }
+    ensures ending { IfOk result (λ output. IsNoFailure output.ending) }
     ensures bounded { ConsumesAtMost (max_bytes + 1) (R.remaining reader.old) (R.remaining reader.new) }
 {
     match read_script(alloc, reader) {

@@ -169,7 +169,7 @@ impl Draft {
     }
 
     /// Ends the open batch, if there is one.
-    fn close(&mut self) -> Result<(), AllocError>
+    pub fn close(&mut self) -> Result<(), AllocError>
         ensures others { IfOk result (λ u. self.new ≡ record self.old { open_batch = joined.Closed; batches = self.new.batches }) }
         ensures batches { IfOk result (λ u. self.new.batches.items ≡
             self.old.batches.items ++ completed_batch self.old.client self.old.open_batch []) }

@@ -2,6 +2,7 @@
 
 ghost use Rattle.std.specs.Prelude.{◌≡◌};
 ghost use Rattle.cdc_app.specs.Faults.{kind_number, kind_name};
+ghost use Rattle.cdc_app.specs.Report.{program_fault_line};
 
 use std::alloc::AllocError;
 use thiserror::Error;
@@ -106,7 +107,7 @@ pub enum ProgramFault {
     /// A read failed, or a file can't be opened.
     #[error("read_fault")]
     ReadFault,
-    /// A write failed.
+    /// A write failed. Nothing is written after it.
     #[error("write_fault")]
     WriteFault,
     /// No memory was left.
@@ -116,7 +117,9 @@ pub enum ProgramFault {
 
 impl ProgramFault {
     /// The line that is printed last.
-    pub fn line(self) -> &'static str {
+    pub fn line(self) -> &'static str
+        ensures { result.now ≡ program_fault_line self }
+    {
         match self {
             ProgramFault::ReadFault => "fault: read_fault\n",
             ProgramFault::WriteFault => "fault: write_fault\n",
@@ -126,6 +129,10 @@ impl ProgramFault {
 }
 
 impl From<AllocError> for ProgramFault {
+    ghost use Rattle.cdc_app.specs.declared.faults.ProgramFault.TheVariants.{OutOfMemory};
+
+    ghost from_gives = { λ _ e. e ≡ OutOfMemory };
+
     fn from(_error: AllocError) -> ProgramFault {
         ProgramFault::OutOfMemory
     }

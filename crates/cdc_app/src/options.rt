@@ -1,5 +1,8 @@
 //! The words of the command line.
 
+ghost use Rattle.std.specs.Prelude.{◌≡◌, length, codes, IsOkAnd};
+ghost use Rattle.cdc_app.specs.Options.{file_of};
+
 use clap::error::ErrorKind;
 use clap::{Arg, ArgAction, Command, Error};
 use std::alloc::{AllocError, Global};
@@ -22,11 +25,13 @@ pub enum OptionsFault {
     OutOfMemory,
 }
 
-/// The words of the program, without its own name.
+/// The name of standard input as a file.
 const STANDARD_INPUT: &str = "-";
 
 /// What the words of the program ask for, its own name not being one. Without words it is `books -`.
-pub fn options<'a>(alloc: Global, words: &'a [&'a str]) -> Result<Action<'a>, OptionsFault> {
+pub fn options<'a>(alloc: Global, words: &'a [&'a str]) -> Result<Action<'a>, OptionsFault>
+    ensures none { length words.entry.now ≡ 0 → IsOkAnd result (λ action. file_of action ≡ codes "-") }
+{
     if words.is_empty() {
         return Ok(Action::Books {
             file: STANDARD_INPUT,

@@ -1,6 +1,7 @@
 //! Whole runs: scripts, what is printed, and how the command ends.
 
 use crate::books::{Ending, books};
+use crate::faults::ProgramFault;
 use crate::options::{Action, OptionsFault, options};
 use std::alloc::{AllocError, Global};
 use std::io;
@@ -307,7 +308,7 @@ fn a_read_that_fails(rt: HostRuntime) {
     let mut printed = Vec::new(rt.alloc());
     let ending = books(rt.alloc(), &mut reader, &mut printed);
     assert_eq!(rt; printed.as_slice(), b"fault: read_fault\n".as_slice());
-    assert_eq!(rt; ending, Ending::Failed);
+    assert_eq!(rt; ending, Ending::Failed(ProgramFault::ReadFault));
     assert_eq!(rt; reader.reads, 2);
 }
 
@@ -342,7 +343,7 @@ fn a_write_that_fails(rt: HostRuntime) {
     };
     let mut script = b"subscriber all\n".as_slice();
     let ending = books(rt.alloc(), &mut script, &mut writer);
-    assert_eq!(rt; ending, Ending::Failed);
+    assert_eq!(rt; ending, Ending::Failed(ProgramFault::WriteFault));
     assert_eq!(rt; writer.writes, 2);
     assert_eq!(rt; writer.taken, 8);
 }

@@ -1,4 +1,4 @@
-use Rattle.std.proofs.Common.{◌≡◌, ◌∙◌, ◌++◌, ◌∷◌, [], sym, ap, take, Some, None, arith}
+use Rattle.std.proofs.Common.{◌≡◌, ◌∙◌, ◌++◌, ◌∷◌, [], sym, ap, take, Some, arith}
 use Rattle.std.specs.List.{slice_get}
 use Rattle.cdc_app.specs.Book.{book_of}
 use Rattle.cdc_app.proofs.BookLemmas.{take_found, found_within}

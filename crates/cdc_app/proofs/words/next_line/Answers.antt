@@ -1,5 +1,5 @@
 use Rattle.cdc_app.proofs.WordLemmas.{lines_of_first, lines_of_one}
-use Rattle.std.proofs.Common.{◌∙◌, sym, rules}
+use Rattle.std.proofs.Common.{◌∙◌, sym}
 use Rattle.cdc_app.proofs.words.next_line.Goals as goal
 
 pub returns-in-Some-clause-line : goal.returns-in-Some-clause-line

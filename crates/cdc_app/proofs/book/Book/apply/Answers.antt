@@ -1,5 +1,4 @@
-use Rattle.std.proofs.Common.{◌∙◌, sym, ap}
-use Rattle.cdc_app.specs.Book.{put, entry_of}
+use Rattle.std.proofs.Common.{sym}
 use Rattle.cdc_app.proofs.BookLemmas.{book_of-push}
 use Rattle.cdc_app.proofs.book.Book.apply.Goals as goal
 
