@@ -12,34 +12,58 @@ use cdc_types::{NewAccount, NewTransfer};
 /// What a line says of an item: the fields of accounts and of transfers, each 0 where the line doesn't give it.
 #[derive(Clone, Copy, Debug, PartialEq, Eq)]
 pub struct Fields {
+    /// The account's or transfer's number.
     pub id: u128,
+    /// The account that is debited.
     pub debit_account_id: u128,
+    /// The account that is credited.
     pub credit_account_id: u128,
+    /// How much is moved.
     pub amount: u128,
+    /// The pending transfer that is posted or voided.
     pub pending_id: u128,
+    /// The client's own.
     pub user_data_128: u128,
+    /// The client's own.
     pub user_data_64: u64,
+    /// The client's own.
     pub user_data_32: u32,
+    /// How many seconds a pending transfer stands.
     pub timeout: u32,
+    /// The ledger.
     pub ledger: u32,
+    /// The client's kind of account or transfer.
     pub code: u16,
+    /// Bits of `AccountFlags` or `TransferFlags`.
     pub flags: u16,
 }
 
 /// The name of a field.
 #[derive(Clone, Copy, Debug, PartialEq, Eq)]
 pub enum Key {
+    /// `id`.
     Id,
+    /// `debit_account_id`.
     DebitAccountId,
+    /// `credit_account_id`.
     CreditAccountId,
+    /// `amount`.
     Amount,
+    /// `pending_id`.
     PendingId,
+    /// `user_data_128`.
     UserData128,
+    /// `user_data_64`.
     UserData64,
+    /// `user_data_32`.
     UserData32,
+    /// `timeout`.
     Timeout,
+    /// `ledger`.
     Ledger,
+    /// `code`.
     Code,
+    /// `flags`.
     Flags,
 }
 

@@ -1,7 +1,7 @@
 //! The words of the command line.
 
 ghost use Rattle.std.specs.Prelude.{◌≡◌, length, codes, IsOkAnd};
-ghost use Rattle.cdc_app.specs.Options.{file_of};
+ghost use Rattle.cdc_app.specs.Options.{file_of, options_fault_number, options_fault_name};
 
 use clap::error::ErrorKind;
 use clap::{Arg, ArgAction, Command, Error};
@@ -23,6 +23,25 @@ pub enum OptionsFault {
     /// No memory was left.
     #[error("out of memory")]
     OutOfMemory,
+}
+
+impl OptionsFault {
+    /// The fault's number, from 1.
+    pub fn number(self) -> u8
+        ensures { result ≡ options_fault_number self }
+    {
+        self as u8 + 1
+    }
+
+    /// The fault's name.
+    pub fn name(self) -> &'static str
+        ensures { result.now ≡ options_fault_name self }
+    {
+        match self {
+            OptionsFault::BadWords => "bad_words",
+            OptionsFault::OutOfMemory => "out_of_memory",
+        }
+    }
 }
 
 /// The name of standard input as a file.

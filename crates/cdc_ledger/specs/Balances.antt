@@ -7,7 +7,7 @@ use Rattle.cdc_types.specs.declared.transfers.Transfer.{Transfer}
 use Rattle.cdc_ledger.specs.History.{History}
 use Rattle.cdc_ledger.specs.Kinds.{holds, moves, posts, voids, expires}
 
--- the entry posts, voids or expires the pending transfer p
+-- the entry is a post, a void or the expiry of the pending transfer p
 abbrev pub resolves : Transfer → Entry → Bool
 resolves p e = posts e.kind e.transfer p || voids e.kind e.transfer p || expires e.kind e.transfer p
 

@@ -47,7 +47,8 @@ after_transfer h r t verdict = record h {
   last = t;
 }
 
--- the answers to requests for accounts from the moment t on, each on the history so far, and the history after them
+-- the answers to requests for accounts from the moment t on, each judged by what those before it left, and the
+-- history after them
 abbrev pub accounts_from : Features → History → ℕ → List NewAccount → List AccountResult × History
 accounts_from offered h t [] = ([], h)
 accounts_from offered h t (a ∷ rest) =
