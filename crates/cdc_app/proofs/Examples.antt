@@ -11,13 +11,14 @@ use Rattle.cdc_types.specs.declared.events.EventKind.TheVariants.{SinglePhase}
 use Rattle.cdc_types.specs.declared.results.TransferResult.TheVariants.{Accepted, OverflowsDebitsPosted}
 use Rattle.cdc_ledger.specs.declared.errors.BatchError.TheVariants.{BatchTooLarge}
 use Rattle.cdc_app.specs.declared.book.BookEntry.{BookEntry}
-use Rattle.cdc_app.specs.declared.books.Ending.TheVariants.{Done, Refused}
+use Rattle.cdc_app.specs.declared.endings.Ending.TheVariants.{Done, BadScript}
 use Rattle.cdc_app.specs.declared.faults.FaultKind.{FaultKind}
 use Rattle.cdc_app.specs.declared.faults.FaultKind.TheVariants as kind
 use Rattle.cdc_app.specs.declared.faults.ScriptFault.{ScriptFault}
 use Rattle.cdc_app.specs.declared.scripts.Script.{Script}
 use Rattle.cdc_app.specs.Book.{book_of}
 use Rattle.cdc_app.specs.Printed.{outcome_of}
+use Rattle.cdc_app.specs.declared.commands.Report.TheVariants.{Book, Messages}
 use Rattle.cdc_app.specs.Report.{batch_line, subscriber_lines}
 use Rattle.cdc_app.specs.Scripts.{script_of}
 
@@ -122,7 +123,7 @@ unfolding digits
 prints_subscriber = refl
 
 -- from bytes to bytes: one transfer
-prints_transfer : outcome_of (codes "subscriber all\naccounts 1000\naccount id=1 ledger=700 code=10\naccount id=2 ledger=700 code=10\ntransfers 2000\ntransfer id=1 debit_account_id=1 credit_account_id=2 amount=100 ledger=700 code=1\n")
+prints_transfer : outcome_of Book (codes "subscriber all\naccounts 1000\naccount id=1 ledger=700 code=10\naccount id=2 ledger=700 code=10\ntransfers 2000\ntransfer id=1 debit_account_id=1 credit_account_id=2 amount=100 ledger=700 code=1\n")
     ≡ record {
       text = codes "batch 1: 0 0\nbatch 2: 0\nsubscriber 1 applied 1 last 2000 ended yes closed no\naccount 1 0 100 0 0\naccount 2 0 0 0 100\n";
       ending = Done;
@@ -131,6 +132,6 @@ unfolding digits
 prints_transfer = refl
 
 -- from bytes to bytes: a bad script
-prints_fault : outcome_of (codes "subscriber all\naccounts x") ≡ record { text = codes "fault: script line 2: bad_number\n"; ending = Refused }
+prints_fault : outcome_of Book (codes "subscriber all\naccounts x") ≡ record { text = codes "fault: script line 2: bad_number\n"; ending = BadScript (record { line = 2; kind = kind.BadNumber }) }
 unfolding digits
 prints_fault = refl

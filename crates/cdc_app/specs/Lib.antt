@@ -3,6 +3,7 @@ pub mod Drafts
 pub mod Faults
 pub mod Fields
 pub mod Held
+pub mod Messages
 pub mod Numbers
 pub mod Options
 pub mod Parts

@@ -1,18 +1,22 @@
--- All that `books` prints for a script.
-use Rattle.std.specs.Prelude.{◌≡◌, ℕ, ◌+◌, true, List, [], ◌∷◌, ◌++◌, map, Option, IfSome, Result, Ok, Err}
+-- All that a command prints for a script.
+use Rattle.std.specs.Prelude.{◌≡◌, ◌⊎◌, ℕ, ◌+◌, true, List, [], ◌∷◌, ◌++◌, map, Option, IfSome, Result, Ok, Err}
 use Rattle.std.specs.Io.KnownBytes.{Appends}
+use Rattle.std.specs.List.{flat_map}
 use Rattle.cdc_types.specs.declared.batches.BatchResults.{BatchResults}
 use Rattle.cdc_types.specs.Features.{features}
 use Rattle.cdc_ledger.specs.declared.errors.BatchError.{BatchError}
 use Rattle.cdc_ledger.specs.Events.{events}
 use Rattle.cdc_ledger.specs.History.{History, empty_history}
 use Rattle.cdc_ledger.specs.Submit.{submit, history_or, after_batches}
-use Rattle.cdc_app.specs.declared.books.Ending.{Ending}
-use Rattle.cdc_app.specs.declared.books.Ending.TheVariants.{Done, Failed, Refused}
+use Rattle.cdc_app.specs.declared.commands.Report.{Report}
+use Rattle.cdc_app.specs.declared.commands.Report.TheVariants.{Book, Messages}
+use Rattle.cdc_app.specs.declared.endings.Ending.{Ending}
+use Rattle.cdc_app.specs.declared.endings.Ending.TheVariants.{Done, Failed, BadScript, BadWords}
 use Rattle.cdc_app.specs.declared.faults.ProgramFault.TheVariants as fault
 use Rattle.cdc_app.specs.declared.faults.ScriptFault.{ScriptFault}
 use Rattle.cdc_app.specs.declared.scripts.ClientBatch.{ClientBatch}
 use Rattle.cdc_app.specs.declared.scripts.Script.{Script}
+use Rattle.cdc_app.specs.Messages.{message_lines}
 use Rattle.cdc_app.specs.Report.{batch_line, subscriber_lines, script_fault_line, program_fault_line}
 use Rattle.cdc_app.specs.Scripts.{script_of}
 
@@ -35,21 +39,32 @@ history_after h batches = after_batches features h (map (λ b. b.batch) batches)
 abbrev pub history_of : Script → History
 history_of script = record (history_after empty_history script.batches) { closed = true }
 
--- what a script prints: the lines of its batches, and then those of a subscriber that has taken all events and the end
-abbrev pub printed : Script → List ℕ
-printed script = batch_lines 1 empty_history script.batches ++ subscriber_lines 1 (events (history_of script))
+-- what `books` prints: the lines of the batches, and then those of a subscriber that has taken all events and the end
+abbrev pub printed_book : Script → List ℕ
+printed_book script = batch_lines 1 empty_history script.batches ++ subscriber_lines 1 (events (history_of script))
+
+-- what `messages` prints: the lines of each event
+abbrev pub printed_messages : Script → List ℕ
+printed_messages script = flat_map message_lines (events (history_of script))
+
+-- what is printed of a script
+abbrev pub printed : Report → Script → List ℕ
+printed Book script = printed_book script
+printed Messages script = printed_messages script
 
 -- the exit status of a command that ends so
 abbrev pub status_of : Ending → ℕ
 status_of Done = 0
 status_of (Failed why) = 1
-status_of Refused = 2
+status_of (BadScript at) = 2
+status_of BadWords = 2
 
 -- the command didn't give up
 abbrev pub IsNoFailure : Ending → Type 0
 IsNoFailure Done = Unit {0}
 IsNoFailure (Failed why) = ⊥
-IsNoFailure Refused = Unit {0}
+IsNoFailure (BadScript at) = Unit {0}
+IsNoFailure BadWords = ⊥
 
 -- what is printed, and how the command ends
 pub record Outcome : Type 0 where
@@ -57,19 +72,30 @@ pub record Outcome : Type 0 where
   pub ending : Ending
 
 -- what a script that is read, or its fault, makes of the command
-abbrev pub outcome : Result Script ScriptFault → Outcome
-outcome (Ok script) = record { text = printed script; ending = Done }
-outcome (Err fault) = record { text = script_fault_line fault; ending = Refused }
+abbrev pub outcome : Report → Result Script ScriptFault → Outcome
+outcome report (Ok script) = record { text = printed report script; ending = Done }
+outcome report (Err at) = record { text = script_fault_line at; ending = BadScript at }
 
 -- what the command makes of the bytes that it reads
-abbrev pub outcome_of : List ℕ → Outcome
-outcome_of bytes = outcome (script_of bytes)
+abbrev pub outcome_of : Report → List ℕ → Outcome
+outcome_of report bytes = outcome report (script_of bytes)
 
 -- what is written by a command that ends so, of which the bytes of the script are known or not
-abbrev pub Writes : Option (List ℕ) → Option (List ℕ) → Option (List ℕ) → Ending → Type 0
-Writes script old new Done = IfSome script (λ bytes. Appends old new (outcome_of bytes).text × ((outcome_of bytes).ending ≡ Done))
-Writes script old new Refused =
-    IfSome script (λ bytes. Appends old new (outcome_of bytes).text × ((outcome_of bytes).ending ≡ Refused))
-Writes script old new (Failed fault.ReadFault) = Appends old new (program_fault_line fault.ReadFault)
-Writes script old new (Failed fault.OutOfMemory) = Appends old new (program_fault_line fault.OutOfMemory)
-Writes script old new (Failed fault.WriteFault) = Unit {0}
+abbrev pub Writes : Report → Option (List ℕ) → Option (List ℕ) → Option (List ℕ) → Ending → Type 0
+Writes report script old new Done = IfSome script (λ bytes.
+    Appends old new (outcome_of report bytes).text × ((outcome_of report bytes).ending ≡ Done))
+Writes report script old new (BadScript at) = IfSome script (λ bytes.
+    Appends old new (outcome_of report bytes).text × ((outcome_of report bytes).ending ≡ BadScript at))
+Writes report script old new (Failed (fault.ReadFault why)) = Appends old new (program_fault_line (fault.ReadFault why))
+Writes report script old new (Failed fault.OutOfMemory) = Appends old new (program_fault_line fault.OutOfMemory)
+Writes report script old new (Failed (fault.WriteFault why)) = Unit {0}
+Writes report script old new BadWords = ⊥
+
+-- a write failed
+abbrev pub IsWriteFault : Ending → Type 0
+IsWriteFault (Failed (fault.WriteFault why)) = Unit {0}
+IsWriteFault _ = ⊥
+
+-- the text was written and the command ends as it was to, or a write failed
+abbrev pub IsPrinted : Option (List ℕ) → Option (List ℕ) → List ℕ → Ending → Ending → Type 0
+IsPrinted old new text wished ending = IsWriteFault ending ⊎ ((ending ≡ wished) × Appends old new text)

@@ -8,13 +8,13 @@ use Rattle.cdc_app.specs.declared.faults.ScriptFault.{ScriptFault}
 -- a fault that is named is the first one; want of memory and a failed read say nothing of the script
 abbrev pub IsFault : {A : Type 0} → ScriptError → Result A ScriptFault → Type 0
 IsFault (error.Fault fault) read = read ≡ Err fault
-IsFault error.ReadFault read = Unit {0}
+IsFault (error.ReadFault why) read = Unit {0}
 IsFault error.OutOfMemory read = Unit {0}
 
 -- the script isn't to blame
 abbrev pub IsNoFault : ScriptError → Type 0
 IsNoFault (error.Fault fault) = ⊥
-IsNoFault error.ReadFault = Unit {0}
+IsNoFault (error.ReadFault why) = Unit {0}
 IsNoFault error.OutOfMemory = Unit {0}
 
 -- known bytes lose at most so many at their front

@@ -57,6 +57,6 @@ script_fault_line at = codes "fault: script line" ++ (spaced at.line ++ (codes "
 
 -- the line of a command that gave up
 abbrev pub program_fault_line : ProgramFault → List ℕ
-program_fault_line fault.ReadFault = codes "fault: read_fault\n"
-program_fault_line fault.WriteFault = codes "fault: write_fault\n"
+program_fault_line (fault.ReadFault why) = codes "fault: read_fault\n"
+program_fault_line (fault.WriteFault why) = codes "fault: write_fault\n"
 program_fault_line fault.OutOfMemory = codes "fault: out_of_memory\n"

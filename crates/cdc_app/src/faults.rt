@@ -5,6 +5,7 @@ ghost use Rattle.cdc_app.specs.Faults.{kind_number, kind_name};
 ghost use Rattle.cdc_app.specs.Report.{program_fault_line};
 
 use std::alloc::AllocError;
+use std::io;
 use thiserror::Error;
 
 /// What is wrong at a place of a script.
@@ -84,8 +85,8 @@ pub enum ScriptError {
     #[error("line {}: {}", .0.line, .0.kind.name())]
     Fault(ScriptFault),
     /// A read failed.
-    #[error("read_fault")]
-    ReadFault,
+    #[error("read_fault: {0}")]
+    ReadFault(io::Error),
     /// No memory was left.
     #[error("out_of_memory")]
     OutOfMemory,
@@ -102,14 +103,14 @@ impl From<AllocError> for ScriptError {
 }
 
 /// Why a command gave up.
-#[derive(Clone, Copy, Debug, PartialEq, Eq, Error)]
+#[derive(Clone, Copy, Debug, Error)]
 pub enum ProgramFault {
     /// A read failed, or a file can't be opened.
-    #[error("read_fault")]
-    ReadFault,
+    #[error("read_fault: {0}")]
+    ReadFault(io::Error),
     /// A write failed. Nothing is written after it.
-    #[error("write_fault")]
-    WriteFault,
+    #[error("write_fault: {0}")]
+    WriteFault(io::Error),
     /// No memory was left.
     #[error("out_of_memory")]
     OutOfMemory,
@@ -121,8 +122,8 @@ impl ProgramFault {
         ensures { result.now ≡ program_fault_line self }
     {
         match self {
-            ProgramFault::ReadFault => "fault: read_fault\n",
-            ProgramFault::WriteFault => "fault: write_fault\n",
+            ProgramFault::ReadFault(_) => "fault: read_fault\n",
+            ProgramFault::WriteFault(_) => "fault: write_fault\n",
             ProgramFault::OutOfMemory => "fault: out_of_memory\n",
         }
     }

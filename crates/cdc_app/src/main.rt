@@ -1,11 +1,17 @@
-//! The program: a script in, the report of its ledger and of a subscriber's book out.
+//! The program: a script in, and a report of its ledger, its messages or a subscriber's book out.
 #![tactic(auto)]
 
+mod advice;
+mod batches;
 mod book;
 mod books;
+mod command_line;
+mod commands;
 mod drafts;
+mod endings;
 mod faults;
 mod fields;
+mod messages;
 mod numbers;
 mod options;
 mod report;
@@ -15,22 +21,24 @@ mod statements;
 mod tests;
 mod words;
 
-use books::{Ending, books, print_fault};
+use advice::advise;
+use commands::{Report, books, messages, print_fault, print_text};
+use endings::Ending;
 use faults::ProgramFault;
-use options::{Action, OptionsFault, options};
+use options::{Options, OptionsFault, STANDARD_INPUT, options};
 use std::alloc::AllocError;
 use std::fs::File;
+use std::io::Read;
 use std::process::ExitCode;
 use std::{env, io};
-
-/// What standard error says of words that no command has.
-const USAGE: &str = "usage: relayplum books FILE";
 
 fn main(rt: HostRuntime) -> ExitCode {
     let ending = match words_of(&rt) {
         Ok(words) => run_words(&rt, words.as_slice()),
-        Err(error) if error.kind() == io::ErrorKind::InvalidData => refuse_words(&rt),
-        Err(_) => print_fault(&mut io::writer(&rt), ProgramFault::OutOfMemory),
+        Err(error) if error.kind() == io::ErrorKind::InvalidData => {
+            refuse_words(&rt, "error: a word is no UTF-8 text\n")
+        }
+        Err(_) => give_up(&rt, ProgramFault::OutOfMemory),
     };
     ExitCode::from(ending.status())
 }
@@ -48,31 +56,56 @@ fn run_words(rt: &HostRuntime, words: &[String]) -> Ending {
         .map(|word| word.as_str())
         .collect(rt.alloc());
     let Ok(texts) = texts else {
-        return print_fault(&mut io::writer(rt), ProgramFault::OutOfMemory);
+        return give_up(rt, ProgramFault::OutOfMemory);
     };
     match options(rt.alloc(), texts.as_slice()) {
-        Ok(Action::Books { file }) => run_books(rt, file),
-        Err(OptionsFault::BadWords) => refuse_words(rt),
-        Err(OptionsFault::OutOfMemory) => {
-            print_fault(&mut io::writer(rt), ProgramFault::OutOfMemory)
+        Ok(Options::Books { file }) => run_file(rt, Report::Book, file),
+        Ok(Options::Messages { file }) => run_file(rt, Report::Messages, file),
+        Ok(Options::Explain { text }) => explain(rt, text.as_str()),
+        Err(OptionsFault::BadWords { message }) => refuse_words(rt, message.as_str()),
+        Err(OptionsFault::OutOfMemory) => give_up(rt, ProgramFault::OutOfMemory),
+    }
+}
+
+/// Runs a command over a file, or over standard input, and says on standard error why it gave up.
+fn run_file(rt: &HostRuntime, report: Report, file: &str) -> Ending {
+    let ending = if file == STANDARD_INPUT {
+        run_reader(rt, report, &mut rt.reader())
+    } else {
+        match File::open(rt, file) {
+            Ok(mut script) => run_reader(rt, report, &mut script),
+            Err(error) => print_fault(&mut io::writer(rt), ProgramFault::ReadFault(error)),
         }
-    }
+    };
+    advise(rt, file, ending);
+    ending
 }
 
-/// Says on standard error which words there are.
-fn refuse_words(rt: &HostRuntime) -> Ending {
-    let _ = eprintln!(rt; "{USAGE}");
-    Ending::Refused
-}
-
-/// Runs `books` over a file, or over standard input.
-fn run_books(rt: &HostRuntime, file: &str) -> Ending {
+/// Runs a command over the bytes of a script.
+fn run_reader<R: Read>(rt: &HostRuntime, report: Report, reader: &mut R) -> Ending {
     let mut writer = io::writer(rt);
-    if file == "-" {
-        return books(rt.alloc(), &mut rt.reader(), &mut writer);
+    match report {
+        Report::Book => books(rt.alloc(), reader, &mut writer),
+        Report::Messages => messages(rt.alloc(), reader, &mut writer),
     }
-    match File::open(rt, file) {
-        Ok(mut script) => books(rt.alloc(), &mut script, &mut writer),
-        Err(_) => print_fault(&mut writer, ProgramFault::ReadFault),
-    }
+}
+
+/// Prints what was asked about the program itself.
+fn explain(rt: &HostRuntime, text: &str) -> Ending {
+    let ending = print_text(&mut io::writer(rt), text, Ending::Done);
+    advise(rt, STANDARD_INPUT, ending);
+    ending
+}
+
+/// Prints the fault of a command that didn't come as far as a file.
+fn give_up(rt: &HostRuntime, fault: ProgramFault) -> Ending {
+    let ending = print_fault(&mut io::writer(rt), fault);
+    advise(rt, STANDARD_INPUT, ending);
+    ending
+}
+
+/// Says on standard error what is wrong with the words.
+fn refuse_words(rt: &HostRuntime, message: &str) -> Ending {
+    let _ = eprint!(rt; "{message}");
+    Ending::BadWords
 }

@@ -1,81 +1,106 @@
 //! The words of the command line.
 
 ghost use Rattle.std.specs.Prelude.{◌≡◌, length, codes, IsOkAnd};
-ghost use Rattle.cdc_app.specs.Options.{file_of, options_fault_number, options_fault_name};
+ghost use Rattle.cdc_app.specs.Options.{IsBooks};
 
 use clap::error::ErrorKind;
-use clap::{Arg, ArgAction, Command, Error};
-use std::alloc::{AllocError, Global};
+use clap::{Arg, ArgAction, ArgMatches, Command, Error};
+use std::alloc::Global;
 
-/// What the words ask for.
-#[derive(Clone, Copy, Debug, PartialEq, Eq)]
-pub enum Action<'a> {
-    /// The report of a script, from this file; `-` is standard input.
-    Books { file: &'a str },
-}
-
-/// Why words ask for nothing.
-#[derive(Clone, Copy, Debug, PartialEq, Eq, thiserror::Error)]
-pub enum OptionsFault {
-    /// No command has such words.
-    #[error("no command has such words")]
-    BadWords,
-    /// No memory was left.
-    #[error("out of memory")]
-    OutOfMemory,
-}
-
-impl OptionsFault {
-    /// The fault's number, from 1.
-    pub fn number(self) -> u8
-        ensures { result ≡ options_fault_number self }
-    {
-        self as u8 + 1
-    }
-
-    /// The fault's name.
-    pub fn name(self) -> &'static str
-        ensures { result.now ≡ options_fault_name self }
-    {
-        match self {
-            OptionsFault::BadWords => "bad_words",
-            OptionsFault::OutOfMemory => "out_of_memory",
-        }
-    }
-}
+pub use crate::command_line::{Options, OptionsFault};
 
 /// The name of standard input as a file.
-const STANDARD_INPUT: &str = "-";
+pub const STANDARD_INPUT: &str = "-";
+
+/// What the program is for.
+const ABOUT: &str = "Change data capture: a script's batches go to a double-entry ledger, and its events are reported";
+
+/// What else a newcomer has to know.
+const MORE: &str = "\
+FILE is a script, and - is standard input. Without words the program acts as `books -`.
+
+A script is a text of lines:
+  subscriber all
+  accounts 1000
+  account id=1 ledger=700 code=10
+  account id=2 ledger=700 code=10
+  transfers 2000
+  transfer id=1 debit_account_id=1 credit_account_id=2 amount=100 ledger=700 code=1
+
+Example:
+  relayplum books examples/first-transfer.script
+
+Exit status:
+  0  all was done
+  1  a read, a write or memory failed: the last line of standard output names the fault
+  2  the words or the script are bad: standard error says what was expected, and where";
 
 /// What the words of the program ask for, its own name not being one. Without words it is `books -`.
-pub fn options<'a>(alloc: Global, words: &'a [&'a str]) -> Result<Action<'a>, OptionsFault>
-    ensures none { length words.entry.now ≡ 0 → IsOkAnd result (λ action. file_of action ≡ codes "-") }
+pub fn options<'a>(alloc: Global, words: &'a [&'a str]) -> Result<Options<'a>, OptionsFault>
+    ensures none { length words.entry.now ≡ 0 → IsOkAnd result (IsBooks (codes "-")) }
 {
     if words.is_empty() {
-        return Ok(Action::Books {
+        return Ok(Options::Books {
             file: STANDARD_INPUT,
         });
     }
-    match file_of(alloc, words) {
-        Ok(Some(file)) => Ok(Action::Books { file }),
-        Ok(None) => Err(OptionsFault::BadWords),
-        Err(error) if error.kind() == ErrorKind::OutOfMemory => Err(OptionsFault::OutOfMemory),
-        Err(_) => Err(OptionsFault::BadWords),
+    match read_words(alloc, words) {
+        Ok(matches) => asked_by(alloc, &matches),
+        Err(error) => answer_to(alloc, &error),
     }
 }
 
-/// The file of `books FILE`.
-fn file_of<'a>(alloc: Global, words: &'a [&'a str]) -> Result<Option<&'a str>, Error> {
-    let file = Arg::new(alloc, "FILE")
-        .required(true)
-        .action(ArgAction::Set);
-    let books = Command::new(alloc, "books").arg(file)?;
+/// What clap makes of the words.
+fn read_words<'a>(alloc: Global, words: &'a [&'a str]) -> Result<ArgMatches<'a>, Error> {
+    let books = Command::new(alloc, "books")
+        .about("Print the results of a script's batches and the book of a subscriber of all events")
+        .after_help(MORE)
+        .arg(script_argument(alloc))?;
+    let messages = Command::new(alloc, "messages")
+        .about("Print two lines for each event of a script: what its message is routed by, and its JSON body")
+        .after_help(MORE)
+        .arg(script_argument(alloc))?;
     let program = Command::new(alloc, "relayplum")
         .no_binary_name(true)
-        .subcommand(books)?;
-    let matches = program.try_get_matches_from(words)?;
-    match matches.subcommand() {
-        Some((_, of_books)) => Ok(of_books.get_str("FILE")),
-        None => Ok(None),
+        .version("0.1.0")
+        .about(ABOUT)
+        .after_help(MORE)
+        .subcommand_required(true)
+        .subcommand(books)?
+        .subcommand(messages)?;
+    program.try_get_matches_from(words)
+}
+
+/// The file of a script.
+fn script_argument<'a>(alloc: Global) -> Arg<'a> {
+    Arg::new(alloc, "FILE")
+        .required(true)
+        .action(ArgAction::Set)
+        .help("The script; - is standard input")
+}
+
+/// The command that the words name, with its file.
+fn asked_by<'a>(alloc: Global, matches: &ArgMatches<'a>) -> Result<Options<'a>, OptionsFault> {
+    if let Some((command, arguments)) = matches.subcommand() {
+        match (command, arguments.get_str("FILE")) {
+            ("books", Some(file)) => return Ok(Options::Books { file }),
+            ("messages", Some(file)) => return Ok(Options::Messages { file }),
+            _ => {}
+        }
+    }
+    let message = String::from_str(alloc, "error: no command has such words\n")?;
+    Err(OptionsFault::BadWords { message })
+}
+
+/// What clap answers where it finds no command: help or the version, where the words ask for it, or what is wrong.
+fn answer_to<'a>(alloc: Global, error: &Error) -> Result<Options<'a>, OptionsFault> {
+    if error.kind() == ErrorKind::OutOfMemory {
+        return Err(OptionsFault::OutOfMemory);
+    }
+    let text = error.to_string(alloc)?;
+    if error.use_stderr() {
+        Err(OptionsFault::BadWords { message: text })
+    } else {
+        Ok(Options::Explain { text })
     }
 }

@@ -13,7 +13,7 @@ use itoa::{Buffer, Integer};
 use std::alloc::AllocError;
 
 /// Writes a number in decimal digits.
-fn push_number<I: Integer>(text: &mut String, number: I) -> Result<(), AllocError>
+pub fn push_number<I: Integer>(text: &mut String, number: I) -> Result<(), AllocError>
     ensures { OnOk result (string_bytes text.new ≡ string_bytes text.old ++ I.text number) }
 {
     let mut buffer = Buffer::new();

@@ -45,8 +45,9 @@ fn read_text<R: Read>(alloc: Global, reader: &mut R) -> Result<Vec<u8>, ScriptEr
     let mut piece = [0u8; PIECE];
     while text.len() <= Limits::SCRIPT_BYTES {
         let room = (Limits::SCRIPT_BYTES + 1 - text.len()).min(PIECE);
-        let Ok(count) = reader.read(&mut piece[..room]) else {
-            return Err(ScriptError::ReadFault);
+        let count = match reader.read(&mut piece[..room]) {
+            Ok(count) => count,
+            Err(error) => return Err(ScriptError::ReadFault(error)),
         };
         if count == 0 {
             return Ok(text);

@@ -1,11 +1,11 @@
 use Rattle.std.proofs.Common.{◌≡◌, ◌+◌, ◌++◌, drop}
 use Rattle.std.specs.Prelude.{string_bytes}
 use Rattle.cdc_app.specs.Printed.{batch_lines, history_after}
-use Rattle.cdc_app.proofs.books.push_batches.Given as goal
+use Rattle.cdc_app.proofs.batches.push_batches.Given as goal
 
 abbrev pub invariant-loop-place : goal.invariant-loop-place
 invariant-loop-place l = record {
-  text : string_bytes l.text ++ batch_lines (l.place + 1) l.ledger (drop l.place l.batches)
-      ≡ string_bytes l.initial.text ++ batch_lines 1 l.initial.ledger l.batches;
+  lines : string_bytes l.lines ++ batch_lines (l.place + 1) l.ledger (drop l.place l.batches)
+      ≡ string_bytes l.initial.lines ++ batch_lines 1 l.initial.ledger l.batches;
   history : history_after l.ledger (drop l.place l.batches) ≡ history_after l.initial.ledger l.batches;
 }

@@ -1,0 +1,79 @@
+//! What standard error says to a person, beside the fault's line on standard output.
+
+use crate::endings::Ending;
+use crate::faults::{FaultKind, ProgramFault, ScriptFault};
+use crate::options::STANDARD_INPUT;
+use std::io;
+
+/// Says why a command over a file gave up or refused the file's script: the place, the fault's name, and what was
+/// expected or what the system said. Where that can't be said the exit status still tells.
+pub fn advise(rt: &HostRuntime, file: &str, ending: Ending) {
+    let _ = advice(rt, shown_name(file), ending);
+}
+
+/// A file as it is named to a person.
+fn shown_name(file: &str) -> &str {
+    if file == STANDARD_INPUT {
+        "standard input"
+    } else {
+        file
+    }
+}
+
+/// One line, or nothing after a command that did all that was asked.
+fn advice(rt: &HostRuntime, place: &str, ending: Ending) -> io::Result<()> {
+    match ending {
+        Ending::Done | Ending::BadWords => Ok(()),
+        Ending::BadScript(fault) => advice_on_script(rt, place, fault),
+        Ending::Failed(ProgramFault::ReadFault(error)) => eprintln!(rt; "{place}: read_fault: {error}"),
+        Ending::Failed(ProgramFault::WriteFault(error)) => {
+            eprintln!(rt; "standard output: write_fault: {error}")
+        }
+        Ending::Failed(ProgramFault::OutOfMemory) => {
+            eprintln!(rt; "relayplum: out_of_memory: no memory was left")
+        }
+    }
+}
+
+/// The place and the name of a script's fault, and what was expected there.
+fn advice_on_script(rt: &HostRuntime, place: &str, fault: ScriptFault) -> io::Result<()> {
+    let ScriptFault { line, kind } = fault;
+    let name = kind.name();
+    let expected = expected(kind);
+    if line == 0 {
+        eprintln!(rt; "{place}: {name}: {expected}")
+    } else {
+        eprintln!(rt; "{place}:{line}: {name}: {expected}")
+    }
+}
+
+/// What a script has to have where it has this fault.
+fn expected(kind: FaultKind) -> &'static str {
+    match kind {
+        FaultKind::BadText => {
+            "a line is printable ASCII characters, bytes 32 to 126, and ends with a line feed"
+        }
+        FaultKind::UnknownWord => {
+            "a line begins with subscriber, client, accounts, account, transfers, transfer or pulse"
+        }
+        FaultKind::WrongCount => {
+            "accounts, transfers, pulse and client have one number, account and transfer one key=value or more"
+        }
+        FaultKind::BadNumber => "a number is one or more digits from 0 to 9",
+        FaultKind::NumberOutOfRange => {
+            "a number fits its field: 128 bits, but 64 for moments, clients and user_data_64, 32 for user_data_32, timeout and ledger, 16 for code and flags"
+        }
+        FaultKind::UnknownKey => {
+            "a word is key=value with a key of an account (id, user_data_128, user_data_64, user_data_32, ledger, code, flags) or of a transfer (these, and debit_account_id, credit_account_id, amount, pending_id, timeout)"
+        }
+        FaultKind::KeyTwice => "a key stands once in a line",
+        FaultKind::NoOpenBatch => {
+            "account lines follow a line accounts NOW, and transfer lines a line transfers NOW, with no other line between"
+        }
+        FaultKind::BadBinding => "the words after subscriber are all, alone",
+        FaultKind::TooManySubscribers => "a script has one subscriber line",
+        FaultKind::BadClient => "a client's number is 1 or 2",
+        FaultKind::NoSubscriber => "a script has a line subscriber all",
+        FaultKind::TooLong => "a script has 1048576 bytes at most",
+    }
+}

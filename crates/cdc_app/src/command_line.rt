@@ -1,0 +1,61 @@
+//! What the words of the command line can ask for, and why they ask for nothing.
+
+ghost use Rattle.std.specs.Prelude.{◌≡◌};
+ghost use Rattle.cdc_app.specs.Options.{options_fault_number, options_fault_name};
+
+use std::alloc::AllocError;
+use thiserror::Error;
+
+/// What the words ask for.
+#[derive(Debug, Drop)]
+pub enum Options<'a> {
+    /// The results of a script's batches and the book of a subscriber, of the script in this file; `-` is standard input.
+    Books { file: &'a str },
+    /// The messages of a script's events, of the script in this file; `-` is standard input.
+    Messages { file: &'a str },
+    /// A text on the program itself: help, or its version.
+    Explain { text: String },
+}
+
+/// Why words ask for nothing.
+#[derive(Debug, Drop, Error)]
+pub enum OptionsFault {
+    /// No command has such words. The message says which word isn't one, and what was wanted.
+    #[error("{message}")]
+    BadWords { message: String },
+    /// No memory was left.
+    #[error("out of memory")]
+    OutOfMemory,
+}
+
+impl OptionsFault {
+    /// The fault's number, from 1.
+    pub fn number(&self) -> u8
+        ensures { result ≡ options_fault_number self.now }
+    {
+        match self {
+            OptionsFault::BadWords { .. } => 1,
+            OptionsFault::OutOfMemory => 2,
+        }
+    }
+
+    /// The fault's name.
+    pub fn name(&self) -> &'static str
+        ensures { result.now ≡ options_fault_name self.now }
+    {
+        match self {
+            OptionsFault::BadWords { .. } => "bad_words",
+            OptionsFault::OutOfMemory => "out_of_memory",
+        }
+    }
+}
+
+impl From<AllocError> for OptionsFault {
+    ghost use Rattle.cdc_app.specs.declared.command_line.OptionsFault.TheVariants.{OutOfMemory};
+
+    ghost from_gives = { λ _ e. e ≡ OutOfMemory };
+
+    fn from(_error: AllocError) -> OptionsFault {
+        OptionsFault::OutOfMemory
+    }
+}

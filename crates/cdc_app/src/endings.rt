@@ -1,0 +1,32 @@
+//! How a command ends.
+
+ghost use Rattle.std.specs.Prelude.{◌≡◌};
+ghost use Rattle.cdc_app.specs.Printed.{status_of};
+
+use crate::faults::{ProgramFault, ScriptFault};
+
+/// How a command ended.
+#[derive(Clone, Copy, Debug)]
+pub enum Ending {
+    /// It did all that was asked.
+    Done,
+    /// It gave up.
+    Failed(ProgramFault),
+    /// The script is bad.
+    BadScript(ScriptFault),
+    /// The words of the command line ask for nothing that there is.
+    BadWords,
+}
+
+impl Ending {
+    /// The exit status of the program.
+    pub fn status(self) -> u8
+        ensures { result ≡ status_of self }
+    {
+        match self {
+            Ending::Done => 0,
+            Ending::Failed(_) => 1,
+            Ending::BadScript(_) | Ending::BadWords => 2,
+        }
+    }
+}
