@@ -25,7 +25,9 @@ fn advice(rt: &HostRuntime, place: &str, ending: Ending) -> io::Result<()> {
     match ending {
         Ending::Done | Ending::BadWords => Ok(()),
         Ending::BadScript(fault) => advice_on_script(rt, place, fault),
-        Ending::Failed(ProgramFault::ReadFault(error)) => eprintln!(rt; "{place}: read_fault: {error}"),
+        Ending::Failed(ProgramFault::ReadFault(error)) => eprintln!(rt;
+            "{place}: read_fault: {error}"
+        ),
         Ending::Failed(ProgramFault::WriteFault(error)) => {
             eprintln!(rt; "standard output: write_fault: {error}")
         }

@@ -3,17 +3,17 @@
 ghost use Rattle.std.specs.Prelude.{◌≡◌, length, codes, IsOkAnd};
 ghost use Rattle.cdc_app.specs.Options.{IsBooks};
 
+pub use crate::command_line::{Options, OptionsFault};
 use clap::error::ErrorKind;
 use clap::{Arg, ArgAction, ArgMatches, Command, Error};
 use std::alloc::Global;
-
-pub use crate::command_line::{Options, OptionsFault};
 
 /// The name of standard input as a file.
 pub const STANDARD_INPUT: &str = "-";
 
 /// What the program is for.
-const ABOUT: &str = "Change data capture: a script's batches go to a double-entry ledger, and its events are reported";
+const ABOUT: &str =
+    "Change data capture: a script's batches go to a double-entry ledger, and its events are reported";
 
 /// What else a newcomer has to know.
 const MORE: &str = "\
@@ -57,7 +57,9 @@ fn read_words<'a>(alloc: Global, words: &'a [&'a str]) -> Result<ArgMatches<'a>,
         .after_help(MORE)
         .arg(script_argument(alloc))?;
     let messages = Command::new(alloc, "messages")
-        .about("Print two lines for each event of a script: what its message is routed by, and its JSON body")
+        .about(
+            "Print two lines for each event of a script: what its message is routed by, and its JSON body",
+        )
         .after_help(MORE)
         .arg(script_argument(alloc))?;
     let program = Command::new(alloc, "relayplum")

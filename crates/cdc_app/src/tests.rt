@@ -1,242 +1,329 @@
 //! Whole runs: scripts, what is printed, and how the command ends.
 
-use crate::books::{Ending, books};
+use crate::commands::{Report, books, messages};
+use crate::endings::Ending;
 use crate::faults::ProgramFault;
-use crate::options::{Action, OptionsFault, options};
+use crate::options::{Options, options};
 use std::alloc::{AllocError, Global};
-use std::io;
 use std::io::{Read, Write};
 use std::test::Fail;
+use std::{io, str};
 
-/// A script, and what it makes of the command.
+/// A script, what a command prints of it, and the exit status.
 struct Run {
     what: &'static str,
+    report: Report,
     script: &'static str,
     printed: &'static str,
-    ending: Ending,
+    status: u8,
 }
 
-static RUNS: [Run; 33] = [
+static RUNS: [Run; 38] = [
     Run {
         what: "a subscriber alone",
+        report: Report::Book,
         script: "subscriber all\n",
         printed: "subscriber 1 applied 0 last 0 ended yes closed no\n",
-        ending: Ending::Done,
+        status: 0,
     },
     Run {
         what: "one transfer",
+        report: Report::Book,
         script: "subscriber all\naccounts 1000\naccount id=1 ledger=700 code=10\naccount id=2 ledger=700 code=10\ntransfers 2000\ntransfer id=1 debit_account_id=1 credit_account_id=2 amount=100 ledger=700 code=1\n",
         printed: "batch 1: 0 0\nbatch 2: 0\nsubscriber 1 applied 1 last 2000 ended yes closed no\naccount 1 0 100 0 0\naccount 2 0 0 0 100\n",
-        ending: Ending::Done,
+        status: 0,
     },
     Run {
         what: "a transfer and one back",
+        report: Report::Book,
         script: "subscriber all\naccounts 1000\naccount id=1 ledger=700 code=10\naccount id=2 ledger=700 code=10\ntransfers 2000\ntransfer id=1 debit_account_id=1 credit_account_id=2 amount=5 ledger=700 code=1\ntransfer id=2 debit_account_id=1 credit_account_id=2 amount=7 ledger=700 code=1\n",
         printed: "batch 1: 0 0\nbatch 2: 0 0\nsubscriber 1 applied 2 last 2001 ended yes closed no\naccount 1 0 12 0 0\naccount 2 0 0 0 12\n",
-        ending: Ending::Done,
+        status: 0,
     },
     Run {
         what: "limits on balances, over two batches",
+        report: Report::Book,
         script: "subscriber all\naccounts 1000\naccount id=1 ledger=700 code=10 flags=2\naccount id=2 ledger=700 code=10\ntransfers 2000\ntransfer id=1 debit_account_id=2 credit_account_id=1 amount=100 ledger=700 code=1\ntransfer id=2 debit_account_id=1 credit_account_id=2 amount=101 ledger=700 code=1\ntransfer id=3 debit_account_id=1 credit_account_id=2 amount=100 ledger=700 code=1\ntransfer id=4 debit_account_id=1 credit_account_id=2 amount=1 ledger=700 code=1\ntransfers 5\ntransfer id=5 debit_account_id=2 credit_account_id=1 amount=1 ledger=700 code=1\n",
         printed: "batch 1: 0 0\nbatch 2: 0 36 0 36\nbatch 3: 0\nsubscriber 1 applied 3 last 2004 ended yes closed no\naccount 2 0 101 0 100\naccount 1 0 100 0 101\n",
-        ending: Ending::Done,
+        status: 0,
     },
     Run {
         what: "sums that would overflow",
+        report: Report::Book,
         script: "subscriber all\naccounts 1000\naccount id=1 ledger=700 code=10\naccount id=2 ledger=700 code=10\ntransfers 2000\ntransfer id=1 debit_account_id=1 credit_account_id=2 amount=340282366920938463463374607431768211455 ledger=700 code=1\ntransfer id=2 debit_account_id=1 credit_account_id=2 amount=1 ledger=700 code=1\n",
         printed: "batch 1: 0 0\nbatch 2: 0 31\nsubscriber 1 applied 1 last 2000 ended yes closed no\naccount 1 0 340282366920938463463374607431768211455 0 0\naccount 2 0 0 0 340282366920938463463374607431768211455\n",
-        ending: Ending::Done,
+        status: 0,
     },
     Run {
         what: "a moment that is no number",
+        report: Report::Book,
         script: "subscriber all\naccounts x\n",
         printed: "fault: script line 2: bad_number\n",
-        ending: Ending::Refused,
+        status: 2,
     },
     Run {
         what: "no bytes at all",
+        report: Report::Book,
         script: "",
         printed: "fault: script line 0: no_subscriber\n",
-        ending: Ending::Refused,
+        status: 2,
     },
     Run {
         what: "a tab is no space",
+        report: Report::Book,
         script: "subscriber all\naccounts\t5\n",
         printed: "fault: script line 2: bad_text\n",
-        ending: Ending::Refused,
+        status: 2,
     },
     Run {
         what: "a carriage return at the very end",
+        report: Report::Book,
         script: "subscriber all\npulse 5\r",
         printed: "fault: script line 2: bad_text\n",
-        ending: Ending::Refused,
+        status: 2,
     },
     Run {
         what: "two carriage returns before a line feed",
+        report: Report::Book,
         script: "subscriber all\npulse 5\r\r\n",
         printed: "fault: script line 2: bad_text\n",
-        ending: Ending::Refused,
+        status: 2,
     },
     Run {
         what: "a word that no line begins with",
+        report: Report::Book,
         script: "subscriber all\n\naccount5\n",
         printed: "fault: script line 3: unknown_word\n",
-        ending: Ending::Refused,
+        status: 2,
     },
     Run {
         what: "a number sign behind a space",
+        report: Report::Book,
         script: "subscriber all\n # 5\n",
         printed: "fault: script line 2: unknown_word\n",
-        ending: Ending::Refused,
+        status: 2,
     },
     Run {
         what: "a moment is missing",
+        report: Report::Book,
         script: "subscriber all\naccounts\n",
         printed: "fault: script line 2: wrong_count\n",
-        ending: Ending::Refused,
+        status: 2,
     },
     Run {
         what: "a word too many",
+        report: Report::Book,
         script: "subscriber all\npulse 5 6\n",
         printed: "fault: script line 2: wrong_count\n",
-        ending: Ending::Refused,
+        status: 2,
     },
     Run {
         what: "an item without a field",
+        report: Report::Book,
         script: "subscriber all\naccounts 5\naccount\n",
         printed: "fault: script line 3: wrong_count\n",
-        ending: Ending::Refused,
+        status: 2,
     },
     Run {
         what: "a bad number comes before a word too many",
+        report: Report::Book,
         script: "subscriber all\npulse x 6\n",
         printed: "fault: script line 2: bad_number\n",
-        ending: Ending::Refused,
+        status: 2,
     },
     Run {
         what: "a sign is no digit",
+        report: Report::Book,
         script: "subscriber all\naccounts 5\naccount id=+1\n",
         printed: "fault: script line 3: bad_number\n",
-        ending: Ending::Refused,
+        status: 2,
     },
     Run {
         what: "a value without a digit",
+        report: Report::Book,
         script: "subscriber all\naccounts 5\naccount id=\n",
         printed: "fault: script line 3: bad_number\n",
-        ending: Ending::Refused,
+        status: 2,
     },
     Run {
         what: "a moment of more than 64 bits",
+        report: Report::Book,
         script: "subscriber all\npulse 18446744073709551616\n",
         printed: "fault: script line 2: number_out_of_range\n",
-        ending: Ending::Refused,
+        status: 2,
     },
     Run {
         what: "a code of more than 16 bits",
+        report: Report::Book,
         script: "subscriber all\naccounts 5\naccount id=1 code=65536\n",
         printed: "fault: script line 3: number_out_of_range\n",
-        ending: Ending::Refused,
+        status: 2,
     },
     Run {
         what: "a word without an equals sign",
+        report: Report::Book,
         script: "subscriber all\naccounts 5\naccount id\n",
         printed: "fault: script line 3: unknown_key\n",
-        ending: Ending::Refused,
+        status: 2,
     },
     Run {
         what: "an unknown key, whatever its value",
+        report: Report::Book,
         script: "subscriber all\naccounts 5\naccount amount=x\n",
         printed: "fault: script line 3: unknown_key\n",
-        ending: Ending::Refused,
+        status: 2,
     },
     Run {
         what: "a key that stands twice",
+        report: Report::Book,
         script: "subscriber all\naccounts 5\naccount id=1 code=1 id=2\n",
         printed: "fault: script line 3: key_twice\n",
-        ending: Ending::Refused,
+        status: 2,
     },
     Run {
         what: "an account in no batch",
+        report: Report::Book,
         script: "subscriber all\naccount x\n",
         printed: "fault: script line 2: no_open_batch\n",
-        ending: Ending::Refused,
+        status: 2,
     },
     Run {
         what: "an account in a batch of transfers",
+        report: Report::Book,
         script: "subscriber all\ntransfers 5\naccount id=1\n",
         printed: "fault: script line 3: no_open_batch\n",
-        ending: Ending::Refused,
+        status: 2,
     },
     Run {
         what: "a batch that a client line has ended",
+        report: Report::Book,
         script: "subscriber all\naccounts 5\nclient 2\naccount id=1\n",
         printed: "fault: script line 4: no_open_batch\n",
-        ending: Ending::Refused,
+        status: 2,
     },
     Run {
         what: "a subscriber without a binding",
+        report: Report::Book,
         script: "subscriber\n",
         printed: "fault: script line 1: bad_binding\n",
-        ending: Ending::Refused,
+        status: 2,
     },
     Run {
         what: "a binding that cannot be read yet",
+        report: Report::Book,
         script: "subscriber any\n",
         printed: "fault: script line 1: bad_binding\n",
-        ending: Ending::Refused,
+        status: 2,
     },
     Run {
         what: "a second subscriber",
+        report: Report::Book,
         script: "subscriber all\nsubscriber x\n",
         printed: "fault: script line 2: too_many_subscribers\n",
-        ending: Ending::Refused,
+        status: 2,
     },
     Run {
         what: "a client of another number",
+        report: Report::Book,
         script: "subscriber all\nclient 9 9\n",
         printed: "fault: script line 2: bad_client\n",
-        ending: Ending::Refused,
+        status: 2,
     },
     Run {
         what: "a word too many behind a client",
+        report: Report::Book,
         script: "subscriber all\nclient 1 9\n",
         printed: "fault: script line 2: wrong_count\n",
-        ending: Ending::Refused,
+        status: 2,
     },
     Run {
         what: "no subscriber",
+        report: Report::Book,
         script: "accounts 5\naccount id=1\n",
         printed: "fault: script line 0: no_subscriber\n",
-        ending: Ending::Refused,
+        status: 2,
     },
     Run {
         what: "comments, blank lines, spaces, leading zeros and ends of lines",
+        report: Report::Book,
         script: "# \x7f\tany bytes\n  subscriber   all  \r\n   \naccounts 007\n# a comment ends no batch\n\naccount id=01 ledger=1 code=1\nclient 2\ntransfers 8\npulse 9",
         printed: "batch 1: 0\nbatch 2:\nbatch 3: pulse 0\nsubscriber 1 applied 0 last 0 ended yes closed no\n",
-        ending: Ending::Done,
+        status: 0,
+    },
+    Run {
+        what: "the messages of one transfer",
+        report: Report::Messages,
+        script: "subscriber all\naccounts 1000\naccount id=1 ledger=700 code=10\naccount id=2 ledger=700 code=10\ntransfers 2000\ntransfer id=1 debit_account_id=1 credit_account_id=2 amount=100 ledger=700 code=1\n",
+        printed: "event_type=single_phase ledger=700 transfer_code=1 debit_account_code=10 credit_account_code=10 timestamp=0\n{\"credit_account\":{\"code\":10,\"credits_pending\":\"0\",\"credits_posted\":\"100\",\"debits_pending\":\"0\",\"debits_posted\":\"0\",\"flags\":0,\"id\":\"2\",\"timestamp\":\"1001\",\"user_data_128\":\"0\",\"user_data_32\":0,\"user_data_64\":\"0\"},\"debit_account\":{\"code\":10,\"credits_pending\":\"0\",\"credits_posted\":\"0\",\"debits_pending\":\"0\",\"debits_posted\":\"100\",\"flags\":0,\"id\":\"1\",\"timestamp\":\"1000\",\"user_data_128\":\"0\",\"user_data_32\":0,\"user_data_64\":\"0\"},\"ledger\":700,\"timestamp\":\"2000\",\"transfer\":{\"amount\":\"100\",\"code\":1,\"flags\":0,\"id\":\"1\",\"pending_id\":\"0\",\"timeout\":0,\"timestamp\":\"2000\",\"user_data_128\":\"0\",\"user_data_32\":0,\"user_data_64\":\"0\"},\"type\":\"single_phase\"}\n",
+        status: 0,
+    },
+    Run {
+        what: "each message shows the balances after its event, and whole seconds",
+        report: Report::Messages,
+        script: "subscriber all\naccounts 1000\naccount id=1 ledger=700 code=11\naccount id=2 ledger=700 code=12\ntransfers 1999999999\ntransfer id=1 debit_account_id=1 credit_account_id=2 amount=5 ledger=700 code=1\ntransfer id=2 debit_account_id=1 credit_account_id=2 amount=7 ledger=700 code=3\n",
+        printed: "event_type=single_phase ledger=700 transfer_code=1 debit_account_code=11 credit_account_code=12 timestamp=1\n{\"credit_account\":{\"code\":12,\"credits_pending\":\"0\",\"credits_posted\":\"5\",\"debits_pending\":\"0\",\"debits_posted\":\"0\",\"flags\":0,\"id\":\"2\",\"timestamp\":\"1001\",\"user_data_128\":\"0\",\"user_data_32\":0,\"user_data_64\":\"0\"},\"debit_account\":{\"code\":11,\"credits_pending\":\"0\",\"credits_posted\":\"0\",\"debits_pending\":\"0\",\"debits_posted\":\"5\",\"flags\":0,\"id\":\"1\",\"timestamp\":\"1000\",\"user_data_128\":\"0\",\"user_data_32\":0,\"user_data_64\":\"0\"},\"ledger\":700,\"timestamp\":\"1999999999\",\"transfer\":{\"amount\":\"5\",\"code\":1,\"flags\":0,\"id\":\"1\",\"pending_id\":\"0\",\"timeout\":0,\"timestamp\":\"1999999999\",\"user_data_128\":\"0\",\"user_data_32\":0,\"user_data_64\":\"0\"},\"type\":\"single_phase\"}\nevent_type=single_phase ledger=700 transfer_code=3 debit_account_code=11 credit_account_code=12 timestamp=2\n{\"credit_account\":{\"code\":12,\"credits_pending\":\"0\",\"credits_posted\":\"12\",\"debits_pending\":\"0\",\"debits_posted\":\"0\",\"flags\":0,\"id\":\"2\",\"timestamp\":\"1001\",\"user_data_128\":\"0\",\"user_data_32\":0,\"user_data_64\":\"0\"},\"debit_account\":{\"code\":11,\"credits_pending\":\"0\",\"credits_posted\":\"0\",\"debits_pending\":\"0\",\"debits_posted\":\"12\",\"flags\":0,\"id\":\"1\",\"timestamp\":\"1000\",\"user_data_128\":\"0\",\"user_data_32\":0,\"user_data_64\":\"0\"},\"ledger\":700,\"timestamp\":\"2000000000\",\"transfer\":{\"amount\":\"7\",\"code\":3,\"flags\":0,\"id\":\"2\",\"pending_id\":\"0\",\"timeout\":0,\"timestamp\":\"2000000000\",\"user_data_128\":\"0\",\"user_data_32\":0,\"user_data_64\":\"0\"},\"type\":\"single_phase\"}\n",
+        status: 0,
+    },
+    Run {
+        what: "a refused transfer has no message",
+        report: Report::Messages,
+        script: "subscriber all\naccounts 1000\naccount id=1 ledger=700 code=10\naccount id=2 ledger=700 code=10\ntransfers 2000\ntransfer id=1 debit_account_id=1 credit_account_id=2 amount=100 ledger=700 code=1\ntransfer id=1 debit_account_id=1 credit_account_id=2 amount=100 ledger=700 code=1\n",
+        printed: "event_type=single_phase ledger=700 transfer_code=1 debit_account_code=10 credit_account_code=10 timestamp=0\n{\"credit_account\":{\"code\":10,\"credits_pending\":\"0\",\"credits_posted\":\"100\",\"debits_pending\":\"0\",\"debits_posted\":\"0\",\"flags\":0,\"id\":\"2\",\"timestamp\":\"1001\",\"user_data_128\":\"0\",\"user_data_32\":0,\"user_data_64\":\"0\"},\"debit_account\":{\"code\":10,\"credits_pending\":\"0\",\"credits_posted\":\"0\",\"debits_pending\":\"0\",\"debits_posted\":\"100\",\"flags\":0,\"id\":\"1\",\"timestamp\":\"1000\",\"user_data_128\":\"0\",\"user_data_32\":0,\"user_data_64\":\"0\"},\"ledger\":700,\"timestamp\":\"2000\",\"transfer\":{\"amount\":\"100\",\"code\":1,\"flags\":0,\"id\":\"1\",\"pending_id\":\"0\",\"timeout\":0,\"timestamp\":\"2000\",\"user_data_128\":\"0\",\"user_data_32\":0,\"user_data_64\":\"0\"},\"type\":\"single_phase\"}\n",
+        status: 0,
+    },
+    Run {
+        what: "a script without an event has no message",
+        report: Report::Messages,
+        script: "subscriber all\naccounts 1000\naccount id=1 ledger=700 code=10\naccount id=2 ledger=700 code=10\n",
+        printed: "",
+        status: 0,
+    },
+    Run {
+        what: "a bad script under messages",
+        report: Report::Messages,
+        script: "subscriber all\naccounts x\n",
+        printed: "fault: script line 2: bad_number\n",
+        status: 2,
     },
 ];
 
-/// What `books` prints for these bytes, and how it ends.
-fn run_of(alloc: Global, script: &[u8]) -> (Vec<u8>, Ending) {
+/// What a command prints of these bytes, and how it ends.
+fn run_of(alloc: Global, report: Report, script: &[u8]) -> (Vec<u8>, Ending) {
     let mut printed = Vec::new(alloc);
     let mut reader = script;
-    let ending = books(alloc, &mut reader, &mut printed);
+    let ending = match report {
+        Report::Book => books(alloc, &mut reader, &mut printed),
+        Report::Messages => messages(alloc, &mut reader, &mut printed),
+    };
     (printed, ending)
+}
+
+/// Whether a row holds. Where it doesn't, its name, its text and the wanted one go to standard error.
+fn holds(rt: &HostRuntime, case: &Run) -> bool {
+    let (printed, ending) = run_of(rt.alloc(), case.report, case.script.as_bytes());
+    if printed.as_slice() == case.printed.as_bytes() && ending.status() == case.status {
+        return true;
+    }
+    let text = str::from_utf8(printed.as_slice()).unwrap_or("no text");
+    let _ = eprintln!(rt;
+        "{}: status {}, wanted {}",
+        case.what,
+        ending.status(),
+        case.status
+    );
+    let _ = eprintln!(rt; "{text}wanted:\n{}", case.printed);
+    false
 }
 
 #[test]
 fn runs_of_scripts(rt: HostRuntime) {
+    let mut failed = 0usize;
     for case in RUNS.iter() {
-        let (printed, ending) = run_of(rt.alloc(), case.script.as_bytes());
-        assert_eq!(rt;
-            printed.as_slice(),
-            case.printed.as_bytes(),
-            "{}",
-            case.what
-        );
-        assert_eq!(rt; ending, case.ending, "{}", case.what);
+        if !holds(&rt, case) {
+            failed = failed.saturating_add(1);
+        }
     }
+    assert_eq!(rt; failed, 0, "rows that fail");
 }
 
 /// A batch of 1,001 accounts, and batches at the greatest timestamp.
@@ -255,30 +342,30 @@ fn crowded(alloc: Global) -> Result<String, AllocError> {
 #[test]
 fn batches_that_are_refused(rt: HostRuntime) -> Result<(), Fail> {
     let script = crowded(rt.alloc())?;
-    let (printed, ending) = run_of(rt.alloc(), script.as_bytes());
+    let (printed, ending) = run_of(rt.alloc(), Report::Book, script.as_bytes());
     let wanted =
         b"batch 1 refused: 2 batch_too_large\nbatch 2 refused: 3 timestamps_exhausted\nbatch 3: 0\nbatch 4: pulse 0\nbatch 5 refused: 3 timestamps_exhausted\nsubscriber 1 applied 0 last 0 ended yes closed no\n";
     assert_eq!(rt; printed.as_slice(), wanted.as_slice());
-    assert_eq!(rt; ending, Ending::Done);
+    assert_eq!(rt; ending.status(), 0);
     Ok(())
 }
 
 #[test]
 fn a_byte_too_many(rt: HostRuntime) -> Result<(), Fail> {
     let most = vec![in rt.alloc(); b' '; 1_048_576]?;
-    let (printed, ending) = run_of(rt.alloc(), most.as_slice());
+    let (printed, ending) = run_of(rt.alloc(), Report::Book, most.as_slice());
     assert_eq!(rt;
         printed.as_slice(),
         b"fault: script line 0: no_subscriber\n".as_slice()
     );
-    assert_eq!(rt; ending, Ending::Refused);
+    assert_eq!(rt; ending.status(), 2);
     let more = vec![in rt.alloc(); b' '; 1_048_577]?;
-    let (printed, ending) = run_of(rt.alloc(), more.as_slice());
+    let (printed, ending) = run_of(rt.alloc(), Report::Book, more.as_slice());
     assert_eq!(rt;
         printed.as_slice(),
         b"fault: script line 0: too_long\n".as_slice()
     );
-    assert_eq!(rt; ending, Ending::Refused);
+    assert_eq!(rt; ending.status(), 2);
     Ok(())
 }
 
@@ -308,7 +395,9 @@ fn a_read_that_fails(rt: HostRuntime) {
     let mut printed = Vec::new(rt.alloc());
     let ending = books(rt.alloc(), &mut reader, &mut printed);
     assert_eq!(rt; printed.as_slice(), b"fault: read_fault\n".as_slice());
-    assert_eq!(rt; ending, Ending::Failed(ProgramFault::ReadFault));
+    assert!(rt;
+        matches!(ending, Ending::Failed(ProgramFault::ReadFault(error)) if error.kind() == io::ErrorKind::Interrupted)
+    );
     assert_eq!(rt; reader.reads, 2);
 }
 
@@ -343,36 +432,82 @@ fn a_write_that_fails(rt: HostRuntime) {
     };
     let mut script = b"subscriber all\n".as_slice();
     let ending = books(rt.alloc(), &mut script, &mut writer);
-    assert_eq!(rt; ending, Ending::Failed(ProgramFault::WriteFault));
+    assert!(rt;
+        matches!(ending, Ending::Failed(ProgramFault::WriteFault(error)) if error.kind() == io::ErrorKind::BrokenPipe)
+    );
     assert_eq!(rt; writer.writes, 2);
     assert_eq!(rt; writer.taken, 8);
 }
 
+/// What words ask for: the command and its file, or the first word of a text, or the fault's name.
+fn asked<'a>(alloc: Global, words: &'a [&'a str]) -> (&'static str, &'a str) {
+    match options(alloc, words) {
+        Ok(Options::Books { file }) => ("books", file),
+        Ok(Options::Messages { file }) => ("messages", file),
+        Ok(Options::Explain { .. }) => ("explain", ""),
+        Err(fault) => (fault.name(), ""),
+    }
+}
+
 #[test]
 fn words_of_the_command_line(rt: HostRuntime) {
-    assert_eq!(rt; options(rt.alloc(), &[]), Ok(Action::Books { file: "-" }));
+    let alloc = rt.alloc();
+    assert_eq!(rt; asked(alloc, &[]), ("books", "-"));
+    assert_eq!(rt; asked(alloc, &["books", "-"]), ("books", "-"));
+    assert_eq!(rt; asked(alloc, &["books", "x.script"]), ("books", "x.script"));
+    assert_eq!(rt; asked(alloc, &["messages", "-"]), ("messages", "-"));
     assert_eq!(rt;
-        options(rt.alloc(), &["books", "-"]),
-        Ok(Action::Books { file: "-" })
+        asked(alloc, &["messages", "x.script"]),
+        ("messages", "x.script")
     );
+    assert_eq!(rt; asked(alloc, &["books", "--", "-x"]), ("books", "-x"));
+    assert_eq!(rt; asked(alloc, &["--help"]), ("explain", ""));
+    assert_eq!(rt; asked(alloc, &["help", "messages"]), ("explain", ""));
+    assert_eq!(rt; asked(alloc, &["--version"]), ("explain", ""));
+    assert_eq!(rt; asked(alloc, &["books"]), ("bad_words", ""));
+    assert_eq!(rt; asked(alloc, &["books", "x", "y"]), ("bad_words", ""));
+    assert_eq!(rt; asked(alloc, &["ledger", "x"]), ("bad_words", ""));
     assert_eq!(rt;
-        options(rt.alloc(), &["books", "x.script"]),
-        Ok(Action::Books { file: "x.script" })
+        asked(alloc, &["books", "x", "--window", "1"]),
+        ("bad_words", "")
     );
+}
+
+/// Two batches of 1,000 transfers of 1 from account 1 to account 2.
+fn many_transfers(alloc: Global) -> Result<String, AllocError> {
+    let mut script = String::from_str(
+        alloc,
+        "subscriber all\naccounts 1\naccount id=1 ledger=1 code=1\naccount id=2 ledger=1 code=1\n",
+    )?;
+    for batch in 0..2u32 {
+        script.push_str("transfers 1000\n")?;
+        for item in 0..1000u32 {
+            let id = batch * 1000 + item + 1;
+            script.push_str(format!(in alloc;
+                "transfer id={id} debit_account_id=1 credit_account_id=2 amount=1 ledger=1 code=1\n"
+            )?.as_str())?;
+        }
+    }
+    Ok(script)
+}
+
+#[test]
+fn a_large_script(rt: HostRuntime) -> Result<(), Fail> {
+    let script = many_transfers(rt.alloc())?;
+    let (printed, ending) = run_of(rt.alloc(), Report::Book, script.as_bytes());
+    assert_eq!(rt; ending.status(), 0);
+    let end =
+        b" 0\nsubscriber 1 applied 2000 last 2999 ended yes closed no\naccount 1 0 2000 0 0\naccount 2 0 0 0 2000\n";
+    assert!(rt; printed.as_slice().ends_with(end.as_slice()));
+    let (printed, ending) = run_of(rt.alloc(), Report::Messages, script.as_bytes());
+    assert_eq!(rt; ending.status(), 0);
     assert_eq!(rt;
-        options(rt.alloc(), &["books"]),
-        Err(OptionsFault::BadWords)
+        printed
+            .as_slice()
+            .iter()
+            .filter(|byte| **byte == b'\n')
+            .count(),
+        4_000
     );
-    assert_eq!(rt;
-        options(rt.alloc(), &["books", "x", "y"]),
-        Err(OptionsFault::BadWords)
-    );
-    assert_eq!(rt;
-        options(rt.alloc(), &["ledger", "x"]),
-        Err(OptionsFault::BadWords)
-    );
-    assert_eq!(rt;
-        options(rt.alloc(), &["books", "x", "--window", "1"]),
-        Err(OptionsFault::BadWords)
-    );
+    Ok(())
 }

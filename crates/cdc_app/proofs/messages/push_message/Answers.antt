@@ -9,7 +9,7 @@ use Rattle.cdc_app.proofs.messages.push_message.Goals as goal
 pub returns : goal.returns
 returns c =
     let line : string_bytes c.push_headers.new.text
-        ≡ string_bytes c.args.text.now ++ headers_line (headers_of_event c.args.event.now) (seconds_of c.args.event.now) =
+    ≡ string_bytes c.args.text.now ++ headers_line (headers_of_event c.args.event.now) (seconds_of c.args.event.now) =
     rw (c.headers.ensures, c.properties.ensures.timestamp, c.in_ok-message.ensures) at c.in_ok-push_headers.ensures in
     let text : string_bytes c.push_str.new.self ≡ string_bytes c.push_headers.new.text ++ body c.args.event.now =
     rw (c.body.ensures.text, c.in_ok-message.ensures) at c.in_ok-push_str.ensures.bytes in

@@ -1,0 +1,223 @@
+#!/usr/bin/env bash
+# The program as a process: its words, its files, its exit statuses, and what standard error says to a person.
+# Takes the program's path, crates/cdc_app/out/cdc_app where none is given. Prints each check that fails.
+set -uo pipefail
+top=$(cd "$(dirname "${BASH_SOURCE[0]}")/.." && pwd)
+program=$(realpath "${1:-$top/crates/cdc_app/out/cdc_app}")
+folder=$(mktemp -d)
+trap 'rm -rf "$folder"' EXIT
+cd "$folder" || exit 1
+failed=0
+checks=0
+
+# Says that a check failed, and what was wanted and found.
+wrong() {
+    failed=$((failed + 1))
+    printf 'failed: %s\n  wanted: %q\n  found:  %q\n' "$1" "$2" "$3"
+}
+
+# Compares two texts.
+same() {
+    checks=$((checks + 1))
+    [ "$2" == "$3" ] || wrong "$1" "$2" "$3"
+}
+
+# Whether a text has another one in it.
+has() {
+    checks=$((checks + 1))
+    case "$3" in *"$2"*) ;; *) wrong "$1" "..$2.." "$3" ;; esac
+}
+
+# Runs the program on these words; standard input is the file `input`.
+run() {
+    "$program" "$@" <input >output 2>errors
+    status=$?
+    out=$(cat output; printf x)
+    out=${out%x}
+    err=$(cat errors; printf x)
+    err=${err%x}
+}
+
+# A run that ends well, with nothing on standard error.
+ends_well() {
+    same "$1: status" 0 "$status"
+    same "$1: standard error" '' "$err"
+}
+
+one_transfer='subscriber all
+accounts 1000
+account id=1 ledger=700 code=10
+account id=2 ledger=700 code=10
+transfers 2000
+transfer id=1 debit_account_id=1 credit_account_id=2 amount=100 ledger=700 code=1
+'
+its_book='batch 1: 0 0
+batch 2: 0
+subscriber 1 applied 1 last 2000 ended yes closed no
+account 1 0 100 0 0
+account 2 0 0 0 100
+'
+its_headers='event_type=single_phase ledger=700 transfer_code=1 debit_account_code=10 credit_account_code=10 timestamp=0
+'
+printf '%s' "$one_transfer" >one.script
+printf '%s' "$one_transfer" >input
+
+# Where the script comes from.
+for words in '' 'books -' 'books one.script' 'books ./one.script' "books $folder/one.script"; do
+    run $words
+    same "words '$words'" "$its_book" "$out"
+    ends_well "words '$words'"
+done
+for words in 'messages -' 'messages one.script'; do
+    run $words
+    same "words '$words': lines" 2 "$(wc -l <output)"
+    same "words '$words': headers" "$its_headers" "$(head -n 1 output)
+"
+    ends_well "words '$words'"
+done
+cp one.script ./-dashed
+run books -- -dashed
+same 'a file whose name begins with a dash' "$its_book" "$out"
+cp one.script 'two words'
+run books 'two words'
+same 'a file whose name has a space' "$its_book" "$out"
+
+# Help and the version stand on standard output.
+for words in '--help' '-h' 'help' 'books --help' 'messages --help' 'help books' 'help messages'; do
+    run $words
+    ends_well "words '$words'"
+    has "words '$words': usage" 'Usage: ' "$out"
+    has "words '$words': FILE" 'FILE is a script, and - is standard input' "$out"
+    has "words '$words': example" 'relayplum books ' "$out"
+    has "words '$words': statuses" 'Exit status' "$out"
+done
+for words in '--help' 'help'; do
+    run $words
+    has "words '$words': books" '  books ' "$out"
+    has "words '$words': messages" '  messages ' "$out"
+done
+for words in '--version' '-V'; do
+    run $words
+    ends_well "words '$words'"
+    has "words '$words'" 'relayplum ' "$out"
+done
+
+# Bad words: standard error says which word, or what was wanted; nothing stands on standard output.
+bad_words() {
+    local wanted=$1
+    shift
+    run "$@"
+    same "bad words '$*': status" 2 "$status"
+    same "bad words '$*': standard output" '' "$out"
+    has "bad words '$*'" "$wanted" "$err"
+    has "bad words '$*': where to read on" '--help' "$err"
+}
+bad_words "'ledger'" ledger one.script
+bad_words "'--fast'" --fast
+bad_words '<FILE>' books
+bad_words '<FILE>' messages
+bad_words "'other.script'" books one.script other.script
+bad_words "'--window'" books one.script --window
+run books $'\xff'
+same 'a word that is no text: status' 2 "$status"
+same 'a word that is no text: standard output' '' "$out"
+has 'a word that is no text' 'UTF-8' "$err"
+run books ''
+same 'an empty name: status' 1 "$status"
+same 'an empty name: standard output' 'fault: read_fault
+' "$out"
+
+# A bad script: the fault's line on standard output, and one line for a person on standard error.
+bad_script() {
+    local name=$1 line=$2 fault=$3 expected=$4 script=$5 place
+    printf '%b' "$script" >"$name"
+    place=$name:$line
+    [ "$line" != 0 ] || place=$name
+    for command in books messages; do
+        run "$command" "$name"
+        same "$command, $fault: status" 2 "$status"
+        same "$command, $fault: standard output" "fault: script line $line: $fault
+" "$out"
+        same "$command, $fault: lines of standard error" 1 "$(wc -l <errors)"
+        has "$command, $fault: place and name" "$place: $fault: " "$err"
+        has "$command, $fault: what was expected" "$expected" "$err"
+    done
+}
+bad_script tab.script 2 bad_text 'printable ASCII' 'subscriber all\naccounts\t5\n'
+bad_script word.script 3 unknown_word 'transfers, transfer or pulse' 'subscriber all\n\naccount5\n'
+bad_script count.script 2 wrong_count 'one number' 'subscriber all\npulse 5 6\n'
+bad_script number.script 2 bad_number 'a number is one or more digits from 0 to 9' 'subscriber all\naccounts x\n'
+bad_script range.script 3 number_out_of_range '16 for code and flags' 'subscriber all\naccounts 5\naccount code=65536\n'
+bad_script key.script 3 unknown_key 'key=value' 'subscriber all\naccounts 5\naccount amount=1\n'
+bad_script twice.script 3 key_twice 'once' 'subscriber all\naccounts 5\naccount id=1 id=2\n'
+bad_script batch.script 2 no_open_batch 'accounts NOW' 'subscriber all\naccount id=1\n'
+bad_script binding.script 1 bad_binding 'all' 'subscriber some\n'
+bad_script client.script 2 bad_client '1 or 2' 'subscriber all\nclient 9\n'
+bad_script none.script 0 no_subscriber 'subscriber all' ''
+for _ in 1 2 3 4 5 6 7 8 9; do echo 'subscriber all'; done >many
+"$program" books many >output 2>errors
+has 'too many subscribers: standard output' 'too_many_subscribers' "$(cat output)"
+has 'too many subscribers: standard error' 'too_many_subscribers: a script has' "$(cat errors)"
+head -c 1048577 /dev/zero | tr '\0' ' ' >long.script
+run books long.script
+same 'too long: status' 2 "$status"
+same 'too long: standard output' 'fault: script line 0: too_long
+' "$out"
+has 'too long: standard error' 'long.script: too_long: ' "$err"
+has 'too long: how long' '1048576' "$err"
+printf 'subscriber all\naccounts x\n' >input
+run books -
+has 'a bad script on standard input' 'standard input:2: bad_number: ' "$err"
+
+# A file that can't be read, or a place that can't be written: which, and why.
+bad_file() {
+    for command in books messages; do
+        run "$command" "$1"
+        same "$command $1: status" 1 "$status"
+        same "$command $1: standard output" 'fault: read_fault
+' "$out"
+        has "$command $1: which file" "$1: read_fault: " "$err"
+        has "$command $1: why" "$2" "$err"
+        same "$command $1: lines of standard error" 1 "$(wc -l <errors)"
+    done
+}
+mkdir folder
+bad_file no-such.script 'No such file'
+bad_file folder 'directory'
+bad_file one.script/inner 'ot a directory'
+bad_file no-folder/one.script 'No such file'
+if [ "$(id -u)" != 0 ]; then
+    cp one.script locked.script
+    chmod 0 locked.script
+    bad_file locked.script 'Permission denied'
+fi
+if [ -w /dev/full ]; then
+    for command in books messages --help; do
+        words=("$command")
+        [ "$command" == --help ] || words+=(one.script)
+        "$program" "${words[@]}" >/dev/full 2>errors
+        same "$command to a full disk: status" 1 $?
+        has "$command to a full disk: why" 'standard output: write_fault: No space left' "$(cat errors)"
+    done
+fi
+
+# A file name of every length up to 200 bytes.
+for ((length = 1; length <= 200; length++)); do
+    name=$(printf '%*s' "$length" '' | tr ' ' 'n')
+    cp one.script "$name"
+    run books "$name"
+    same "a file name of $length bytes" "$its_book" "$out"
+    rm "$name"
+    run books "$name"
+    same "a missing file of $length bytes" 'fault: read_fault
+' "$out"
+done
+
+# Bodies are JSON texts to an outside reader too.
+if command -v python3 >/dev/null; then
+    "$program" messages one.script | python3 "$top/tests/json_lines.py" 1 || wrong 'bodies as JSON' 'one event' 'see above'
+    checks=$((checks + 1))
+fi
+
+echo "words: $checks checks, $failed failed"
+[ "$failed" == 0 ]
