@@ -1,5 +1,4 @@
 pub mod Book
-pub mod Drafts
 pub mod Faults
 pub mod Fields
 pub mod Held
@@ -8,6 +7,7 @@ pub mod Numbers
 pub mod Options
 pub mod Parts
 pub mod Printed
+pub mod Private
 pub mod Refusals
 pub mod Report
 pub mod Scripts

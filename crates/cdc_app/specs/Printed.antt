@@ -59,13 +59,6 @@ status_of (Failed why) = 1
 status_of (BadScript at) = 2
 status_of BadWords = 2
 
--- the command didn't give up
-abbrev pub IsNoFailure : Ending → Type 0
-IsNoFailure Done = Unit {0}
-IsNoFailure (Failed why) = ⊥
-IsNoFailure (BadScript at) = Unit {0}
-IsNoFailure BadWords = ⊥
-
 -- what is printed, and how the command ends
 pub record Outcome : Type 0 where
   pub text : List ℕ

@@ -11,12 +11,6 @@ IsFault (error.Fault fault) read = read ≡ Err fault
 IsFault (error.ReadFault why) read = Unit {0}
 IsFault error.OutOfMemory read = Unit {0}
 
--- the script isn't to blame
-abbrev pub IsNoFault : ScriptError → Type 0
-IsNoFault (error.Fault fault) = ⊥
-IsNoFault (error.ReadFault why) = Unit {0}
-IsNoFault error.OutOfMemory = Unit {0}
-
 -- known bytes lose at most so many at their front
 abbrev pub ConsumesAtMost : ℕ → Option (List ℕ) → Option (List ℕ) → Type 0
 ConsumesAtMost most old new = (bytes : List ℕ) × (length bytes ≤ most) × Consumes old new bytes

@@ -1,5 +1,5 @@
 -- What one line of a script says, after the lines above it.
-use Rattle.std.specs.Prelude.{◌≡◌, ℕ, ◌+◌, ◌==◌, ◌||◌, nat_le, nat_lt, List, [], ◌∷◌, Option, Some, None, Result, Ok, Err, codes, unwrap_or, slice_index, if◌then◌else◌}
+use Rattle.std.specs.Prelude.{ℕ, ◌+◌, ◌==◌, ◌||◌, nat_le, nat_lt, List, [], ◌∷◌, Option, Some, None, Result, Ok, Err, codes, unwrap_or, slice_index, if◌then◌else◌}
 use Rattle.std.specs.Str.{bytes_eq}
 use Rattle.cdc_types.specs.Lines.{first_line}
 use Rattle.cdc_app.specs.declared.faults.FaultKind.{FaultKind}
@@ -98,19 +98,3 @@ after context (says.Account a) = record { open_batch = Some item.Account; subscr
 after context (says.Transfer t) = record { open_batch = Some item.Transfer; subscribers = context.subscribers }
 after context (says.Client n) = record { open_batch = None; subscribers = context.subscribers }
 after context (says.Pulse now) = record { open_batch = None; subscribers = context.subscribers }
-
--- the statement is no item of a batch
-abbrev pub IsNoItem : Statement → Type 0
-IsNoItem (says.Account a) = ⊥
-IsNoItem (says.Transfer t) = ⊥
-IsNoItem _ = Unit {0}
-
--- an item finds a batch of its kind open
-abbrev pub HasBatch : Option ItemKind → Statement → Type 0
-HasBatch open_batch (says.Account a) = open_batch ≡ Some item.Account
-HasBatch open_batch (says.Transfer t) = open_batch ≡ Some item.Transfer
-HasBatch open_batch _ = Unit {0}
-
--- the statement may follow
-abbrev pub IsSuited : Context → Statement → Type 0
-IsSuited context said = HasBatch context.open_batch said

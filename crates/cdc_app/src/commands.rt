@@ -6,7 +6,8 @@ ghost use Rattle.std.specs.Io.KnownBytes.{Appends};
 ghost use Rattle.cdc_app.specs.declared.scripts.Script.{Script as Said};
 ghost use Rattle.cdc_app.specs.Held.{HoldsBalances};
 ghost use Rattle.cdc_app.specs.Report.{program_fault_line};
-ghost use Rattle.cdc_app.specs.Printed.{history_of, printed as printed_text, outcome_of, IsPrinted, IsNoFailure, Writes};
+ghost use Rattle.cdc_app.specs.Printed.{history_of, printed as printed_text, outcome_of, IsPrinted, Writes};
+ghost use Rattle.cdc_app.specs.Private.Outcomes.{IsNoFailure};
 ghost use Rattle.cdc_app.specs.Refusals.{ConsumesAtMost};
 ghost use Rattle.cdc_app.specs.Scripts.{max_bytes};
 

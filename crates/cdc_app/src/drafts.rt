@@ -4,9 +4,9 @@ ghost use Rattle.std.specs.Prelude.{◌≡◌, ◌+◌, ◌^◌, ◌<◌, List, 
 ghost use Rattle.cdc_app.specs.declared.statements.Statement.{Statement as Says};
 ghost use Rattle.cdc_app.specs.declared.statements.Statement.TheVariants as says;
 ghost use Rattle.cdc_app.specs.declared.drafts.OpenBatch.TheVariants as joined;
-ghost use Rattle.cdc_app.specs.Drafts.{context_of, open_kind, completed, completed_batch, Takes};
+ghost use Rattle.cdc_app.specs.Private.Drafts.{context_of, open_kind, completed, completed_batch, Takes};
 ghost use Rattle.cdc_app.specs.Scripts.{at_top, batches_of};
-ghost use Rattle.cdc_app.specs.Statements.{IsSuited, HasBatch};
+ghost use Rattle.cdc_app.specs.Private.Suited.{IsSuited, HasBatch};
 
 use crate::fields::ItemKind;
 use crate::scripts::ClientBatch;

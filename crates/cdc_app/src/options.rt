@@ -27,8 +27,9 @@ A script is a text of lines:
   transfers 2000
   transfer id=1 debit_account_id=1 credit_account_id=2 amount=100 ledger=700 code=1
 
-Example:
+Examples:
   relayplum books examples/first-transfer.script
+  relayplum messages examples/first-transfer.script
 
 Exit status:
   0  all was done
@@ -64,6 +65,7 @@ fn read_words<'a>(alloc: Global, words: &'a [&'a str]) -> Result<ArgMatches<'a>,
         .arg(script_argument(alloc))?;
     let program = Command::new(alloc, "relayplum")
         .no_binary_name(true)
+        .bin_name("relayplum")?
         .version("0.1.0")
         .about(ABOUT)
         .after_help(MORE)

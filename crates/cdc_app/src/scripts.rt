@@ -3,8 +3,9 @@
 ghost use Rattle.std.specs.Prelude.{◌≡◌, ◌+◌, ◌≤◌, [], length, Ok, IfErr, IfOk, IfSome, MatchResult};
 ghost use Rattle.std.specs.Io.KnownBytes.{Consumes, IsAtEnd};
 ghost use Rattle.std.specs.Str.Lines.{lines};
-ghost use Rattle.cdc_app.specs.Drafts.{script_from};
-ghost use Rattle.cdc_app.specs.Refusals.{IsFault, IsNoFault, ConsumesAtMost};
+ghost use Rattle.cdc_app.specs.Private.Drafts.{script_from};
+ghost use Rattle.cdc_app.specs.Private.Outcomes.{IsNoFault};
+ghost use Rattle.cdc_app.specs.Refusals.{IsFault, ConsumesAtMost};
 ghost use Rattle.cdc_app.specs.Scripts.{max_bytes, script_of_lines, script_of};
 
 use crate::drafts::Draft;

@@ -1,7 +1,8 @@
 //! What each line of a script says.
 
 ghost use Rattle.std.specs.Prelude.{◌≡◌, Ok, Err, IfOk, IfSome, MatchResult};
-ghost use Rattle.cdc_app.specs.Statements.{ended, number_word, binding_line, subscriber_line, client_line, moment_line, account_line, transfer_line, meaning, line_says, IsSuited, IsNoItem, HasBatch};
+ghost use Rattle.cdc_app.specs.Statements.{ended, number_word, binding_line, subscriber_line, client_line, moment_line, account_line, transfer_line, meaning, line_says};
+ghost use Rattle.cdc_app.specs.Private.Suited.{IsSuited, IsNoItem, HasBatch};
 ghost use Rattle.cdc_app.specs.Words.{words as words_of};
 
 use crate::faults::FaultKind;
@@ -37,9 +38,6 @@ pub struct Context {
     /// The subscribers so far.
     pub subscribers: usize,
 }
-
-/// The subscribers of a script, at most.
-const SUBSCRIBERS: usize = 1;
 
 /// What a line says; nothing where it is blank or a comment.
 pub fn read_statement(line: &[u8], context: Context) -> Result<Option<Statement>, FaultKind>
@@ -81,12 +79,12 @@ fn read_words(first: &[u8], rest: &[u8], context: Context) -> Result<Statement, 
     }
 }
 
-/// A subscriber line.
+/// A subscriber line. So far a script has one.
 fn read_subscriber(words: &[u8], subscribers: usize) -> Result<Statement, FaultKind>
     ensures says { result ≡ subscriber_line subscribers (words_of words.now) }
     ensures no_item { IfOk result IsNoItem }
 {
-    if subscribers >= SUBSCRIBERS {
+    if subscribers > 0 {
         return Err(FaultKind::TooManySubscribers);
     }
     read_binding(words)

@@ -1,6 +1,6 @@
 use Rattle.std.proofs.Common.{◌≡◌, ◌+◌, ◌≤◌, length}
 use Rattle.std.specs.Str.Lines.{lines}
-use Rattle.cdc_app.specs.Drafts.{continued}
+use Rattle.cdc_app.specs.Private.Drafts.{continued}
 use Rattle.cdc_app.specs.Scripts.{script_of_lines}
 use Rattle.cdc_app.proofs.scripts.read_lines.Given as goal
 

@@ -1,0 +1,18 @@
+-- Which faults and endings a step can't come to.
+use Rattle.cdc_app.specs.declared.endings.Ending.{Ending}
+use Rattle.cdc_app.specs.declared.endings.Ending.TheVariants.{Done, Failed, BadScript, BadWords}
+use Rattle.cdc_app.specs.declared.faults.ScriptError.{ScriptError}
+use Rattle.cdc_app.specs.declared.faults.ScriptError.TheVariants as error
+
+-- the script isn't to blame
+abbrev pub IsNoFault : ScriptError → Type 0
+IsNoFault (error.Fault fault) = ⊥
+IsNoFault (error.ReadFault why) = Unit {0}
+IsNoFault error.OutOfMemory = Unit {0}
+
+-- the command didn't give up
+abbrev pub IsNoFailure : Ending → Type 0
+IsNoFailure Done = Unit {0}
+IsNoFailure (Failed why) = ⊥
+IsNoFailure (BadScript at) = Unit {0}
+IsNoFailure BadWords = ⊥
