@@ -1,0 +1,148 @@
+#!/usr/bin/env bash
+# Tests of the script `relayplum`: when it builds, what it says meanwhile, and what it hands on. Nothing is proved here:
+# a copy of the script stands in a small repository of its own, and an `rt` of these tests takes the toolchain's place.
+set -uo pipefail
+here=$(cd "$(dirname "${BASH_SOURCE[0]}")/.." && pwd)
+room=$(mktemp -d)
+trap 'rm -rf "$room"' EXIT
+passed=0
+failed=0
+
+check() { # check NAME WANTED FOUND
+    if [ "$2" = "$3" ]; then
+        passed=$((passed + 1))
+    else
+        failed=$((failed + 1))
+        printf 'relayplum: %s: wanted\n%s\nfound\n%s\n' "$1" "$2" "$3"
+    fi
+}
+
+has() { # has NAME PATTERN TEXT
+    if grep -q -- "$2" <<<"$3"; then
+        passed=$((passed + 1))
+    else
+        failed=$((failed + 1))
+        printf 'relayplum: %s: no line with %s in\n%s\n' "$1" "$2" "$3"
+    fi
+}
+
+# A repository of two crates and a program, and an `rt` that writes down how it is called.
+mkdir -p "$room/bin" "$room/top/crates"/{low,high,cdc_app}/src "$room/top/crates/low/specs" "$room/elsewhere"
+cp "$here/relayplum" "$room/top/relayplum"
+printf '# lowest first\nlow:\nhigh: low\ncdc_app: low high clap\n' >"$room/top/crates.txt"
+for crate in low high cdc_app; do echo "// $crate" >"$room/top/crates/$crate/src/lib.rt"; done
+echo '-- a definition' >"$room/top/crates/low/specs/Low.antt"
+cat >"$room/bin/rt" <<'RT'
+#!/usr/bin/env bash
+name=$(basename "$PWD")
+echo "$name: $*" >>"$CALLS"
+case "$1" in
+lib) ;;
+run)
+    mkdir -p out
+    # the real one leaves a program alone whose sources have the content that it was built from
+    [ -x out/cdc_app ] || printf '#!/bin/sh\necho "run with $*"\n[ "$1" != fail ]\n' >out/cdc_app
+    chmod +x out/cdc_app
+    ;;
+try)
+    echo "tried: $*"
+    for word in "$@"; do case "$word" in *=*) cat "${word#*=}" ;; esac; done
+    echo "the program's own line" >&2
+    echo "checked: ended status=0" >&2
+    echo "run=ended status=0 proved=no" >&2
+    ;;
+esac
+if [ -f "$REFUSED" ] && [ "$name" = "$(cat "$REFUSED")" ]; then
+    echo "no proof: a goal is open"
+    exit 1
+fi
+RT
+chmod +x "$room/bin/rt"
+export PATH=$room/bin:$PATH CALLS=$room/calls REFUSED=$room/refused
+
+call() { # runs the script; $out, $err, $status and $calls say what came of it
+    : >"$CALLS"
+    status=0
+    out=$("$@" 2>"$room/err") || status=$?
+    err=$(cat "$room/err")
+    calls=$(cat "$CALLS")
+}
+
+built='low: lib
+high: lib
+cdc_app: run -- --version'
+
+call "$room/top/relayplum" books x
+check 'the first call builds each crate in its order' "$built" "$calls"
+check 'the first call then runs the program' 'run with books x' "$out"
+has 'it says what it waits for' '^relayplum: proving low, 1 of 3$' "$err"
+has 'it says what is proved' '^relayplum: high proved, 2 of 3, [0-9]* s$' "$err"
+has 'it says that of the program too' '^relayplum: cdc_app proved, 3 of 3, [0-9]* s$' "$err"
+
+call "$room/top/relayplum" books x
+check 'the second call builds nothing' '' "$calls"
+check 'the second call says nothing' '' "$err"
+check 'the second call runs the program' 'run with books x' "$out"
+
+sleep 1.1
+touch "$room/top/crates/low/src/lib.rt"
+call "$room/top/relayplum" books x
+check 'a touched source builds nothing' '' "$calls"
+check 'a touched source: the program runs' 'run with books x' "$out"
+sleep 1.1
+mv "$room/top/crates/low/src/lib.rt" "$room/kept"
+cp "$room/kept" "$room/top/crates/low/src/lib.rt"
+call "$room/top/relayplum" books x
+check 'a source away and back builds nothing' '' "$calls"
+
+sleep 1.1
+echo '// more' >>"$room/top/crates/low/src/lib.rt"
+call "$room/top/relayplum" books x
+check 'a changed source builds' "$built" "$calls"
+check 'a changed source: the program runs' 'run with books x' "$out"
+call "$room/top/relayplum" books x
+check 'and builds once' '' "$calls"
+sleep 1.1
+rm "$room/top/crates/low/specs/Low.antt"
+call "$room/top/relayplum" books x
+check 'a removed file builds' "$built" "$calls"
+
+echo high >"$REFUSED"
+sleep 1.1
+echo '// wrong' >>"$room/top/crates/high/src/lib.rt"
+call "$room/top/relayplum" books x
+check 'a crate that is refused ends the script' 1 "$status"
+check 'no program runs then' '' "$out"
+has 'it names the crate' '^relayplum: high isn.t proved$' "$err"
+has 'it shows why' 'a goal is open' "$err"
+call "$room/top/relayplum" books x
+check 'and again, until it is mended' 1 "$status"
+rm "$REFUSED"
+call "$room/top/relayplum" books x
+check 'a mended crate builds' "$built" "$calls"
+
+ln -s "$room/top/relayplum" "$room/elsewhere/link"
+cd "$room/elsewhere" || exit 1
+call ./link books 'two words'
+check 'a symbolic link runs the program' 'run with books two words' "$out"
+check 'a symbolic link builds nothing' '' "$calls"
+call ./link fail
+check 'the status is the program'"'"'s' 1 "$status"
+
+echo 'a script' >"$room/elsewhere/a script"
+call ./link --unproved books 'a script' --window 2
+check 'unproved: no crate is built' "cdc_app: try --data 1-a script=$room/elsewhere/a script -- books 1-a script --window 2" "$calls"
+has 'unproved: a file is handed on' '^a script$' "$out"
+has 'unproved: it says that nothing is proved' '^relayplum: nothing is proved' "$err"
+has 'unproved: the program'"'"'s own words on standard error' '^the program.s own line$' "$err"
+check 'unproved: nothing else there' 2 "$(wc -l <<<"$err")"
+
+# A program that the gate built has no note of its sources: its time decides.
+rm -f "$room/top/crates/cdc_app/out/cdc_app.sources"
+sleep 1.1
+touch "$room/top/crates/cdc_app/out/cdc_app"
+call ./link books x
+check 'a program newer than all sources is taken' '' "$calls"
+
+echo "relayplum: $passed passed, $failed failed"
+[ "$failed" = 0 ]
