@@ -4,5 +4,7 @@ pub mod Decimals
 pub mod Examples
 pub mod Law
 pub mod Parts
+pub mod ReplayLaws
+pub mod Same
 pub mod Texts
 pub mod Utf8
