@@ -146,7 +146,7 @@ module _ {X : Type 0} (same : X → X → Bool) (decides : (a b : X) → Decides
       (Decides-by_or (λ y. same y x) (λ y. y ≡ x) (has_same same x) (λ y. decides y x) refl (λ _ _. refl) seen)
 
 -- the first n + 1 elements of a list
-take_next : {X : Type 0} (n : ℕ) (w : List X) → n < length w → (x : X) × (take (n + 1) w ≡ take n w ++ x ∷ [])
+pub take_next : {X : Type 0} (n : ℕ) (w : List X) → n < length w → (x : X) × (take (n + 1) w ≡ take n w ++ x ∷ [])
 take_next n [] below = absurd (omega arith)
 take_next n (x ∷ w) below = (get_or (x ∷ w) n x, take_more (x ∷ w) n x below)
 
