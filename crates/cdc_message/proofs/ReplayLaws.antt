@@ -7,7 +7,7 @@ use Rattle.std.proofs.lemmas.Bool.Decides.{Decides-by_or, not_from_Decides}
 use Rattle.std.proofs.lemmas.List.{take_all, take_at, take-take, take-append-le, take-append-drop, take_more, length-take, length-append, get_or-take, get_or_default}
 use Rattle.std.proofs.lemmas.List.Elements.{Contains-append_left, Contains-get_or, Contains-push, Contains-push_cases, Decides-contains}
 use Rattle.std.proofs.lemmas.List.Sums.{fold-append}
-use Rattle.cdc_message.specs.Replays.{HaveSame, IsReplay, IsPrefix, has_same, firsts}
+use Rattle.cdc_message.specs.Replays.{HaveSame, IsReplay, IsPrefix, HasNoneTwice, has_same, firsts}
 
 -- ---- lists with the same elements
 
@@ -158,7 +158,7 @@ pub record HasBegun {X : Type 0} (same : X → X → Bool) (v f : List X) : Type
   pub elements : HaveSame v (take count f)
 
 -- an element that is new is the one of f that comes next
-pub next_is : {X : Type 0} (v f : List X) (x : X) (m n : ℕ) → AllPairs (λ a b. a ≢ b) f → HaveSame v (take m f) → HaveSame (v ++ x ∷ []) (take n f)
+pub next_is : {X : Type 0} (v f : List X) (x : X) (m n : ℕ) → HasNoneTwice f → HaveSame v (take m f) → HaveSame (v ++ x ∷ []) (take n f)
     → (Contains v x → ⊥) → (m < length f) × (get_or f m x ≡ x)
 next_is v f x m n apart before after new =
     let found = Contains-take n f x (after.forth x (Contains-push v x)) in
@@ -210,7 +210,7 @@ module _ {X : Type 0} (same : X → X → Bool) (decides : (a b : X) → Decides
         elements = rw more (HaveSame-push v (take b.count f) x b.elements);
       }
 
-  HasBegun-push : (v f : List X) (x : X) → AllPairs (λ a b. a ≢ b) f → HasBegun same v f → (n : ℕ) → HaveSame (v ++ x ∷ []) (take n f)
+  HasBegun-push : (v f : List X) (x : X) → HasNoneTwice f → HasBegun same v f → (n : ℕ) → HaveSame (v ++ x ∷ []) (take n f)
       → HasBegun same (v ++ x ∷ []) f
   HasBegun-push v f x apart b n after =
       elim (cases_Bool (has_same same x (firsts same v))) [
@@ -224,7 +224,7 @@ module _ {X : Type 0} (same : X → X → Bool) (decides : (a b : X) → Decides
   HasBegun-nil f = record { count = 0; within = omega arith; firsts_are = refl; elements = HaveSame-refl [] }
 
   -- so it is after each number of elements
-  pub HasBegun-replay : (w f : List X) → AllPairs (λ a b. a ≢ b) f → IsReplay w f → (k : ℕ) → HasBegun same (take k w) f
+  pub HasBegun-replay : (w f : List X) → HasNoneTwice f → IsReplay w f → (k : ℕ) → HasBegun same (take k w) f
   HasBegun-replay w f apart replay zero = HasBegun-nil f
   HasBegun-replay w f apart replay (suc k) =
       let so_far = HasBegun-replay w f apart replay k in
@@ -241,7 +241,7 @@ module _ {X : Type 0} (same : X → X → Bool) (decides : (a b : X) → Decides
       ]
 
   -- without its repeats a replay of a list without repeats is a beginning of it
-  pub IsPrefix-firsts : (w f : List X) → AllPairs (λ a b. a ≢ b) f → IsReplay w f → IsPrefix (firsts same w) f
+  pub IsPrefix-firsts : (w f : List X) → HasNoneTwice f → IsReplay w f → IsPrefix (firsts same w) f
   IsPrefix-firsts w f apart replay =
       let all : take (length w) w ≡ w = take_all (length w) w (omega arith) in
       let b : HasBegun same w f = rw all at (HasBegun-replay w f apart replay (length w)) in

@@ -13,7 +13,7 @@ use Rattle.cdc_types.specs.declared.events.Event.{Event}
 use Rattle.cdc_message.specs.declared.items.Item.{Item}
 use Rattle.cdc_message.specs.declared.items.Item.TheVariants.{Event as OfEvent, EndMark}
 use Rattle.cdc_message.specs.Items.{item_event, events_of, same_item, is_newest, newest_after, rises, last_timestamp_from, last_timestamp, TimestampsRise}
-use Rattle.cdc_message.specs.Replays.{HaveSame, IsReplay, has_same, firsts}
+use Rattle.cdc_message.specs.Replays.{HaveSame, IsReplay, HasNoneTwice, has_same, firsts}
 use Rattle.cdc_message.proofs.ReplayLaws.{HasBegun, HasBegun-replay, firsts-push, Decides-has_same, is_new, next_is, take_next}
 use Rattle.cdc_message.proofs.Same.{Decides-same_item}
 
@@ -211,7 +211,7 @@ is_newest-next v f e m rise same below here =
         All-contains P (events_of (take m f)) other after.1 (event_stands (take m f) other came) in
     (Decides-is_newest (events_of v) e).1 (after.0, all)
 
-module _ (f : List Item) (apart : AllPairs (λ a b. a ≢ b) f) (rise : TimestampsRise (events_of f)) where
+module _ (f : List Item) (apart : HasNoneTwice f) (rise : TimestampsRise (events_of f)) where
   -- what one more item makes of both
   rises-firsts_push : (v : List Item) (x : Item) (n : ℕ) → HasBegun same_item v f → HaveSame (v ++ x ∷ []) (take n f)
       → events_of (firsts same_item v) ≡ rises (events_of v) → events_of (firsts same_item (v ++ x ∷ [])) ≡ rises (events_of (v ++ x ∷ []))
