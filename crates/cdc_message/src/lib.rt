@@ -7,7 +7,9 @@ mod encoding;
 pub mod errors;
 pub mod fields;
 mod headers;
+mod items;
 mod kinds;
+mod laws;
 mod message;
 #[cfg(test)]
 mod tests;
@@ -18,5 +20,7 @@ pub use encoding::encode;
 pub use errors::DecodeError;
 pub use fields::{Field, FieldName, Part};
 pub use headers::{headers_of, properties_of};
+pub use items::{Delivery, Item};
 pub use kinds::{kind_named, kind_text};
+pub use laws::replay_laws;
 pub use message::Message;
