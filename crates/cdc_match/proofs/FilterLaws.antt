@@ -87,8 +87,8 @@ filtered_begins p (x ∷ xs) (suc m) =
 pub IsReplay-filter : {X : Type 0} (p : X → Bool) (w f : List X) → IsReplay w f → IsReplay (filter p w) (filter p f)
 IsReplay-filter p w f replay = record {
   beginnings = λ n.
-    let of_w = begins p w n in
-    let of_f = replay.beginnings of_w.length in
-    let front = filtered_begins p f of_f.0 in
-    (front.length, rw (of_w.is, ← front.is) (HaveSame-filter p (take of_w.length w) (take of_f.0 f) of_f.1))
+      let of_w = begins p w n in
+      let of_f = replay.beginnings of_w.length in
+      let front = filtered_begins p f of_f.0 in
+      (front.length, rw (of_w.is, ← front.is) (HaveSame-filter p (take of_w.length w) (take of_f.0 f) of_f.1));
 }

@@ -30,7 +30,7 @@ each_more read (w ∷ words) found word value h is =
     let front = reached (read w) _ found h in
     let rest = reached (each read words) _ found front.then_is in
     rw (front.first_is, each_more read words rest.from word value rest.first_is is)
-      (ap (λ f. Ok (f ++ value ∷ [])) (ok_inside (front.from ∷ rest.from) found rest.then_is))
+    (ap (λ f. Ok (f ++ value ∷ [])) (ok_inside (front.from ∷ rest.from) found rest.then_is))
 
 -- the first fault
 each_fault : {A B : Type 0} (read : A → Read B) (words : List A) (found : List B) (word : A) (error : BindError) (others : List A)
@@ -111,4 +111,4 @@ pub pair_remembers : (word : List ℕ) → Remembers (pair_of word)
 pair_remembers word =
     remembers_then (ok_or (parted 61 word) UnknownKey) _ (remembers_ok_or (parted 61 word) UnknownKey (λ h. absurd (cc)))
     (λ parts. remembers_then (ok_or (key_named parts.0) UnknownKey) _ (remembers_ok_or (key_named parts.0) UnknownKey (λ h. absurd (cc)))
-      (λ key. remembers_ok_or (pair_with key parts.1) BadValue (λ h. absurd (cc))))
+    (λ key. remembers_ok_or (pair_with key parts.1) BadValue (λ h. absurd (cc))))

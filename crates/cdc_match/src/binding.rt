@@ -73,7 +73,8 @@ impl Binding {
     pub fn matches(&self, headers: &Headers) -> bool
         ensures { result ≡ matching.matches self.now headers.now }
     {
-        self.mode.pass(&self.pairs, *headers)
+        let Binding { mode, pairs } = self;
+        mode.pass(pairs, *headers)
     }
 
     /// How many of the pairs have to be met.
@@ -94,9 +95,10 @@ impl Binding {
     pub fn try_copy(&self, alloc: Global) -> Result<Binding, AllocError>
         ensures { IfOk result (λ copy. copy ≡ self.now) }
     {
+        let Binding { mode, pairs } = self;
         Ok(Binding {
-            mode: self.mode,
-            pairs: self.pairs.clone()?,
+            mode: *mode,
+            pairs: pairs.clone()?,
         })
     }
 }

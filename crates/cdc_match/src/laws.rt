@@ -7,5 +7,4 @@ ghost use Rattle.cdc_match.specs.Laws.{QueuesReplay, QueuesHoldFeeds};
 pub fn queue_laws()
     ensures replays { QueuesReplay }
     ensures feeds { QueuesHoldFeeds }
-{
-}
+{}

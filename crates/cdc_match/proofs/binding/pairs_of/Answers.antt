@@ -30,7 +30,7 @@ returns-in_err-pair-clause-pairs c =
     let below = c.loop-word-test.true in
     let few : c.loop-word.word-index < most_pairs = omega (arith, c.loop-word.invariant.few, c.loop-word.invariant.counted, c.len.ensures, c.if-len-eq-MOST_PAIRS.false) in
     rw (p.1, p.2) (inl (pairs_fault (texts c.args.words.now) c.loop-word.word-index c.loop-word.pairs.items _ (within _ _ below) few
-      c.loop-word.invariant.found (pair_at c.args.words.now c.loop-word.word-index _ _ below c.in_err-pair.ensures)))
+    c.loop-word.invariant.found (pair_at c.args.words.now c.loop-word.word-index _ _ below c.in_err-pair.ensures)))
 
 pub returns-in_err-pair-clause-memory : goal.returns-in_err-pair-clause-memory
 returns-in_err-pair-clause-memory c h =
@@ -43,16 +43,16 @@ pub returns-in_err-push-clause-memory : goal.returns-in_err-push-clause-memory
 returns-in_err-push-clause-memory c h =
     let below = c.loop-word-test.true in
     pairs_begin (texts c.args.words.now) c.loop-word.word-index _ (within _ _ below)
-      (pairs_more (texts c.args.words.now) c.loop-word.word-index c.loop-word.pairs.items c.in_ok-pair.pair (within _ _ below)
-        c.loop-word.invariant.found (pair_at c.args.words.now c.loop-word.word-index _ _ below c.in_ok-pair.ensures))
+    (pairs_more (texts c.args.words.now) c.loop-word.word-index c.loop-word.pairs.items c.in_ok-pair.pair (within _ _ below)
+    c.loop-word.invariant.found (pair_at c.args.words.now c.loop-word.word-index _ _ below c.in_ok-pair.ensures))
 
 pub loop-word-preserved : goal.loop-word-preserved
 loop-word-preserved c =
     let below = c.loop-word-test.true in
     record {
       found = rw c.in_ok-push.ensures.items
-        (pairs_more (texts c.args.words.now) c.loop-word.word-index c.loop-word.pairs.items c.in_ok-pair.pair (within _ _ below)
-        c.loop-word.invariant.found (pair_at c.args.words.now c.loop-word.word-index _ _ below c.in_ok-pair.ensures));
+          (pairs_more (texts c.args.words.now) c.loop-word.word-index c.loop-word.pairs.items c.in_ok-pair.pair (within _ _ below)
+          c.loop-word.invariant.found (pair_at c.args.words.now c.loop-word.word-index _ _ below c.in_ok-pair.ensures));
       counted = grind (arith, c.in_ok-push.ensures.items, c.loop-word.invariant.counted);
       few = omega (arith, c.loop-word.invariant.few, c.loop-word.invariant.counted, c.len.ensures, c.if-len-eq-MOST_PAIRS.false);
     }

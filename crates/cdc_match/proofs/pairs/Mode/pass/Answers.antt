@@ -8,10 +8,10 @@ pub returns-in-All : goal.returns-in-All
 returns-in-All c =
     let test = equals_header c.args.headers in
     rw c.in-All.is (all_from_yields_List test _ _ c.all.result c.all.ensures.ran
-      (YieldsList-from_slice c.args.pairs.now (cc)) (λ x b q k. search (rules, tests)))
+    (YieldsList-from_slice c.args.pairs.now (cc)) (λ x b q k. search (rules, tests)))
 
 pub returns-in-Any : goal.returns-in-Any
 returns-in-Any c =
     let test = equals_header c.args.headers in
     rw c.in-Any.is (any_from_yields_List test _ _ c.any.result c.any.ensures.ran
-      (YieldsList-from_slice c.args.pairs.now (cc)) (λ x b q k. search (rules, tests)))
+    (YieldsList-from_slice c.args.pairs.now (cc)) (λ x b q k. search (rules, tests)))
