@@ -21,7 +21,7 @@ HaveSame-trans p q = record { forth = λ x h. q.forth x (p.forth x h); back = λ
 pub HaveSame-again : {X : Type 0} (xs ys : List X) (x : X) → HaveSame xs ys → Contains xs x → HaveSame (xs ++ x ∷ []) ys
 HaveSame-again xs ys x same there = record {
   forth = λ y h.
-    elim (Contains-push_cases xs x y h) [ inl old ↦ same.forth y old | inr is ↦ subst (Contains ys) is (same.forth x there) ];
+      elim (Contains-push_cases xs x y h) [ inl old ↦ same.forth y old | inr is ↦ subst (Contains ys) is (same.forth x there) ];
   back = λ y h. Contains-append_left xs (x ∷ []) y (same.back y h);
 }
 
@@ -43,7 +43,7 @@ HaveSame-push xs ys x same = record {
 
 pub IsReplay-nil : {X : Type 0} (f : List X) → IsReplay [] f
 IsReplay-nil f = record {
-  beginnings = λ n. let none = take_all n (take 0 f) (omega arith) in (0, rw none (HaveSame-refl (take 0 f)))
+  beginnings = λ n. let none = take_all n (take 0 f) (omega arith) in (0, rw none (HaveSame-refl (take 0 f)));
 }
 
 pub IsReplay-refl : {X : Type 0} (f : List X) → IsReplay f f
@@ -52,9 +52,9 @@ IsReplay-refl f = record { beginnings = λ n. (n, HaveSame-refl (take n f)) }
 pub IsReplay-trans : {X : Type 0} (w v f : List X) → IsReplay w v → IsReplay v f → IsReplay w f
 IsReplay-trans w v f of_v of_f = record {
   beginnings = λ n.
-    let m = of_v.beginnings n in
-    let k = of_f.beginnings m.0 in
-    (k.0, HaveSame-trans m.1 k.1)
+      let m = of_v.beginnings n in
+      let k = of_f.beginnings m.0 in
+      (k.0, HaveSame-trans m.1 k.1);
 }
 
 -- all of a replay has what some beginning has
@@ -67,12 +67,12 @@ IsReplay-all w f replay =
 pub IsReplay-push : {X : Type 0} (w f : List X) (x : X) (m : ℕ) → IsReplay w f → HaveSame (w ++ x ∷ []) (take m f) → IsReplay (w ++ x ∷ []) f
 IsReplay-push w f x m replay same = record {
   beginnings = λ n.
-    elim (cases_lt (length w) n) [
-      | inl past ↦
-          let all : take n (w ++ x ∷ []) ≡ w ++ x ∷ [] = take_all n (w ++ x ∷ []) (omega (arith, length-append w (x ∷ []))) in
-          (m, rw all same)
-      | inr within ↦ let front : take n (w ++ x ∷ []) ≡ take n w = take-append-le n w (x ∷ []) within in rw front (replay.beginnings n)
-    ]
+      elim (cases_lt (length w) n) [
+        | inl past ↦
+            let all : take n (w ++ x ∷ []) ≡ w ++ x ∷ [] = take_all n (w ++ x ∷ []) (omega (arith, length-append w (x ∷ []))) in
+            (m, rw all same)
+        | inr within ↦ let front : take n (w ++ x ∷ []) ≡ take n w = take-append-le n w (x ∷ []) within in rw front (replay.beginnings n)
+      ];
 }
 
 -- an element that was there already
@@ -92,27 +92,27 @@ IsReplay-next w f x n replay same below here =
 pub IsReplay-take : {X : Type 0} (k : ℕ) (w f : List X) → IsReplay w f → IsReplay (take k w) f
 IsReplay-take k w f replay = record {
   beginnings = λ n.
-    elim (cases_lt k n) [
-      | inl past ↦
-          let all : take n (take k w) ≡ take k w = take_all n (take k w) (omega (arith, length-take k w)) in
-          rw all (replay.beginnings k)
-      | inr within ↦ let front : take n (take k w) ≡ take n w = take-take n k w within in rw front (replay.beginnings n)
-    ]
+      elim (cases_lt k n) [
+        | inl past ↦
+            let all : take n (take k w) ≡ take k w = take_all n (take k w) (omega (arith, length-take k w)) in
+            rw all (replay.beginnings k)
+        | inr within ↦ let front : take n (take k w) ≡ take n w = take-take n k w within in rw front (replay.beginnings n)
+      ];
 }
 
 -- f goes on
 pub IsReplay-longer : {X : Type 0} (w f g : List X) → IsReplay w f → IsReplay w (f ++ g)
 IsReplay-longer w f g replay = record {
   beginnings = λ n.
-    let m = replay.beginnings n in
-    elim (cases_lt (length f) m.0) [
-      | inl past ↦
-          let all : take m.0 f ≡ f = take_all m.0 f (omega arith) in
-          let front : take (length f) (f ++ g) ≡ f = take_at f g (length f) refl in
-          let same : HaveSame (take n w) f = rw all at m.1 in
-          (length f, rw front same)
-      | inr within ↦ let front : take m.0 (f ++ g) ≡ take m.0 f = take-append-le m.0 f g within in (m.0, rw front m.1)
-    ]
+      let m = replay.beginnings n in
+      elim (cases_lt (length f) m.0) [
+        | inl past ↦
+            let all : take m.0 f ≡ f = take_all m.0 f (omega arith) in
+            let front : take (length f) (f ++ g) ≡ f = take_at f g (length f) refl in
+            let same : HaveSame (take n w) f = rw all at m.1 in
+            (length f, rw front same)
+        | inr within ↦ let front : take m.0 (f ++ g) ≡ take m.0 f = take-append-le m.0 f g within in (m.0, rw front m.1)
+      ];
 }
 
 -- ---- elements of a beginning
@@ -163,21 +163,21 @@ pub next_is : {X : Type 0} (v f : List X) (x : X) (m n : ℕ) → HasNoneTwice f
 next_is v f x m n apart before after new =
     let found = Contains-take n f x (after.forth x (Contains-push v x)) in
     let late : m ≤ found.0 =
-      elim (cases_lt found.0 m) [
-        | inl early ↦ absurd (new (before.back x (Contains-from_take m found.0 f x early found.2 found.3)))
-        | inr past ↦ past
-      ] in
+    elim (cases_lt found.0 m) [
+      | inl early ↦ absurd (new (before.back x (Contains-from_take m found.0 f x early found.2 found.3)))
+      | inr past ↦ past
+    ] in
     let within : m < length f = omega (arith, late, found.2) in
     let y = get_or f m x in
     let here : get_or f m y ≡ y = get_or_default f m y x within in
     let in_f : Contains (take n f) y = Contains-from_take n m f y (omega (arith, late, found.1)) within here in
     let is : x ≡ y =
-      elim (Contains-push_cases v x y (after.back y in_f)) [
-        | inl old ↦
-            let earlier = Contains-take m f y (before.forth y old) in
-            absurd (apart earlier.0 m y earlier.1 within (earlier.3 ∙ sym here))
-        | inr same ↦ same
-      ] in
+    elim (Contains-push_cases v x y (after.back y in_f)) [
+      | inl old ↦
+          let earlier = Contains-take m f y (before.forth y old) in
+          absurd (apart earlier.0 m y earlier.1 within (earlier.3 ∙ sym here))
+      | inr same ↦ same
+    ] in
     (within, sym is)
 
 module _ {X : Type 0} (same : X → X → Bool) (decides : (a b : X) → Decides (same a b) (a ≡ b)) where
