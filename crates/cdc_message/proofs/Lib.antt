@@ -3,6 +3,7 @@ pub mod Bytes
 pub mod Decimals
 pub mod Examples
 pub mod Law
+pub mod LineLaws
 pub mod Parts
 pub mod ReplayLaws
 pub mod RisesLaws

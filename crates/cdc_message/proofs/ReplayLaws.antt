@@ -1,10 +1,10 @@
 -- Laws of replays, whatever the lists hold.
 use Rattle.std.proofs.Common.{◌≡◌, ◌≢◌, ℕ, zero, suc, ◌+◌, ◌<◌, ◌≤◌, Bool, true, false, cond, List, [], ◌∷◌, ◌++◌, length, get_or, take, drop, refl, sym, ap, ◌∙◌, subst, inl, inr, arith, add-one}
-use Rattle.std.specs.Prelude.{Contains, AllPairs, fold}
+use Rattle.std.specs.Prelude.{Contains, AllPairs, fold, max}
 use Rattle.std.specs.Bool.{Decides}
 use Rattle.std.proofs.lemmas.Bool.{cases_Bool, cases_lt}
 use Rattle.std.proofs.lemmas.Bool.Decides.{Decides-by_or, not_from_Decides}
-use Rattle.std.proofs.lemmas.List.{take_all, take_at, take-take, take-append-le, take-append-drop, take_more, length-take, length-append, get_or-take, get_or_default}
+use Rattle.std.proofs.lemmas.List.{take_all, take_at, take-take, take-append-le, take-append-drop, take_more, length-take, length-append, get_or-take, get_or_default, get_or_at}
 use Rattle.std.proofs.lemmas.List.Elements.{Contains-append_left, Contains-get_or, Contains-push, Contains-push_cases, Decides-contains}
 use Rattle.std.proofs.lemmas.List.Sums.{fold-append}
 use Rattle.cdc_message.specs.Replays.{HaveSame, IsReplay, IsPrefix, HasNoneTwice, has_same, firsts}
@@ -246,3 +246,50 @@ module _ {X : Type 0} (same : X → X → Bool) (decides : (a b : X) → Decides
       let all : take (length w) w ≡ w = take_all (length w) w (omega arith) in
       let b : HasBegun same w f = rw all at (HasBegun-replay w f apart replay (length w)) in
       record { rest = drop b.count f; whole = rw b.firsts_are (take-append-drop b.count f) }
+
+-- ---- elements by their places in f
+
+-- an element of f that stands in what came, or comes next
+pub HaveSame-place : {X : Type 0} (w f : List X) (x : X) (n i : ℕ) → HaveSame w (take n f) → i ≤ n → i < length f → get_or f i x ≡ x
+    → HaveSame (w ++ x ∷ []) (take (max n (i + 1)) f)
+HaveSame-place w f x n i same near below here =
+    elim (cases_lt i n) [
+      | inl old ↦
+          let count : max n (i + 1) ≡ n = omega arith in
+          rw count (HaveSame-again w (take n f) x same (same.back x (Contains-from_take n i f x old below here)))
+      | inr next ↦
+          let is : i ≡ n = omega arith in
+          let at : get_or f n x ≡ x = rw is at here in
+          let in_f : n < length f = rw is at below in
+          let count : max n (i + 1) ≡ n + 1 = omega arith in
+          let more : take (n + 1) f ≡ take n f ++ x ∷ [] = take_more f n x in_f ∙ ap (λ y. take n f ++ y ∷ []) at in
+          rw (count, more) (HaveSame-push w (take n f) x same)
+    ]
+
+pub IsReplay-place : {X : Type 0} (w f : List X) (x : X) (n i : ℕ) → IsReplay w f → HaveSame w (take n f) → i ≤ n → i < length f
+    → get_or f i x ≡ x → IsReplay (w ++ x ∷ []) f
+IsReplay-place w f x n i replay same near below here =
+    IsReplay-push w f x (max n (i + 1)) replay (HaveSame-place w f x n i same near below here)
+
+-- ---- a replay that has come to the end
+
+-- the last element of a list without repeats stands at its end alone
+last_place : {X : Type 0} (f : List X) (x : X) (i : ℕ) → HasNoneTwice (f ++ x ∷ []) → i < length (f ++ x ∷ []) → get_or (f ++ x ∷ []) i x ≡ x
+    → i ≡ length f
+last_place f x i apart below here =
+    elim (cases_lt i (length f)) [
+      | inl early ↦
+          let within : length f < length (f ++ x ∷ []) = omega (arith, length-append f (x ∷ [])) in
+          absurd (apart i (length f) x early within (here ∙ sym (get_or_at f x [] x (length f) refl)))
+      | inr past ↦ omega (arith, length-append f (x ∷ []))
+    ]
+
+-- a replay that has the last element has them all
+pub firsts-all : {X : Type 0} (same : X → X → Bool) (decides : (a b : X) → Decides (same a b) (a ≡ b)) (w f : List X) (x : X)
+    → HasNoneTwice (f ++ x ∷ []) → IsReplay w (f ++ x ∷ []) → Contains w x → firsts same w ≡ f ++ x ∷ []
+firsts-all same decides w f x apart replay there =
+    let all : take (length w) w ≡ w = take_all (length w) w (omega arith) in
+    let b : HasBegun same w (f ++ x ∷ []) = rw all at (HasBegun-replay same decides w (f ++ x ∷ []) apart replay (length w)) in
+    let found = Contains-take b.count (f ++ x ∷ []) x (b.elements.forth x there) in
+    let last : found.0 ≡ length f = last_place f x found.0 apart found.2 found.3 in
+    b.firsts_are ∙ take_all b.count (f ++ x ∷ []) (omega (arith, length-append f (x ∷ []), last, found.1))

@@ -115,7 +115,7 @@ pub rises-push : (es : List Event) (e : Event)
 rises-push es e = rw (is_newest-last es e) at (rises-is_newest es e)
 
 -- the test says what the words say
-Decides-is_newest : (es : List Event) (e : Event) → Decides (is_newest es e) ((0 < e.timestamp) × All (λ other. other.timestamp < e.timestamp) es)
+pub Decides-is_newest : (es : List Event) (e : Event) → Decides (is_newest es e) ((0 < e.timestamp) × All (λ other. other.timestamp < e.timestamp) es)
 Decides-is_newest es e =
     Decides-and (nat_lt 0 e.timestamp) (list_all (λ other. nat_lt other.timestamp e.timestamp) es)
     (Decides-ltb 0 e.timestamp)
@@ -181,7 +181,7 @@ is_newest-old es e there =
     ]
 
 -- an event is later than all before it in a list that rises
-rises_after : (es : List Event) (e : Event) (more : List Event) → TimestampsRise (es ++ e ∷ more)
+pub rises_after : (es : List Event) (e : Event) (more : List Event) → TimestampsRise (es ++ e ∷ more)
     → (0 < e.timestamp) × All (λ other. other.timestamp < e.timestamp) es
 rises_after es e more rise =
     let within : length es < length (es ++ e ∷ more) = omega (arith, length-append es (e ∷ more)) in
