@@ -25,9 +25,9 @@ IsPrefix-rises w f apart rise replay =
     record {
       rest = events_of front.rest;
       whole =
-        ap (λ es. es ++ events_of front.rest) (sym (rises-firsts f apart rise w replay))
-        ∙ sym (events_of-append (firsts same_item w) front.rest)
-        ∙ ap events_of front.whole;
+          ap (λ es. es ++ events_of front.rest) (sym (rises-firsts f apart rise w replay))
+          ∙ sym (events_of-append (firsts same_item w) front.rest)
+          ∙ ap events_of front.whole;
     }
 
 -- where the end mark has come it is all of them
@@ -66,8 +66,8 @@ pub TimestampsRise-push : (es : List Event) (e : Event) → TimestampsRise es �
 TimestampsRise-push es e rise later = record {
   above_zero = All-push (λ (x : Event). 0 < x.timestamp) es e rise.above_zero (omega arith);
   rising =
-    all_pairs_push (λ (a b : Event). a.timestamp < b.timestamp) es e rise.rising
-    (λ k d below. omega (arith, below_last es rise k d below));
+      all_pairs_push (λ (a b : Event). a.timestamp < b.timestamp) es e rise.rising
+      (λ k d below. omega (arith, below_last es rise k d below));
 }
 
 rises_from : (before es : List Event) → TimestampsRise (rises before) → TimestampsRise (rises (before ++ es))
