@@ -1,6 +1,6 @@
 -- Laws of the items of events that rise, and of their replays.
 use Rattle.std.proofs.Common.{◌≡◌, ◌≢◌, ℕ, zero, suc, ◌+◌, ◌-◌, ◌<◌, ◌≤◌, Bool, true, false, cond, ◌⊎◌, List, [], ◌∷◌, ◌++◌, length, get_or, take, drop, map, refl, sym, ap, ◌∙◌, subst, inl, inr, arith}
-use Rattle.std.specs.Prelude.{All, AllPairs, Contains, nat_lt}
+use Rattle.std.specs.Prelude.{All, AllPairs, Contains, nat_lt, ◌||◌}
 use Rattle.std.proofs.lemmas.Bool.{cases_Bool, cases_lt}
 use Rattle.std.proofs.lemmas.Bool.Decides.{Decides-ltb}
 use Rattle.std.proofs.lemmas.List.{append-nil, append_assoc, length-map, get_or-map}
@@ -9,10 +9,10 @@ use Rattle.std.proofs.lemmas.List.Quantifiers.{all_pairs_push}
 use Rattle.cdc_types.specs.declared.events.Event.{Event}
 use Rattle.cdc_message.specs.declared.items.Item.{Item}
 use Rattle.cdc_message.specs.declared.items.Item.TheVariants.{Event as OfEvent, EndMark}
-use Rattle.cdc_message.specs.Items.{events_of, same_item, is_newest, rises, last_timestamp, last_timestamp_from, TimestampsRise}
-use Rattle.cdc_message.specs.Replays.{IsReplay, IsPrefix, HasNoneTwice, firsts}
-use Rattle.cdc_message.proofs.ReplayLaws.{IsPrefix-firsts, firsts-all}
-use Rattle.cdc_message.proofs.RisesLaws.{rises-firsts, rises-push, rises-is_newest, rises_after, Decides-is_newest, events_of-append, events_of-push_end}
+use Rattle.cdc_message.specs.Items.{events_of, same_event, same_item, is_newest, rises, last_timestamp, last_timestamp_from, TimestampsRise}
+use Rattle.cdc_message.specs.Replays.{IsReplay, IsPrefix, HasNoneTwice, has_same, firsts}
+use Rattle.cdc_message.proofs.ReplayLaws.{IsPrefix-firsts, firsts-all, firsts-push}
+use Rattle.cdc_message.proofs.RisesLaws.{rises-firsts, rises-push, rises-is_newest, rises_after, Decides-is_newest, events_of-append, events_of-push_event, events_of-push_end}
 use Rattle.cdc_message.proofs.Same.{Decides-same_item}
 
 -- ---- what a receiver of a replay takes for new
@@ -39,6 +39,53 @@ rises-all w f apart rise replay ended =
     sym (rises-firsts (f ++ EndMark ∷ []) apart rising w replay)
     ∙ ap events_of (firsts-all same_item Decides-same_item w f EndMark apart replay ended)
     ∙ same
+
+-- ---- the first ones of items and of their events
+
+has_same-events : (e : Event) (items : List Item) → has_same same_item (OfEvent e) items ≡ has_same same_event e (events_of items)
+has_same-events e [] = refl
+has_same-events e (OfEvent a ∷ items) = ap (λ t. same_event a e || t) (has_same-events e items)
+has_same-events e (EndMark ∷ items) = has_same-events e items
+
+-- what one more item makes of both
+firsts_push : (w : List Item) (x : Item) → events_of (firsts same_item w) ≡ firsts same_event (events_of w)
+    → events_of (firsts same_item (w ++ x ∷ [])) ≡ firsts same_event (events_of (w ++ x ∷ []))
+firsts_push w EndMark so_far =
+    let stays : events_of (firsts same_item (w ++ EndMark ∷ [])) ≡ events_of (firsts same_item w) =
+    elim (cases_Bool (has_same same_item EndMark (firsts same_item w))) [
+      | inl old ↦ ap events_of (rw old at (firsts-push same_item w EndMark))
+      | inr new ↦ ap events_of (rw new at (firsts-push same_item w EndMark)) ∙ events_of-push_end (firsts same_item w)
+    ] in
+    stays ∙ so_far ∙ ap (firsts same_event) (sym (events_of-push_end w))
+firsts_push w (OfEvent e) so_far =
+    let agree : has_same same_item (OfEvent e) (firsts same_item w) ≡ has_same same_event e (firsts same_event (events_of w)) =
+    has_same-events e (firsts same_item w) ∙ ap (has_same same_event e) so_far in
+    let more : firsts same_event (events_of (w ++ OfEvent e ∷ []))
+    ≡ cond (has_same same_event e (firsts same_event (events_of w))) (firsts same_event (events_of w)) (firsts same_event (events_of w) ++ e ∷ []) =
+    ap (firsts same_event) (events_of-push_event w e) ∙ firsts-push same_event (events_of w) e in
+    elim (cases_Bool (has_same same_item (OfEvent e) (firsts same_item w))) [
+      | inl old ↦
+          let there : has_same same_event e (firsts same_event (events_of w)) ≡ true = sym agree ∙ old in
+          ap events_of (rw old at (firsts-push same_item w (OfEvent e))) ∙ so_far ∙ sym (rw there at more)
+      | inr new ↦
+          let missing : has_same same_event e (firsts same_event (events_of w)) ≡ false = sym agree ∙ new in
+          ap events_of (rw new at (firsts-push same_item w (OfEvent e)))
+          ∙ events_of-push_event (firsts same_item w) e
+          ∙ ap (λ es. es ++ e ∷ []) so_far
+          ∙ sym (rw missing at more)
+    ]
+
+firsts_from : (before w : List Item) → events_of (firsts same_item before) ≡ firsts same_event (events_of before)
+    → events_of (firsts same_item (before ++ w)) ≡ firsts same_event (events_of (before ++ w))
+firsts_from before [] so_far = rw (append-nil before) so_far
+firsts_from before (x ∷ w) so_far =
+    let whole : (before ++ x ∷ []) ++ w ≡ before ++ x ∷ w = append_assoc before (x ∷ []) w in
+    let P : List Item → Type 0 = λ all. events_of (firsts same_item all) ≡ firsts same_event (events_of all) in
+    subst P whole (firsts_from (before ++ x ∷ []) w (firsts_push before x so_far))
+
+-- the events of the first items are the first events
+pub events_of-firsts : (w : List Item) → events_of (firsts same_item w) ≡ firsts same_event (events_of w)
+events_of-firsts w = firsts_from [] w refl
 
 -- ---- timestamps that rise
 

@@ -271,18 +271,28 @@ pub IsReplay-place : {X : Type 0} (w f : List X) (x : X) (n i : ℕ) → IsRepla
 IsReplay-place w f x n i replay same near below here =
     IsReplay-push w f x (max n (i + 1)) replay (HaveSame-place w f x n i same near below here)
 
--- ---- a replay that has come to the end
-
--- the last element of a list without repeats stands at its end alone
-last_place : {X : Type 0} (f : List X) (x : X) (i : ℕ) → HasNoneTwice (f ++ x ∷ []) → i < length (f ++ x ∷ []) → get_or (f ++ x ∷ []) i x ≡ x
-    → i ≡ length f
-last_place f x i apart below here =
-    elim (cases_lt i (length f)) [
-      | inl early ↦
-          let within : length f < length (f ++ x ∷ []) = omega (arith, length-append f (x ∷ [])) in
-          absurd (apart i (length f) x early within (here ∙ sym (get_or_at f x [] x (length f) refl)))
-      | inr past ↦ omega (arith, length-append f (x ∷ []))
+-- no two places of a list without repeats hold one element
+one_place : {X : Type 0} (f : List X) (x : X) (i j : ℕ) → HasNoneTwice f → i < length f → j < length f → get_or f i x ≡ x → get_or f j x ≡ x → i ≡ j
+one_place f x i j apart in_i in_j here there =
+    elim (cases_lt i j) [
+      | inl before ↦ absurd (apart i j x before in_j (here ∙ sym there))
+      | inr reached ↦
+          elim (cases_lt j i) [
+            | inl after ↦ absurd (apart j i x after in_i (there ∙ sym here))
+            | inr same ↦ omega arith
+          ]
     ]
+
+-- a replay that has an element of f has all before it
+pub IsReplay-earlier : {X : Type 0} (w f : List X) (x y : X) (i j : ℕ) → IsReplay w f → HasNoneTwice f → i ≤ j → j < length f
+    → get_or f i x ≡ x → get_or f j y ≡ y → Contains w y → Contains w x
+IsReplay-earlier w f x y i j replay apart before below at_i at_j there =
+    let all = IsReplay-all w f replay in
+    let found = Contains-take all.0 f y (all.1.forth y there) in
+    let place : found.0 ≡ j = one_place f y found.0 j apart found.2 below found.3 at_j in
+    all.1.back x (Contains-from_take all.0 i f x (omega (arith, place, found.1)) (omega arith) at_i)
+
+-- ---- a replay that has come to the end
 
 -- a replay that has the last element has them all
 pub firsts-all : {X : Type 0} (same : X → X → Bool) (decides : (a b : X) → Decides (same a b) (a ≡ b)) (w f : List X) (x : X)
@@ -291,5 +301,7 @@ firsts-all same decides w f x apart replay there =
     let all : take (length w) w ≡ w = take_all (length w) w (omega arith) in
     let b : HasBegun same w (f ++ x ∷ []) = rw all at (HasBegun-replay same decides w (f ++ x ∷ []) apart replay (length w)) in
     let found = Contains-take b.count (f ++ x ∷ []) x (b.elements.forth x there) in
-    let last : found.0 ≡ length f = last_place f x found.0 apart found.2 found.3 in
+    let within : length f < length (f ++ x ∷ []) = omega (arith, length-append f (x ∷ [])) in
+    let last : found.0 ≡ length f =
+    one_place (f ++ x ∷ []) x found.0 (length f) apart found.2 within found.3 (get_or_at f x [] x (length f) refl) in
     b.firsts_are ∙ take_all b.count (f ++ x ∷ []) (omega (arith, length-append f (x ∷ []), last, found.1))
