@@ -3,7 +3,9 @@ pub mod Bytes
 pub mod DecimalTexts
 pub mod Examples
 pub mod Law
+pub mod LineLaws
 pub mod Parts
+pub mod ReplayExamples
 pub mod ReplayLaws
 pub mod RisesLaws
 pub mod Same

@@ -1,11 +1,11 @@
 -- Laws of replays, whatever the lists hold.
-use Rattle.std.proofs.Common.{◌≡◌, ◌≢◌, ℕ, zero, suc, ◌+◌, ◌<◌, ◌≤◌, Bool, true, false, cond, List, [], ◌∷◌, ◌++◌, length, get_or, take, drop, refl, sym, ap, ◌∙◌, subst, inl, inr, arith, add-one}
-use Rattle.std.specs.Prelude.{Contains, AllPairs, fold}
+use Rattle.std.proofs.Common.{◌≡◌, ℕ, zero, suc, ◌+◌, ◌<◌, ◌≤◌, Bool, true, false, cond, List, [], ◌∷◌, ◌++◌, length, get_or, take, drop, refl, sym, ap, ◌∙◌, subst, inl, inr, arith, add-one}
+use Rattle.std.specs.Prelude.{Contains, max}
 use Rattle.std.specs.Bool.{Decides}
 use Rattle.std.proofs.lemmas.Bool.{cases_Bool, cases_lt}
 use Rattle.std.proofs.lemmas.Bool.Decides.{Decides-by_or, not_from_Decides}
-use Rattle.std.proofs.lemmas.List.{take_all, take_at, take-take, take-append-le, take-append-drop, take_more, length-take, length-append, get_or-take, get_or_default}
-use Rattle.std.proofs.lemmas.List.Elements.{Contains-append_left, Contains-get_or, Contains-push, Contains-push_cases, Decides-contains}
+use Rattle.std.proofs.lemmas.List.{take_all, take_at, take-take, take-append-le, take-append-drop, take_more, length-take, length-append, get_or-take, get_or_default, get_or_at}
+use Rattle.std.proofs.lemmas.List.Elements.{Contains-append_left, Contains-push, Contains-push_cases, Decides-contains}
 use Rattle.std.proofs.lemmas.List.Sums.{fold-append}
 use Rattle.cdc_message.specs.Replays.{HaveSame, IsReplay, IsPrefix, HasNoneTwice, has_same, firsts}
 
@@ -21,7 +21,7 @@ HaveSame-trans p q = record { forth = λ x h. q.forth x (p.forth x h); back = λ
 pub HaveSame-again : {X : Type 0} (xs ys : List X) (x : X) → HaveSame xs ys → Contains xs x → HaveSame (xs ++ x ∷ []) ys
 HaveSame-again xs ys x same there = record {
   forth = λ y h.
-    elim (Contains-push_cases xs x y h) [ inl old ↦ same.forth y old | inr is ↦ subst (Contains ys) is (same.forth x there) ];
+      elim (Contains-push_cases xs x y h) [ inl old ↦ same.forth y old | inr is ↦ subst (Contains ys) is (same.forth x there) ];
   back = λ y h. Contains-append_left xs (x ∷ []) y (same.back y h);
 }
 
@@ -43,7 +43,7 @@ HaveSame-push xs ys x same = record {
 
 pub IsReplay-nil : {X : Type 0} (f : List X) → IsReplay [] f
 IsReplay-nil f = record {
-  beginnings = λ n. let none = take_all n (take 0 f) (omega arith) in (0, rw none (HaveSame-refl (take 0 f)))
+  beginnings = λ n. let none = take_all n (take 0 f) (omega arith) in (0, rw none (HaveSame-refl (take 0 f)));
 }
 
 pub IsReplay-refl : {X : Type 0} (f : List X) → IsReplay f f
@@ -52,9 +52,9 @@ IsReplay-refl f = record { beginnings = λ n. (n, HaveSame-refl (take n f)) }
 pub IsReplay-trans : {X : Type 0} (w v f : List X) → IsReplay w v → IsReplay v f → IsReplay w f
 IsReplay-trans w v f of_v of_f = record {
   beginnings = λ n.
-    let m = of_v.beginnings n in
-    let k = of_f.beginnings m.0 in
-    (k.0, HaveSame-trans m.1 k.1)
+      let m = of_v.beginnings n in
+      let k = of_f.beginnings m.0 in
+      (k.0, HaveSame-trans m.1 k.1);
 }
 
 -- all of a replay has what some beginning has
@@ -67,12 +67,12 @@ IsReplay-all w f replay =
 pub IsReplay-push : {X : Type 0} (w f : List X) (x : X) (m : ℕ) → IsReplay w f → HaveSame (w ++ x ∷ []) (take m f) → IsReplay (w ++ x ∷ []) f
 IsReplay-push w f x m replay same = record {
   beginnings = λ n.
-    elim (cases_lt (length w) n) [
-      | inl past ↦
-          let all : take n (w ++ x ∷ []) ≡ w ++ x ∷ [] = take_all n (w ++ x ∷ []) (omega (arith, length-append w (x ∷ []))) in
-          (m, rw all same)
-      | inr within ↦ let front : take n (w ++ x ∷ []) ≡ take n w = take-append-le n w (x ∷ []) within in rw front (replay.beginnings n)
-    ]
+      elim (cases_lt (length w) n) [
+        | inl past ↦
+            let all : take n (w ++ x ∷ []) ≡ w ++ x ∷ [] = take_all n (w ++ x ∷ []) (omega (arith, length-append w (x ∷ []))) in
+            (m, rw all same)
+        | inr within ↦ let front : take n (w ++ x ∷ []) ≡ take n w = take-append-le n w (x ∷ []) within in rw front (replay.beginnings n)
+      ];
 }
 
 -- an element that was there already
@@ -92,27 +92,27 @@ IsReplay-next w f x n replay same below here =
 pub IsReplay-take : {X : Type 0} (k : ℕ) (w f : List X) → IsReplay w f → IsReplay (take k w) f
 IsReplay-take k w f replay = record {
   beginnings = λ n.
-    elim (cases_lt k n) [
-      | inl past ↦
-          let all : take n (take k w) ≡ take k w = take_all n (take k w) (omega (arith, length-take k w)) in
-          rw all (replay.beginnings k)
-      | inr within ↦ let front : take n (take k w) ≡ take n w = take-take n k w within in rw front (replay.beginnings n)
-    ]
+      elim (cases_lt k n) [
+        | inl past ↦
+            let all : take n (take k w) ≡ take k w = take_all n (take k w) (omega (arith, length-take k w)) in
+            rw all (replay.beginnings k)
+        | inr within ↦ let front : take n (take k w) ≡ take n w = take-take n k w within in rw front (replay.beginnings n)
+      ];
 }
 
 -- f goes on
 pub IsReplay-longer : {X : Type 0} (w f g : List X) → IsReplay w f → IsReplay w (f ++ g)
 IsReplay-longer w f g replay = record {
   beginnings = λ n.
-    let m = replay.beginnings n in
-    elim (cases_lt (length f) m.0) [
-      | inl past ↦
-          let all : take m.0 f ≡ f = take_all m.0 f (omega arith) in
-          let front : take (length f) (f ++ g) ≡ f = take_at f g (length f) refl in
-          let same : HaveSame (take n w) f = rw all at m.1 in
-          (length f, rw front same)
-      | inr within ↦ let front : take m.0 (f ++ g) ≡ take m.0 f = take-append-le m.0 f g within in (m.0, rw front m.1)
-    ]
+      let m = replay.beginnings n in
+      elim (cases_lt (length f) m.0) [
+        | inl past ↦
+            let all : take m.0 f ≡ f = take_all m.0 f (omega arith) in
+            let front : take (length f) (f ++ g) ≡ f = take_at f g (length f) refl in
+            let same : HaveSame (take n w) f = rw all at m.1 in
+            (length f, rw front same)
+        | inr within ↦ let front : take m.0 (f ++ g) ≡ take m.0 f = take-append-le m.0 f g within in (m.0, rw front m.1)
+      ];
 }
 
 -- ---- elements of a beginning
@@ -163,21 +163,21 @@ pub next_is : {X : Type 0} (v f : List X) (x : X) (m n : ℕ) → HasNoneTwice f
 next_is v f x m n apart before after new =
     let found = Contains-take n f x (after.forth x (Contains-push v x)) in
     let late : m ≤ found.0 =
-      elim (cases_lt found.0 m) [
-        | inl early ↦ absurd (new (before.back x (Contains-from_take m found.0 f x early found.2 found.3)))
-        | inr past ↦ past
-      ] in
+    elim (cases_lt found.0 m) [
+      | inl early ↦ absurd (new (before.back x (Contains-from_take m found.0 f x early found.2 found.3)))
+      | inr past ↦ past
+    ] in
     let within : m < length f = omega (arith, late, found.2) in
     let y = get_or f m x in
     let here : get_or f m y ≡ y = get_or_default f m y x within in
     let in_f : Contains (take n f) y = Contains-from_take n m f y (omega (arith, late, found.1)) within here in
     let is : x ≡ y =
-      elim (Contains-push_cases v x y (after.back y in_f)) [
-        | inl old ↦
-            let earlier = Contains-take m f y (before.forth y old) in
-            absurd (apart earlier.0 m y earlier.1 within (earlier.3 ∙ sym here))
-        | inr same ↦ same
-      ] in
+    elim (Contains-push_cases v x y (after.back y in_f)) [
+      | inl old ↦
+          let earlier = Contains-take m f y (before.forth y old) in
+          absurd (apart earlier.0 m y earlier.1 within (earlier.3 ∙ sym here))
+      | inr same ↦ same
+    ] in
     (within, sym is)
 
 module _ {X : Type 0} (same : X → X → Bool) (decides : (a b : X) → Decides (same a b) (a ≡ b)) where
@@ -246,3 +246,62 @@ module _ {X : Type 0} (same : X → X → Bool) (decides : (a b : X) → Decides
       let all : take (length w) w ≡ w = take_all (length w) w (omega arith) in
       let b : HasBegun same w f = rw all at (HasBegun-replay w f apart replay (length w)) in
       record { rest = drop b.count f; whole = rw b.firsts_are (take-append-drop b.count f) }
+
+-- ---- elements by their places in f
+
+-- an element of f that stands in what came, or comes next
+pub HaveSame-place : {X : Type 0} (w f : List X) (x : X) (n i : ℕ) → HaveSame w (take n f) → i ≤ n → i < length f → get_or f i x ≡ x
+    → HaveSame (w ++ x ∷ []) (take (max n (i + 1)) f)
+HaveSame-place w f x n i same near below here =
+    elim (cases_lt i n) [
+      | inl old ↦
+          let count : max n (i + 1) ≡ n = omega arith in
+          rw count (HaveSame-again w (take n f) x same (same.back x (Contains-from_take n i f x old below here)))
+      | inr next ↦
+          let is : i ≡ n = omega arith in
+          let at : get_or f n x ≡ x = rw is at here in
+          let in_f : n < length f = rw is at below in
+          let count : max n (i + 1) ≡ n + 1 = omega arith in
+          let more : take (n + 1) f ≡ take n f ++ x ∷ [] = take_more f n x in_f ∙ ap (λ y. take n f ++ y ∷ []) at in
+          rw (count, more) (HaveSame-push w (take n f) x same)
+    ]
+
+pub IsReplay-place : {X : Type 0} (w f : List X) (x : X) (n i : ℕ) → IsReplay w f → HaveSame w (take n f) → i ≤ n → i < length f
+    → get_or f i x ≡ x → IsReplay (w ++ x ∷ []) f
+IsReplay-place w f x n i replay same near below here =
+    IsReplay-push w f x (max n (i + 1)) replay (HaveSame-place w f x n i same near below here)
+
+-- no two places of a list without repeats hold one element
+one_place : {X : Type 0} (f : List X) (x : X) (i j : ℕ) → HasNoneTwice f → i < length f → j < length f → get_or f i x ≡ x → get_or f j x ≡ x → i ≡ j
+one_place f x i j apart in_i in_j here there =
+    elim (cases_lt i j) [
+      | inl before ↦ absurd (apart i j x before in_j (here ∙ sym there))
+      | inr reached ↦
+          elim (cases_lt j i) [
+            | inl after ↦ absurd (apart j i x after in_i (there ∙ sym here))
+            | inr same ↦ omega arith
+          ]
+    ]
+
+-- a replay that has an element of f has all before it
+pub IsReplay-earlier : {X : Type 0} (w f : List X) (x y : X) (i j : ℕ) → IsReplay w f → HasNoneTwice f → i ≤ j → j < length f
+    → get_or f i x ≡ x → get_or f j y ≡ y → Contains w y → Contains w x
+IsReplay-earlier w f x y i j replay apart before below at_i at_j there =
+    let all = IsReplay-all w f replay in
+    let found = Contains-take all.0 f y (all.1.forth y there) in
+    let place : found.0 ≡ j = one_place f y found.0 j apart found.2 below found.3 at_j in
+    all.1.back x (Contains-from_take all.0 i f x (omega (arith, place, found.1)) (omega arith) at_i)
+
+-- ---- a replay that has come to the end
+
+-- a replay that has the last element has them all
+pub firsts-all : {X : Type 0} (same : X → X → Bool) (decides : (a b : X) → Decides (same a b) (a ≡ b)) (w f : List X) (x : X)
+    → HasNoneTwice (f ++ x ∷ []) → IsReplay w (f ++ x ∷ []) → Contains w x → firsts same w ≡ f ++ x ∷ []
+firsts-all same decides w f x apart replay there =
+    let all : take (length w) w ≡ w = take_all (length w) w (omega arith) in
+    let b : HasBegun same w (f ++ x ∷ []) = rw all at (HasBegun-replay same decides w (f ++ x ∷ []) apart replay (length w)) in
+    let found = Contains-take b.count (f ++ x ∷ []) x (b.elements.forth x there) in
+    let within : length f < length (f ++ x ∷ []) = omega (arith, length-append f (x ∷ [])) in
+    let last : found.0 ≡ length f =
+    one_place (f ++ x ∷ []) x found.0 (length f) apart found.2 within found.3 (get_or_at f x [] x (length f) refl) in
+    b.firsts_are ∙ take_all b.count (f ++ x ∷ []) (omega (arith, length-append f (x ∷ []), last, found.1))

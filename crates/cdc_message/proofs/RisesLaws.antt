@@ -1,13 +1,12 @@
 -- Laws of the events that rise: what one more event makes of them, and that they are the first ones of a replay.
-use Rattle.std.proofs.Common.{◌≡◌, ◌≢◌, ◌⊎◌, ℕ, zero, suc, ◌+◌, ◌<◌, ◌≤◌, Bool, true, false, cond, List, [], ◌∷◌, ◌++◌, length, get_or, take, drop, refl, sym, ap, ◌∙◌, subst, inl, inr, arith, add-one}
-use Rattle.std.specs.Prelude.{◌&&◌, All, AllPairs, Contains, nat_lt, fold, max}
+use Rattle.std.proofs.Common.{◌≡◌, ◌⊎◌, ℕ, zero, suc, ◌+◌, ◌<◌, Bool, true, false, cond, List, [], ◌∷◌, ◌++◌, length, get_or, take, drop, refl, sym, ap, ◌∙◌, subst, inl, inr, arith, add-one}
+use Rattle.std.specs.Prelude.{◌&&◌, All, Contains, nat_lt, fold, max}
 use Rattle.std.specs.Bool.{Decides}
 use Rattle.std.specs.List.{list_all}
 use Rattle.std.proofs.lemmas.Bool.{cases_Bool, cases_lt}
-use Rattle.std.proofs.lemmas.Bool.Decides.{Decides-and, Decides-by_and, Decides-ltb, nat_tests, same_from_decides}
+use Rattle.std.proofs.lemmas.Bool.Decides.{Decides-and, Decides-by_and, Decides-ltb, nat_tests}
 use Rattle.std.proofs.lemmas.List.{append-nil, append_assoc, get_or_append_left, get_or_at, length-append, take_all, take-append-drop, take_more}
-use Rattle.std.proofs.lemmas.List.Elements.{All-contains, All-push, Contains-get_or, filter_map-append}
-use Rattle.std.proofs.lemmas.List.Quantifiers.{all_pairs_push}
+use Rattle.std.proofs.lemmas.List.Elements.{All-contains, Contains-get_or, filter_map-append}
 use Rattle.std.proofs.lemmas.List.Sums.{fold-append}
 use Rattle.cdc_types.specs.declared.events.Event.{Event}
 use Rattle.cdc_message.specs.declared.items.Item.{Item}
@@ -115,13 +114,13 @@ pub rises-push : (es : List Event) (e : Event)
 rises-push es e = rw (is_newest-last es e) at (rises-is_newest es e)
 
 -- the test says what the words say
-Decides-is_newest : (es : List Event) (e : Event) → Decides (is_newest es e) ((0 < e.timestamp) × All (λ other. other.timestamp < e.timestamp) es)
+pub Decides-is_newest : (es : List Event) (e : Event) → Decides (is_newest es e) ((0 < e.timestamp) × All (λ other. other.timestamp < e.timestamp) es)
 Decides-is_newest es e =
     Decides-and (nat_lt 0 e.timestamp) (list_all (λ other. nat_lt other.timestamp e.timestamp) es)
     (Decides-ltb 0 e.timestamp)
     (
-      Decides-by_and (λ (other : Event). nat_lt other.timestamp e.timestamp) (λ other. other.timestamp < e.timestamp)
-      (list_all (λ other. nat_lt other.timestamp e.timestamp)) (λ other. Decides-ltb other.timestamp e.timestamp) refl (λ _ _. refl) es
+    Decides-by_and (λ (other : Event). nat_lt other.timestamp e.timestamp) (λ other. other.timestamp < e.timestamp)
+    (list_all (λ other. nat_lt other.timestamp e.timestamp)) (λ other. Decides-ltb other.timestamp e.timestamp) refl (λ _ _. refl) es
     )
 
 -- ---- the events of items
@@ -181,12 +180,11 @@ is_newest-old es e there =
     ]
 
 -- an event is later than all before it in a list that rises
-rises_after : (es : List Event) (e : Event) (more : List Event) → TimestampsRise (es ++ e ∷ more)
+pub rises_after : (es : List Event) (e : Event) (more : List Event) → TimestampsRise (es ++ e ∷ more)
     → (0 < e.timestamp) × All (λ other. other.timestamp < e.timestamp) es
 rises_after es e more rise =
     let within : length es < length (es ++ e ∷ more) = omega (arith, length-append es (e ∷ more)) in
-    let here = λ (d : Event). get_or_at es e more d (length es) refl in
-    (
+    let here = λ (d : Event). get_or_at es e more d (length es) refl in (
       rw (here e) at (rise.above_zero (length es) e within),
       λ i d below. rw (get_or_append_left es (e ∷ more) d i below, here d) at (rise.rising i (length es) d below within),
     )
@@ -198,17 +196,17 @@ is_newest-next v f e m rise same below here =
     let front : take (m + 1) f ≡ take m f ++ OfEvent e ∷ [] = take_more f m (OfEvent e) below ∙ ap (λ y. take m f ++ y ∷ []) here in
     let whole : (take m f ++ OfEvent e ∷ []) ++ drop (m + 1) f ≡ f = ap (λ ys. ys ++ drop (m + 1) f) (sym front) ∙ take-append-drop (m + 1) f in
     let parts : events_of f ≡ events_of (take m f) ++ e ∷ events_of (drop (m + 1) f) =
-      ap events_of (sym whole)
-      ∙ events_of-append (take m f ++ OfEvent e ∷ []) (drop (m + 1) f)
-      ∙ ap (λ es. es ++ events_of (drop (m + 1) f)) (events_of-push_event (take m f) e)
-      ∙ append_assoc (events_of (take m f)) (e ∷ []) (events_of (drop (m + 1) f)) in
+    ap events_of (sym whole)
+    ∙ events_of-append (take m f ++ OfEvent e ∷ []) (drop (m + 1) f)
+    ∙ ap (λ es. es ++ events_of (drop (m + 1) f)) (events_of-push_event (take m f) e)
+    ∙ append_assoc (events_of (take m f)) (e ∷ []) (events_of (drop (m + 1) f)) in
     let after = rises_after (events_of (take m f)) e (events_of (drop (m + 1) f)) (subst TimestampsRise parts rise) in
     let P : Event → Type 0 = λ other. other.timestamp < e.timestamp in
     let all : All P (events_of v) =
-      λ i d within.
-        let other = get_or (events_of v) i d in
-        let came = same.forth (OfEvent other) (item_stands v other (Contains-get_or (events_of v) i d within)) in
-        All-contains P (events_of (take m f)) other after.1 (event_stands (take m f) other came) in
+    λ i d within.
+    let other = get_or (events_of v) i d in
+    let came = same.forth (OfEvent other) (item_stands v other (Contains-get_or (events_of v) i d within)) in
+    All-contains P (events_of (take m f)) other after.1 (event_stands (take m f) other came) in
     (Decides-is_newest (events_of v) e).1 (after.0, all)
 
 module _ (f : List Item) (apart : HasNoneTwice f) (rise : TimestampsRise (events_of f)) where
@@ -226,12 +224,12 @@ module _ (f : List Item) (apart : HasNoneTwice f) (rise : TimestampsRise (events
       ]
   rises-firsts_push v (OfEvent e) n b after so_far =
       let one_more : rises (events_of (v ++ OfEvent e ∷ [])) ≡ cond (is_newest (events_of v) e) (rises (events_of v) ++ e ∷ []) (rises (events_of v)) =
-        ap rises (events_of-push_event v e) ∙ rises-is_newest (events_of v) e in
+      ap rises (events_of-push_event v e) ∙ rises-is_newest (events_of v) e in
       elim (cases_Bool (has_same same_item (OfEvent e) (firsts same_item v))) [
         | inl old ↦
             let first = rw old at (firsts-push same_item v (OfEvent e)) in
             let among : Contains (take b.count f) (OfEvent e) =
-              rw b.firsts_are at ((Decides-has_same same_item Decides-same_item (OfEvent e) (firsts same_item v)).0 old) in
+            rw b.firsts_are at ((Decides-has_same same_item Decides-same_item (OfEvent e) (firsts same_item v)).0 old) in
             let came = event_stands v e (b.elements.back (OfEvent e) among) in
             let late = is_newest-old (events_of v) e came in
             ap events_of first ∙ so_far ∙ sym (rw late at one_more)

@@ -9,5 +9,4 @@ pub fn replay_laws()
     ensures prefix { FirstsAreAPrefix }
     ensures rises { FirstsRise }
     ensures composes { ReplaysCompose }
-{
-}
+{}
