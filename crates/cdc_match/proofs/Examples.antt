@@ -1,5 +1,5 @@
 -- Worked examples: what words say, and which headers a binding takes.
-use Rattle.std.proofs.Common.{◌≡◌, List, [], ◌∷◌, codes, Bool, true, false, Ok, Err, refl}
+use Rattle.std.proofs.Common.{◌≡◌, List, [], ◌∷◌, codes, true, false, Ok, Err, refl}
 use Rattle.cdc_types.specs.declared.events.EventKind.TheVariants.{TwoPhasePosted}
 use Rattle.cdc_types.specs.declared.events.Headers.{Headers}
 use Rattle.cdc_match.specs.declared.errors.BindError.TheVariants.{BadMode, UnknownKey, BadValue}

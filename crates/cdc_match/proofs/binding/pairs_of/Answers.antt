@@ -1,10 +1,9 @@
-use Rattle.std.proofs.Common.{◌≡◌, ◌≤◌, ◌<◌, ◌+◌, ℕ, List, [], map, length, get_or, Bor, Ok, Err, inl, sym, ◌∙◌, ap, rules, arith}
+use Rattle.std.proofs.Common.{◌≡◌, ◌<◌, ℕ, List, [], map, length, get_or, Bor, Err, inl, sym, ◌∙◌, ap, arith}
 use Rattle.std.proofs.lemmas.List.{get_or-map, length-map}
 use Rattle.std.proofs.lemmas.Result.{err_from_is_err_and}
 use Rattle.cdc_match.specs.declared.errors.BindError.{BindError}
-use Rattle.cdc_match.specs.declared.errors.BindError.TheVariants.{OutOfMemory}
 use Rattle.cdc_match.specs.declared.pairs.Pair.{Pair}
-use Rattle.cdc_match.specs.Parsing.{Read, each, most_pairs, pair_of, pairs_of, BeginsWithPair}
+use Rattle.cdc_match.specs.Parsing.{Read, most_pairs, pair_of}
 use Rattle.cdc_match.proofs.PairLemmas.{pairs_more, pairs_fault, pairs_begin, pair_remembers}
 use Rattle.cdc_match.proofs.binding.pairs_of.Goals as goal
 
