@@ -1,8 +1,13 @@
 pub mod Back
 pub mod Bytes
-pub mod Decimals
+pub mod DecimalTexts
 pub mod Examples
 pub mod Law
+pub mod LineLaws
 pub mod Parts
+pub mod ReplayExamples
+pub mod ReplayLaws
+pub mod RisesLaws
+pub mod Same
 pub mod Texts
 pub mod Utf8

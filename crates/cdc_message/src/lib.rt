@@ -1,20 +1,28 @@
 //! Messages about the movements of the ledger: the JSON text of an event, what it is routed by, and the text read back.
 #![tactic(auto)]
 
+mod decimals;
 mod decoding;
 mod encoding;
 pub mod errors;
 pub mod fields;
 mod headers;
+mod items;
 mod kinds;
+mod laws;
 mod message;
+mod packets;
 #[cfg(test)]
 mod tests;
 
+pub use decimals::{decimal_up_to, is_decimal};
 pub use decoding::decode;
 pub use encoding::encode;
 pub use errors::DecodeError;
 pub use fields::{Field, FieldName, Part};
 pub use headers::{headers_of, properties_of};
+pub use items::{Delivery, Item};
 pub use kinds::{kind_named, kind_text};
+pub use laws::replay_laws;
 pub use message::Message;
+pub use packets::{Answer, Confirm, Packet};

@@ -1,0 +1,67 @@
+-- Worked examples: what words say, and which headers a binding takes.
+use Rattle.std.proofs.Common.{◌≡◌, List, [], ◌∷◌, codes, true, false, Ok, Err, refl}
+use Rattle.cdc_types.specs.declared.events.EventKind.TheVariants.{TwoPhasePosted}
+use Rattle.cdc_types.specs.declared.events.Headers.{Headers}
+use Rattle.cdc_match.specs.declared.errors.BindError.TheVariants.{BadMode, UnknownKey, BadValue}
+use Rattle.cdc_match.specs.declared.pairs.Mode.TheVariants.{All, Any}
+use Rattle.cdc_match.specs.declared.pairs.Pair.{Pair}
+use Rattle.cdc_match.specs.declared.pairs.Pair.TheVariants.{EventType, Ledger, TransferCode}
+use Rattle.cdc_match.specs.Arguments.{Arguments}
+use Rattle.cdc_match.specs.Matching.{matches}
+use Rattle.cdc_match.specs.Parsing.{arguments_of}
+
+abbrev under_all : List Pair → Arguments
+under_all pairs = record { mode = All; pairs = pairs }
+
+abbrev under_any : List Pair → Arguments
+under_any pairs = record { mode = Any; pairs = pairs }
+
+-- ---- words
+
+-- leading zeros are allowed, and a key may stand twice
+two_ledgers : arguments_of (codes "any" ∷ codes "ledger=0700" ∷ codes "ledger=1" ∷ []) ≡ Ok (under_any (Ledger 700 ∷ Ledger 1 ∷ []))
+two_ledgers = refl
+
+-- a mode is wanted first
+no_words : arguments_of [] ≡ Err BadMode
+no_words = refl
+
+-- a word is parted at its first equals sign
+two_equals_signs : arguments_of (codes "all" ∷ codes "ledger=1=2" ∷ []) ≡ Err BadValue
+two_equals_signs = refl
+
+-- of two faults the first is told
+two_faults : arguments_of (codes "all" ∷ codes "code=1" ∷ codes "ledger=4294967296" ∷ []) ≡ Err UnknownKey
+two_faults = refl
+
+-- ---- headers
+
+abbrev posted : Headers
+posted = record {
+  kind = TwoPhasePosted;
+  ledger = 700;
+  transfer_code = 1;
+  debit_account_code = 10;
+  credit_account_code = 20;
+}
+
+-- every pair, or some pair
+abbrev half_met : List Pair
+half_met = EventType TwoPhasePosted ∷ TransferCode 2 ∷ []
+
+all_of_half : matches (under_all half_met) posted ≡ false
+all_of_half = refl
+
+any_of_half : matches (under_any half_met) posted ≡ true
+any_of_half = refl
+
+-- of two pairs with one key both count
+both_ledgers : matches (under_all (Ledger 701 ∷ Ledger 700 ∷ [])) posted ≡ false
+both_ledgers = refl
+
+-- without pairs
+all_of_none : matches (under_all []) posted ≡ true
+all_of_none = refl
+
+any_of_none : matches (under_any []) posted ≡ false
+any_of_none = refl

@@ -1,0 +1,4 @@
+pub mod Examples
+pub mod FilterLaws
+pub mod PairLemmas
+pub mod QueueLaws
