@@ -6,6 +6,7 @@ mod encoding;
 pub mod errors;
 pub mod fields;
 mod headers;
+mod items;
 mod kinds;
 mod message;
 #[cfg(test)]
@@ -16,5 +17,6 @@ pub use encoding::encode;
 pub use errors::DecodeError;
 pub use fields::{Field, FieldName, Part};
 pub use headers::{headers_of, properties_of};
+pub use items::{Delivery, Item};
 pub use kinds::{kind_named, kind_text};
 pub use message::Message;
