@@ -16,10 +16,11 @@ use Rattle.cdc_message.specs.declared.fields.Part.TheVariants.{Top, Transfer, De
 use Rattle.cdc_message.specs.declared.fields.FieldName.TheVariants as name
 use Rattle.cdc_message.specs.Fields.{key_of, field}
 use Rattle.cdc_message.specs.Kinds.{kind_text, kind_named}
-use Rattle.cdc_message.specs.Reading.{is_decimal, whole_number, up_to, number_at, transfer_of, account_of, event_of}
+use Rattle.cdc_message.specs.Decimals.{is_decimal}
+use Rattle.cdc_message.specs.Reading.{whole_number, up_to, number_at, transfer_of, account_of, event_of}
 use Rattle.cdc_message.specs.Values.{wide, narrow, account_value, transfer_value, event_value}
 use Rattle.cdc_message.specs.Widths.{AccountFits, TransferFits, EventFits}
-use Rattle.cdc_message.proofs.Decimals.{own_digits}
+use Rattle.cdc_message.proofs.DecimalTexts.{own_digits}
 
 no_zero : (n : ℕ) → 0 < n → not (n == 0) ≡ true
 no_zero n h = grind arith

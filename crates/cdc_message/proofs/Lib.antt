@@ -1,6 +1,6 @@
 pub mod Back
 pub mod Bytes
-pub mod Decimals
+pub mod DecimalTexts
 pub mod Examples
 pub mod Law
 pub mod Parts

@@ -1,11 +1,8 @@
 -- Reading an event from the bytes of a body. The definition rests on what `serde_json` reads from the bytes: it reads no
 -- value from bytes that are no JSON text in UTF-8, that nest deeper than its limit of 127, or that hold a number too
 -- large for a float, and of two members of one name it keeps the last.
-use Rattle.std.specs.Prelude.{ℕ, ◌^◌, ◌-◌, ◌==◌, ◌&&◌, List, length, Bool, not, nat_le, if◌then◌else◌, Option, Some, None, is_some, Result, Ok, Err}
-use Rattle.std.specs.Char.{is_ascii_digit}
-use Rattle.std.specs.List.{list_all}
+use Rattle.std.specs.Prelude.{ℕ, ◌^◌, ◌-◌, List, Bool, nat_le, if◌then◌else◌, Option, Some, None, is_some, Result, Ok, Err}
 use Rattle.std.specs.Str.{is_utf8}
-use Rattle.std.specs.Str.Parse.{digits_value}
 use Rattle.serde_json.specs.Data.{Num, unsigned, negative, float, Data, null, boolean, number, string, array, object}
 use Rattle.serde_json.specs.Find.{get, as_str, as_object}
 use Rattle.serde_json.specs.Read as json
@@ -20,6 +17,7 @@ use Rattle.cdc_message.specs.declared.fields.Part.{Part}
 use Rattle.cdc_message.specs.declared.fields.Part.TheVariants.{Top, Transfer, Debit, Credit}
 use Rattle.cdc_message.specs.declared.fields.FieldName.{FieldName}
 use Rattle.cdc_message.specs.declared.fields.FieldName.TheVariants as name
+use Rattle.cdc_message.specs.Decimals.{decimal_value}
 use Rattle.cdc_message.specs.Fields.{key_of, field}
 use Rattle.cdc_message.specs.Kinds.{kind_named}
 
@@ -33,10 +31,6 @@ abbrev pub ◌>>=◌ : {A B : Type 0} → Read A → (A → Read B) → Read B
 Ok value >>= rest = rest value
 Err error >>= rest = Err error
 
--- one or more of the digits 0 to 9, and nothing else
-abbrev pub is_decimal : List ℕ → Bool
-is_decimal text = not (length text == 0) && list_all is_ascii_digit text
-
 -- the value of a JSON number from 0 to 2^64-1 that has no sign, fraction or exponent
 abbrev pub unsigned_value : Num → Option ℕ
 unsigned_value (unsigned n) = Some n
@@ -48,7 +42,7 @@ abbrev pub whole_number : Data → Option ℕ
 whole_number null = None
 whole_number (boolean b) = None
 whole_number (number n) = unsigned_value n
-whole_number (string text) = if is_decimal text then Some (digits_value 10 text) else None
+whole_number (string text) = decimal_value text
 whole_number (array _) = None
 whole_number (object _) = None
 

@@ -1,8 +1,6 @@
 //! An event from its JSON text.
 
 ghost use Rattle.std.specs.Prelude.{◌≡◌, ◌≤◌, ◌^◌, ◌-◌, IfOk};
-ghost use Rattle.std.specs.Char.{is_ascii_digit};
-ghost use Rattle.std.specs.List.{list_all};
 ghost use Rattle.serde_json.specs.Data.{string};
 ghost use Rattle.serde_json.specs.View.{view};
 ghost use Rattle.cdc_message.specs.Errors.{GivesUnlessMemory};
@@ -11,6 +9,7 @@ ghost use Rattle.cdc_message.specs.Found.{Finds, number_in};
 ghost use Rattle.cdc_message.specs.Reading as spec;
 ghost use Rattle.cdc_message.specs.declared.fields.Part.TheVariants.{Top, Transfer};
 
+use crate::decimals::{decimal_up_to, is_decimal};
 use crate::errors::DecodeError;
 use crate::fields::{Field, FieldName, Part};
 use crate::kinds::kind_named;
@@ -26,19 +25,6 @@ fn member(object: &Value, field: Field) -> Result<&Value, DecodeError>
         .ok_or(DecodeError::Missing(field))
 }
 
-fn has_digits_alone(text: &str) -> bool
-    ensures { result ≡ list_all is_ascii_digit text.now }
-{
-    text.as_bytes().iter().all(|byte| byte.is_ascii_digit())
-}
-
-// Whether a text is one or more of the digits 0 to 9.
-fn is_decimal(text: &str) -> bool
-    ensures { result ≡ spec.is_decimal text.now }
-{
-    !text.is_empty() && has_digits_alone(text)
-}
-
 // The number that digits alone write, leading zeros allowed.
 fn decimal(text: &str, field: Field) -> Result<u128, DecodeError>
     ensures { result ≡ number_in field (string text.now) }
@@ -46,10 +32,7 @@ fn decimal(text: &str, field: Field) -> Result<u128, DecodeError>
     if !is_decimal(text) {
         return Err(DecodeError::WrongType(field));
     }
-    match text.parse() {
-        Ok(number) => Ok(number),
-        Err(_) => Err(DecodeError::OutOfRange(field)),
-    }
+    decimal_up_to(text, u128::MAX).ok_or(DecodeError::OutOfRange(field))
 }
 
 // The number that a decimal string or a JSON number gives.

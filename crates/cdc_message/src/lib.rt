@@ -1,6 +1,7 @@
 //! Messages about the movements of the ledger: the JSON text of an event, what it is routed by, and the text read back.
 #![tactic(auto)]
 
+mod decimals;
 mod decoding;
 mod encoding;
 pub mod errors;
@@ -12,6 +13,7 @@ mod message;
 #[cfg(test)]
 mod tests;
 
+pub use decimals::{decimal_up_to, is_decimal};
 pub use decoding::decode;
 pub use encoding::encode;
 pub use errors::DecodeError;

@@ -1,0 +1,99 @@
+//! A binding.
+
+ghost use Rattle.std.specs.Prelude.{◌≡◌, ◌≤◌, ◌⊎◌, IfOk, MatchResult, Ok, Err, length, map};
+ghost use Rattle.cdc_match.specs.Errors.{GivesUnlessMemory};
+ghost use Rattle.cdc_match.specs.Matching as matching;
+ghost use Rattle.cdc_match.specs.Parsing as spec;
+
+use crate::errors::BindError;
+use crate::keys::pair_of;
+use crate::pairs::{Mode, Pair};
+use cdc_types::Headers;
+use std::alloc::{AllocError, Global};
+use std::marker::Model;
+
+// How many pairs a binding may have.
+const MOST_PAIRS: usize = 10;
+
+/// Which messages go to a queue, by their headers (AMQP 0-9-1, the headers exchange). A clause sees the mode and the
+/// pairs.
+#[derive(Drop)]
+pub struct Binding {
+    mode: Mode,
+    pairs: Vec<Pair>,
+}
+
+impl Model for Binding {
+    ghost use Rattle.cdc_match.specs.Arguments.{Arguments};
+
+    ghost Value = { Arguments };
+
+    ghost view = { λ binding. record { mode = binding.mode; pairs = binding.pairs.items } };
+}
+
+// The pairs that words say.
+fn pairs_of(alloc: Global, words: &[&str]) -> Result<Vec<Pair>, BindError>
+    ensures { MatchResult result (λ pairs. spec.pairs_of (map (λ word. word.now) words.now) ≡ Ok pairs.items)
+        (λ error. (spec.pairs_of (map (λ word. word.now) words.now) ≡ Err error) ⊎ (error ≡ BindError.OutOfMemory)) }
+{
+    let mut pairs = Vec::new(alloc);
+    for word in words {
+        if pairs.len() == MOST_PAIRS {
+            return Err(BindError::TooManyPairs);
+        }
+        pairs.push(pair_of(word)?)?;
+    }
+    Ok(pairs)
+}
+
+impl Binding {
+    /// The binding that words say: `all` or `any`, and then up to ten words `key=value`, each parted at its first equals
+    /// sign. The keys are `event_type`, whose value is the text of a kind of event, `ledger`, whose value is a decimal
+    /// number up to 4294967295, and `transfer_code`, `debit_account_code` and `credit_account_code`, whose values are
+    /// decimal numbers up to 65535. A key may stand twice.
+    ///
+    /// The first fault from the left is answered, and `OutOfMemory` where there was no memory for the pairs before it.
+    pub fn parse(alloc: Global, words: &[&str]) -> Result<Binding, BindError>
+        ensures { GivesUnlessMemory result (spec.arguments_of (map (λ word. word.now) words.now)) }
+    {
+        let (first, rest) = words.split_first().ok_or(BindError::BadMode)?;
+        let mode = Mode::named(first).ok_or(BindError::BadMode)?;
+        Ok(Binding {
+            mode,
+            pairs: pairs_of(alloc, rest)?,
+        })
+    }
+
+    /// Whether messages with these headers go to the queue: under `Mode::All` where every pair equals the header's
+    /// value, under `Mode::Any` where some pair does. Without pairs all of them do under `Mode::All`, and none under
+    /// `Mode::Any`.
+    pub fn matches(&self, headers: &Headers) -> bool
+        ensures { result ≡ matching.matches self.now headers.now }
+    {
+        self.mode.pass(&self.pairs, *headers)
+    }
+
+    /// How many of the pairs have to be met.
+    pub fn mode(&self) -> Mode
+        ensures { result ≡ self.now.mode }
+    {
+        self.mode
+    }
+
+    /// The pairs, in the order of their words.
+    pub fn pairs(&self) -> &[Pair]
+        ensures { result.now ≡ self.now.pairs }
+    {
+        self.pairs.as_slice()
+    }
+
+    /// An equal binding in memory of its own.
+    pub fn try_copy(&self, alloc: Global) -> Result<Binding, AllocError>
+        ensures { IfOk result (λ copy. copy ≡ self.now) }
+    {
+        Ok(Binding {
+            mode: self.mode,
+            pairs: self.pairs.clone()?,
+        })
+    }
+}

@@ -1,0 +1,96 @@
+//! The words of a binding: `key=value`.
+
+ghost use Rattle.std.specs.Prelude.{◌≡◌, ◌≤◌, IfSome};
+ghost use Rattle.std.specs.Option.{option_map};
+ghost use Rattle.cdc_message.specs.Decimals as decimals;
+ghost use Rattle.cdc_match.specs.Parsing as spec;
+ghost use Rattle.cdc_match.specs.Parts.{parted};
+
+use crate::errors::BindError;
+use crate::pairs::Pair;
+use cdc_message::{decimal_up_to, kind_named};
+
+/// A header that a binding may name.
+#[derive(Clone, Copy)]
+pub enum Key {
+    /// What the event did.
+    EventType,
+    /// The ledger of the transfer.
+    Ledger,
+    /// The client's kind of transfer.
+    TransferCode,
+    /// The client's kind of the account that is debited.
+    DebitAccountCode,
+    /// The client's kind of the account that is credited.
+    CreditAccountCode,
+}
+
+const KEYS: [Key; 5] = [
+    Key::EventType,
+    Key::Ledger,
+    Key::TransferCode,
+    Key::DebitAccountCode,
+    Key::CreditAccountCode,
+];
+
+// The number of a ledger.
+fn ledger(text: &str) -> Option<u32>
+    ensures { result ≡ decimals.decimal_up_to spec.greatest_ledger text.now }
+{
+    Some(decimal_up_to(text, u128::from(u32::MAX))? as u32)
+}
+
+// The code of an account or a transfer.
+fn code(text: &str) -> Option<u16>
+    ensures { result ≡ decimals.decimal_up_to spec.greatest_code text.now }
+{
+    Some(decimal_up_to(text, u128::from(u16::MAX))? as u16)
+}
+
+impl Key {
+    fn name(self) -> &'static str
+        ensures { result.now ≡ spec.key_name self }
+    {
+        match self {
+            Key::EventType => "event_type",
+            Key::Ledger => "ledger",
+            Key::TransferCode => "transfer_code",
+            Key::DebitAccountCode => "debit_account_code",
+            Key::CreditAccountCode => "credit_account_code",
+        }
+    }
+
+    fn named(name: &str) -> Option<Key>
+        ensures { result ≡ spec.key_named name.now }
+    {
+        KEYS.iter().copied().find(|key| key.name() == name)
+    }
+
+    fn pair_with(self, text: &str) -> Option<Pair>
+        ensures { result ≡ spec.pair_with self text.now }
+    {
+        match self {
+            Key::EventType => kind_named(text).map(Pair::EventType),
+            Key::Ledger => ledger(text).map(Pair::Ledger),
+            Key::TransferCode => code(text).map(Pair::TransferCode),
+            Key::DebitAccountCode => code(text).map(Pair::DebitAccountCode),
+            Key::CreditAccountCode => code(text).map(Pair::CreditAccountCode),
+        }
+    }
+}
+
+// What stands before the first equals sign, and what stands after it.
+fn parted_at_equals(word: &str) -> Option<(&str, &str)>
+    ensures { option_map (λ parts. (parts.0.now, parts.1.now)) result ≡ parted 61 word.now }
+{
+    word.split_once('=')
+}
+
+/// The pair that a word says.
+pub fn pair_of(word: &str) -> Result<Pair, BindError>
+    ensures { result ≡ spec.pair_of word.now }
+{
+    let (name, value) = parted_at_equals(word).ok_or(BindError::UnknownKey)?;
+    let key = Key::named(name).ok_or(BindError::UnknownKey)?;
+    key.pair_with(value).ok_or(BindError::BadValue)
+}

@@ -1,0 +1,13 @@
+//! Bindings: which messages go to a queue, by their headers.
+#![tactic(auto)]
+
+mod binding;
+pub mod errors;
+mod keys;
+pub mod pairs;
+#[cfg(test)]
+mod tests;
+
+pub use binding::Binding;
+pub use errors::BindError;
+pub use pairs::{Mode, Pair};
