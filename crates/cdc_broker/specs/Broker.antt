@@ -1,5 +1,5 @@
 -- A broker: whose connection is current, which tag it takes next, and its queues.
-use Rattle.std.specs.Prelude.{◌≡◌, ℕ, ◌+◌, ◌-◌, ◌==◌, Bool, Option, Some, None, Result, Ok, Err, List, [], ◌∷◌, ◌++◌, map, All, slice_get, slice_set, unwrap_or, if◌then◌else◌}
+use Rattle.std.specs.Prelude.{◌≡◌, ℕ, ◌+◌, ◌-◌, nat_lt, Option, Some, None, Result, Ok, Err, List, [], ◌∷◌, ◌++◌, map, All, slice_get, slice_set, unwrap_or, if◌then◌else◌}
 use Rattle.std.specs.declared.alloc.AllocError.{AllocError}
 use Rattle.cdc_match.specs.declared.pairs.Mode.TheVariants as mode
 use Rattle.cdc_match.specs.Arguments.{Arguments}
@@ -27,7 +27,7 @@ max_64 = 18446744073709551615
 
 -- the tag that comes after this one
 abbrev pub tag_after : ℕ → Option ℕ
-tag_after tag = if tag + 1 == max_64 then None else Some (tag + 1)
+tag_after tag = if nat_lt (tag + 1) max_64 then Some (tag + 1) else None
 
 -- the broker under a new connection: tags begin anew
 abbrev pub connected : ℕ → BrokerState → BrokerState
@@ -45,7 +45,8 @@ Publishes s c tag item (Ok (Ignored WrongConnection)) s' = (c ≡ s.connection �
 Publishes s c tag item (Ok (Ignored WrongTag)) s' = (c ≡ s.connection) × (s.expected ≡ Some tag → ⊥) × (s' ≡ s)
 Publishes s c tag item (Err _) s' = (c ≡ s.connection) × (s.expected ≡ Some tag) × (s' ≡ s)
 
-abbrev nobody : Arguments
+-- what stands for the binding of a queue that isn't there
+abbrev pub nobody : Arguments
 nobody = record { mode = mode.Any; pairs = [] }
 
 -- the queue of this number, from 1 on

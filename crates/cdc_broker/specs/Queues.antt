@@ -19,9 +19,18 @@ pub record QueueState : Type 0 where
 abbrev pub empty_queue : Arguments → QueueState
 empty_queue binding = record { binding = binding; items = []; cursor = 1; handed = 0; acked = 0 }
 
+-- the item where it belongs to the queue of a binding
+abbrev pub wanted : Arguments → Item → Option Item
+wanted binding item = if belongs binding item then Some item else None
+
+-- the queue with an item at its back, if there is one
+abbrev pub with_item : Option Item → QueueState → QueueState
+with_item None q = q
+with_item (Some item) q = record q { items = q.items ++ item ∷ [] }
+
 -- the queue after an item that was accepted: it goes to the back where it belongs to the queue
 abbrev pub queued : Item → QueueState → QueueState
-queued item q = record q { items = if belongs q.binding item then q.items ++ item ∷ [] else q.items }
+queued item q = with_item (wanted q.binding item) q
 
 -- what is handed out next: the item at the cursor, with its position
 abbrev pub next_delivery : QueueState → Option Delivery

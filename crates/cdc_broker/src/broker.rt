@@ -60,7 +60,11 @@ impl Model for Broker {
 fn tag_after(tag: u64) -> Option<u64>
     ensures { result ≡ next_tag tag }
 {
-    tag.checked_add(1).filter(|next| *next != u64::MAX)
+    if tag < u64::MAX - 1 {
+        Some(tag + 1)
+    } else {
+        None
+    }
 }
 
 /// Takes an item to the queues from this place on that it belongs to. All growth comes before the first change.

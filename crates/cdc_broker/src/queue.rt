@@ -1,8 +1,8 @@
 //! One queue: a list of items in the order in which they came.
 
-ghost use Rattle.std.specs.Prelude.{◌≡◌, ◌<◌, ◌++◌, [], ◌∷◌, not, IfOk, OnOk, OnErr, if◌then◌else◌};
+ghost use Rattle.std.specs.Prelude.{◌≡◌, ◌<◌, not, IfOk, OnOk, OnErr, if◌then◌else◌};
 ghost use Rattle.cdc_match.specs.Queue.{belongs};
-ghost use Rattle.cdc_broker.specs.Queues.{queued, next_delivery, moved_on, is_unknown, acknowledged, empty_queue};
+ghost use Rattle.cdc_broker.specs.Queues.{acknowledged, empty_queue, is_unknown, moved_on, next_delivery, wanted, with_item};
 ghost use Rattle.cdc_broker.specs.Kept.{queue_state, room_of, IsInOrder};
 
 use cdc_match::Binding;
@@ -58,7 +58,7 @@ impl Queue {
         requires { IsInOrder self.old }
         ensures state { queue_state self.new ≡ queue_state self.old }
         ensures in_order { IsInOrder self.new }
-        ensures copy { IfOk result (λ copy. copy ≡ (if belongs self.old.binding item.now then Some item.now else None)) }
+        ensures copy { IfOk result (λ copy. copy ≡ wanted self.old.binding item.now) }
         ensures room { OnOk result (0 < room_of self.new) }
     {
         self.items.reserve(1)?;
@@ -72,9 +72,7 @@ impl Queue {
     pub(crate) fn accept(&mut self, copy: Option<Item>)
         requires in_order { IsInOrder self.old }
         requires room { 0 < room_of self.old }
-        ensures none { copy ≡ None → queue_state self.new ≡ queue_state self.old }
-        ensures some { (item : TheItem) → copy ≡ Some item
-            → queue_state self.new ≡ record (queue_state self.old) { items = self.old.items.items ++ item ∷ [] } }
+        ensures state { queue_state self.new ≡ with_item copy (queue_state self.old) }
         ensures in_order { IsInOrder self.new }
     {
         if let Some(item) = copy {
