@@ -1,6 +1,7 @@
 -- Reading a binding from words: a mode, and then up to ten words of the form key=value.
 use Rattle.std.specs.Prelude.{ℕ, List, [], ◌∷◌, take, length, nat_le, codes, find, Option, Result, Ok, Err, if◌then◌else◌}
-use Rattle.std.specs.Option.{option_map, ok_or}
+use Rattle.std.specs.Option.{option_map, ok_or, IsSome}
+use Rattle.std.specs.Result.{IsOk}
 use Rattle.std.specs.Str.{bytes_eq}
 use Rattle.cdc_message.specs.Decimals.{decimal_up_to}
 use Rattle.cdc_message.specs.Kinds.{kind_named}
@@ -103,3 +104,13 @@ arguments_of [] = Err BadMode
 arguments_of (word ∷ words) = do
   mode ← ok_or (mode_named word) BadMode
   with_mode mode words
+
+-- the words begin with a right pair
+abbrev pub BeginsWithPair : List (List ℕ) → Type 0
+BeginsWithPair [] = ⊥
+BeginsWithPair (word ∷ words) = IsOk (pair_of word)
+
+-- the words begin with a mode and a right pair, so that there is something to keep
+abbrev pub NeedsMemory : List (List ℕ) → Type 0
+NeedsMemory [] = ⊥
+NeedsMemory (word ∷ words) = IsSome (mode_named word) × BeginsWithPair words

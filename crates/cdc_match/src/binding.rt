@@ -1,7 +1,8 @@
 //! A binding.
 
-ghost use Rattle.std.specs.Prelude.{◌≡◌, ◌≤◌, ◌⊎◌, IfOk, MatchResult, Ok, Err, length, map};
+ghost use Rattle.std.specs.Prelude.{◌≡◌, IfOk, Err, map};
 ghost use Rattle.cdc_match.specs.Errors.{GivesUnlessMemory};
+ghost use Rattle.cdc_match.specs.Found.{FindsPairsUnlessMemory};
 ghost use Rattle.cdc_match.specs.Matching as matching;
 ghost use Rattle.cdc_match.specs.Parsing as spec;
 
@@ -33,15 +34,16 @@ impl Model for Binding {
 
 // The pairs that words say.
 fn pairs_of(alloc: Global, words: &[&str]) -> Result<Vec<Pair>, BindError>
-    ensures { MatchResult result (λ pairs. spec.pairs_of (map (λ word. word.now) words.now) ≡ Ok pairs.items)
-        (λ error. (spec.pairs_of (map (λ word. word.now) words.now) ≡ Err error) ⊎ (error ≡ BindError.OutOfMemory)) }
+    ensures pairs { FindsPairsUnlessMemory result (spec.pairs_of (map (λ word. word.now) words.now)) }
+    ensures memory { result ≡ Err BindError.OutOfMemory → spec.BeginsWithPair (map (λ word. word.now) words.now) }
 {
     let mut pairs = Vec::new(alloc);
     for word in words {
         if pairs.len() == MOST_PAIRS {
             return Err(BindError::TooManyPairs);
         }
-        pairs.push(pair_of(word)?)?;
+        let pair = pair_of(word)?;
+        pairs.push(pair)?;
     }
     Ok(pairs)
 }
@@ -54,7 +56,8 @@ impl Binding {
     ///
     /// The first fault from the left is answered, and `OutOfMemory` where there was no memory for the pairs before it.
     pub fn parse(alloc: Global, words: &[&str]) -> Result<Binding, BindError>
-        ensures { GivesUnlessMemory result (spec.arguments_of (map (λ word. word.now) words.now)) }
+        ensures binding { GivesUnlessMemory result (spec.arguments_of (map (λ word. word.now) words.now)) }
+        ensures memory { result ≡ Err BindError.OutOfMemory → spec.NeedsMemory (map (λ word. word.now) words.now) }
     {
         let (first, rest) = words.split_first().ok_or(BindError::BadMode)?;
         let mode = Mode::named(first).ok_or(BindError::BadMode)?;

@@ -4,5 +4,8 @@ pub mod DecimalTexts
 pub mod Examples
 pub mod Law
 pub mod Parts
+pub mod ReplayLaws
+pub mod RisesLaws
+pub mod Same
 pub mod Texts
 pub mod Utf8

@@ -1,0 +1,114 @@
+-- Reading the pairs of a binding word by word.
+use Rattle.std.proofs.Common.{◌≡◌, ℕ, suc, zero, ◌+◌, ◌<◌, ◌≤◌, List, [], ◌∷◌, ◌++◌, length, get_or, take, drop, Option, Some, None, Ok, Err, refl, ap, sym, ◌∙◌, leb, le-leb, false, arith}
+use Rattle.std.specs.Option.{ok_or}
+use Rattle.std.proofs.Math.Seq.{split_at}
+use Rattle.std.proofs.lemmas.List.{take_more, take_all, take-take, get_or-take, length-take}
+use Rattle.cdc_match.specs.declared.errors.BindError.{BindError}
+use Rattle.cdc_match.specs.declared.errors.BindError.TheVariants.{UnknownKey, BadValue, TooManyPairs, OutOfMemory}
+use Rattle.cdc_match.specs.declared.pairs.Pair.{Pair}
+use Rattle.cdc_match.specs.Parsing.{Read, ◌>>=◌, each, most_pairs, pair_of, pair_with, key_named, pairs_of, BeginsWithPair}
+use Rattle.cdc_match.specs.Parts.{parted}
+
+-- what was read on the way to an answer without a fault
+record Reached {A B : Type 0} (first : Read A) (then : A → Read B) (value : B) : Type 0 where
+  from : A
+  first_is : first ≡ Ok from
+  then_is : then from ≡ Ok value
+
+reached : {A B : Type 0} (first : Read A) (then : A → Read B) (value : B) → (first >>= then) ≡ Ok value → Reached first then value
+reached (Ok from) then value h = record { from = from; first_is = refl; then_is = h }
+reached (Err error) then value h = absurd (cc)
+
+ok_inside : {A : Type 0} (a b : A) → let left : Read A = Ok a in left ≡ Ok b → a ≡ b
+ok_inside a b h = cc
+
+-- one more word without a fault
+each_more : {A B : Type 0} (read : A → Read B) (words : List A) (found : List B) (word : A) (value : B)
+    → each read words ≡ Ok found → read word ≡ Ok value → each read (words ++ word ∷ []) ≡ Ok (found ++ value ∷ [])
+each_more read [] found word value h is = let none = ok_inside [] found h in rw is (ap (λ f. Ok (f ++ value ∷ [])) none)
+each_more read (w ∷ words) found word value h is =
+    let front = reached (read w) _ found h in
+    let rest = reached (each read words) _ found front.then_is in
+    rw (front.first_is, each_more read words rest.from word value rest.first_is is)
+      (ap (λ f. Ok (f ++ value ∷ [])) (ok_inside (front.from ∷ rest.from) found rest.then_is))
+
+-- the first fault
+each_fault : {A B : Type 0} (read : A → Read B) (words : List A) (found : List B) (word : A) (error : BindError) (others : List A)
+    → each read words ≡ Ok found → read word ≡ Err error → each read (words ++ word ∷ others) ≡ Err error
+each_fault read [] found word error others h is = rw is
+each_fault read (w ∷ words) found word error others h is =
+    let front = reached (read w) _ found h in
+    let rest = reached (each read words) _ found front.then_is in
+    rw (front.first_is, each_fault read words rest.from word error others rest.first_is is)
+
+-- ---- a loop over the words that has passed the first i of them
+
+-- the next word is a pair
+pub pairs_more : (words : List (List ℕ)) (i : ℕ) (found : List Pair) (pair : Pair) → i < length words
+    → each pair_of (take i words) ≡ Ok found → pair_of (get_or words i []) ≡ Ok pair
+    → each pair_of (take (i + 1) words) ≡ Ok (found ++ pair ∷ [])
+pairs_more words i found pair below h is = rw (take_more words i [] below) (each_more pair_of (take i words) found (get_or words i []) pair h is)
+
+-- the words up to the tenth, parted at word i
+around : (words : List (List ℕ)) (i : ℕ) → i < length words → i < most_pairs
+    → take most_pairs words ≡ take i words ++ get_or words i [] ∷ drop (suc i) (take most_pairs words)
+around words i below few =
+    let within : i < length (take most_pairs words) = rw (length-take most_pairs words) (omega arith) in
+    let le : i ≤ most_pairs = omega arith in
+    split_at (take most_pairs words) i [] within
+    ∙ rw (take-take i most_pairs words le, get_or-take most_pairs words i [] few) refl
+
+-- the next word is at fault
+pub pairs_fault : (words : List (List ℕ)) (i : ℕ) (found : List Pair) (error : BindError) → i < length words → i < most_pairs
+    → each pair_of (take i words) ≡ Ok found → pair_of (get_or words i []) ≡ Err error → pairs_of words ≡ Err error
+pairs_fault words i found error below few h is =
+    rw (around words i below few, each_fault pair_of (take i words) found (get_or words i []) error _ h is)
+
+more_than_most : (n : ℕ) → most_pairs < n → leb n most_pairs ≡ false
+more_than_most n h = grind arith
+
+-- there are ten pairs and another word
+pub pairs_too_many : (words : List (List ℕ)) (i : ℕ) (found : List Pair) → i < length words → i ≡ most_pairs
+    → each pair_of (take i words) ≡ Ok found → pairs_of words ≡ Err TooManyPairs
+pairs_too_many words i found below full h =
+    let all : take i words ≡ take most_pairs words = rw full refl in
+    rw (← all, h, more_than_most (length words) (omega arith))
+
+-- no word is left
+pub pairs_all : (words : List (List ℕ)) (i : ℕ) (found : List Pair) → i ≡ length words → i ≤ most_pairs
+    → each pair_of (take i words) ≡ Ok found → pairs_of words ≡ Ok found
+pairs_all words i found end few h =
+    let short : length words ≤ most_pairs = omega arith in
+    let all : take most_pairs words ≡ take i words = take_all most_pairs words short ∙ sym (take_all i words (omega arith)) in
+    rw (all, h, le-leb (length words) most_pairs short)
+
+-- where pairs were found, the words begin with one
+pub pairs_begin : (words : List (List ℕ)) (i : ℕ) (found : List Pair) → i < length words
+    → each pair_of (take (i + 1) words) ≡ Ok found → BeginsWithPair words
+pairs_begin [] i found below h = omega (arith, below)
+pairs_begin (word ∷ words) i found below h =
+    let step : i + 1 ≡ suc i = omega arith in
+    let first = reached (pair_of word) _ found (rw step at h) in
+    rw first.first_is refl
+
+-- ---- reading takes no memory
+
+-- this doesn't say that memory ran out
+abbrev Remembers : {A : Type 0} → Read A → Type 0
+Remembers answer = answer ≡ Err OutOfMemory → ⊥
+
+remembers_ok_or : {A : Type 0} (value : Option A) (error : BindError) → (error ≡ OutOfMemory → ⊥) → Remembers (ok_or value error)
+remembers_ok_or None error other h = other (cc)
+remembers_ok_or (Some value) error other h = absurd (cc)
+
+remembers_then : {A B : Type 0} (first : Read A) (then : A → Read B) → Remembers first → ((value : A) → Remembers (then value))
+    → Remembers (first >>= then)
+remembers_then (Ok value) then one two h = two value h
+remembers_then (Err error) then one two h = one (cc)
+
+-- a word's fault is never want of memory
+pub pair_remembers : (word : List ℕ) → Remembers (pair_of word)
+pair_remembers word =
+    remembers_then (ok_or (parted 61 word) UnknownKey) _ (remembers_ok_or (parted 61 word) UnknownKey (λ h. absurd (cc)))
+    (λ parts. remembers_then (ok_or (key_named parts.0) UnknownKey) _ (remembers_ok_or (key_named parts.0) UnknownKey (λ h. absurd (cc)))
+      (λ key. remembers_ok_or (pair_with key parts.1) BadValue (λ h. absurd (cc))))
