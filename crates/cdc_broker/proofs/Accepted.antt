@@ -1,21 +1,17 @@
 -- What a broker has accepted, after a change of one of its queues and after one more item.
-use Rattle.std.proofs.Common.{◌≡◌, ℕ, ◌-◌, Bool, true, false, List, [], ◌∷◌, ◌++◌, refl, sym, ap, ◌∙◌, subst, Option, Some, None, map, get_or, append-nil}
-use Rattle.std.specs.Prelude.{All, filter, slice_set, slice_get, unwrap_or, if◌then◌else◌}
-use Rattle.std.proofs.lemmas.List.{drop_more, length-map}
+use Rattle.std.proofs.Common.{◌≡◌, ℕ, ◌-◌, ◌<◌, Bool, true, false, List, [], ◌∷◌, ◌++◌, refl, sym, ap, ◌∙◌, subst, Option, Some, None, Result, Ok, Err, length, get_or, append-nil}
+use Rattle.std.specs.Prelude.{filter, if◌then◌else◌, OnOk, OnErr}
 use Rattle.std.proofs.lemmas.List.Elements.{All-set, All-map, filter-append}
-use Rattle.cdc_match.specs.Arguments.{Arguments}
+use Rattle.std.proofs.lemmas.Option.{unwrap_or-slice_get}
 use Rattle.cdc_match.specs.Queue.{queue, belongs}
+use Rattle.cdc_message.specs.declared.items.Delivery.{Delivery}
 use Rattle.cdc_message.specs.declared.items.Item.{Item}
-use Rattle.cdc_broker.specs.Broker.{BrokerState, HasAccepted, published, with_queue}
-use Rattle.cdc_broker.specs.Queues.{QueueState, queued, wanted, with_item, moved_on, acknowledged}
+use Rattle.cdc_broker.specs.Broker.{BrokerState, HasAccepted, published, queue_of, with_queue, nobody}
+use Rattle.cdc_broker.specs.Queues.{QueueState, acknowledged, empty_queue, moved_on, queued, with_item}
 
 -- a queue holds what belongs to it of the accepted items
 abbrev pub Holds : List Item → QueueState → Type 0
 Holds accepted q = q.items ≡ queue accepted q.binding
-
--- an empty list leaves each queue empty
-pub Holds-none : (bindings : List Arguments) (accepted : List Item) → Unit {0}
-Holds-none bindings accepted = tt
 
 -- one more item goes to a queue where it belongs to it
 pub filter_push : (p : Item → Bool) (items : List Item) (item : Item)
@@ -46,7 +42,38 @@ HasAccepted-published s tag item accepted has =
     All-map (Holds (accepted ++ item ∷ [])) (queued item) s.queues
     (λ k d lt. Holds-queued accepted item (get_or s.queues k d) (has k d lt))
 
--- a queue that keeps its binding and its items
-pub HasAccepted-with_queue : (s : BrokerState) (i : ℕ) (q : QueueState) (accepted : List Item)
+-- a queue of the broker holds its own
+Holds-queue_of : (s : BrokerState) (i : ℕ) (accepted : List Item) → i - 1 < length s.queues → HasAccepted s accepted
+    → Holds accepted (queue_of s i)
+Holds-queue_of s i accepted inside has =
+    subst (Holds accepted) (sym (unwrap_or-slice_get s.queues (i - 1) (empty_queue nobody)))
+    (has (i - 1) (empty_queue nobody) inside)
+
+-- a queue that changes and keeps its own
+HasAccepted-with_queue : (s : BrokerState) (i : ℕ) (q : QueueState) (accepted : List Item)
     → HasAccepted s accepted → Holds accepted q → HasAccepted (with_queue i q s) accepted
 HasAccepted-with_queue s i q accepted has holds = All-set (Holds accepted) s.queues (i - 1) q holds has
+
+-- an acknowledgement
+pub HasAccepted-acknowledged : (s : BrokerState) (i position : ℕ) (b : Bool) (accepted : List Item) → i - 1 < length s.queues
+    → HasAccepted s accepted → HasAccepted (if b then with_queue i (acknowledged position (queue_of s i)) s else s) accepted
+HasAccepted-acknowledged s i position true accepted inside has =
+    HasAccepted-with_queue s i (acknowledged position (queue_of s i)) accepted has (Holds-queue_of s i accepted inside has)
+HasAccepted-acknowledged s i position false accepted inside has = has
+
+Holds-moved_on : (accepted : List Item) (delivery : Option Delivery) (q : QueueState) → Holds accepted q
+    → Holds accepted (moved_on delivery q)
+Holds-moved_on accepted None q holds = holds
+Holds-moved_on accepted (Some delivery) q holds = holds
+
+-- a delivery
+pub HasAccepted-moved_on : (s : BrokerState) (i : ℕ) (delivery : Option Delivery) (accepted : List Item) → i - 1 < length s.queues
+    → HasAccepted s accepted → HasAccepted (with_queue i (moved_on delivery (queue_of s i)) s) accepted
+HasAccepted-moved_on s i delivery accepted inside has =
+    HasAccepted-with_queue s i (moved_on delivery (queue_of s i)) accepted has
+    (Holds-moved_on accepted delivery (queue_of s i) (Holds-queue_of s i accepted inside has))
+
+-- what follows from either outcome
+pub either_way : {T E P P' Q : Type 0} (r : Result T E) → OnOk r P → OnErr r P' → (P → Q) → (P' → Q) → Q
+either_way (Ok x) p p' f g = f p
+either_way (Err e) p p' f g = g p'

@@ -4,3 +4,4 @@ pub mod Found
 pub mod Matching
 pub mod Parsing
 pub mod Parts
+pub mod Queue

@@ -1,8 +1,9 @@
-use Rattle.std.proofs.Common.{◌≡◌, ◌-◌, ◌<◌, sym, ap, ◌∙◌, length, ℕ}
+use Rattle.std.proofs.Common.{◌≡◌, ◌-◌, ◌<◌, sym, ap, ◌∙◌, length, subst, arith}
 use Rattle.std.specs.Prelude.{if◌then◌else◌}
-use Rattle.cdc_broker.specs.Broker.{BrokerState, queue_of, with_queue}
+use Rattle.cdc_broker.specs.Broker.{BrokerState, HasAccepted, queue_of, with_queue}
 use Rattle.cdc_broker.specs.Queues.{QueueState, acknowledged}
 use Rattle.cdc_broker.specs.Kept.{queue_state}
+use Rattle.cdc_broker.proofs.Accepted.{HasAccepted-acknowledged}
 use Rattle.cdc_broker.proofs.States.{broker_of, queue_of-broker_of, broker_of-set_if, within_queues}
 use Rattle.cdc_broker.proofs.broker.Broker.ack.Goals as goal
 
@@ -26,4 +27,7 @@ returns-clause-state c =
     ∙ ap turn c.self.view_is
 
 pub returns-clause-accepted : goal.returns-clause-accepted
-returns-clause-accepted c = ?
+returns-clause-accepted c =
+    let inside : c.args.i - 1 < length c.args.self.now.queues = omega arith in
+    λ accepted has. subst (λ (s : BrokerState). HasAccepted s accepted) (sym (returns-clause-state c))
+    (HasAccepted-acknowledged c.args.self.now c.args.i c.args.position c.ack.result accepted inside has)
