@@ -4,4 +4,3 @@ pub mod Found
 pub mod Matching
 pub mod Parsing
 pub mod Parts
-pub mod Queue
