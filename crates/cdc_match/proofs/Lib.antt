@@ -1,1 +1,3 @@
+pub mod FilterLaws
 pub mod PairLemmas
+pub mod QueueLaws

@@ -4,10 +4,12 @@
 mod binding;
 pub mod errors;
 mod keys;
+mod laws;
 pub mod pairs;
 #[cfg(test)]
 mod tests;
 
 pub use binding::Binding;
 pub use errors::BindError;
+pub use laws::queue_laws;
 pub use pairs::{Mode, Pair};

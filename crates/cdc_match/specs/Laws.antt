@@ -1,0 +1,15 @@
+-- What holds of the definitions themselves.
+use Rattle.std.specs.Prelude.{◌≡◌, List}
+use Rattle.cdc_message.specs.declared.items.Item.{Item}
+use Rattle.cdc_message.specs.Items.{events_of}
+use Rattle.cdc_message.specs.Replays.{IsReplay}
+use Rattle.cdc_match.specs.Arguments.{Arguments}
+use Rattle.cdc_match.specs.Queue.{queue, feed}
+
+-- where items come late, again or not at all, so do those of each queue, and nothing else goes wrong with a queue
+abbrev pub QueuesReplay : Type 0
+QueuesReplay = (w f : List Item) (binding : Arguments) → IsReplay w f → IsReplay (queue w binding) (queue f binding)
+
+-- the events of a queue are those events of the whole list that the binding takes
+abbrev pub QueuesHoldFeeds : Type 0
+QueuesHoldFeeds = (items : List Item) (binding : Arguments) → events_of (queue items binding) ≡ feed (events_of items) binding
