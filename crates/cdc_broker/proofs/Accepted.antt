@@ -1,12 +1,14 @@
 -- What a broker has accepted, after a change of one of its queues and after one more item.
 use Rattle.std.proofs.Common.{◌≡◌, ℕ, ◌-◌, ◌<◌, Bool, true, false, List, [], ◌∷◌, ◌++◌, refl, sym, ap, ◌∙◌, subst, Option, Some, None, Result, Ok, Err, length, get_or, append-nil}
-use Rattle.std.specs.Prelude.{filter, if◌then◌else◌, OnOk, OnErr}
+use Rattle.std.specs.Prelude.{All, filter, if◌then◌else◌, OnOk, OnErr}
+use Rattle.std.specs.declared.alloc.AllocError.{AllocError}
 use Rattle.std.proofs.lemmas.List.Elements.{All-set, All-map, filter-append}
 use Rattle.std.proofs.lemmas.Option.{unwrap_or-slice_get}
-use Rattle.cdc_match.specs.Queue.{queue, belongs}
+use Rattle.cdc_match.specs.Queue.{queue, takes_item}
 use Rattle.cdc_message.specs.declared.items.Delivery.{Delivery}
 use Rattle.cdc_message.specs.declared.items.Item.{Item}
-use Rattle.cdc_broker.specs.Broker.{BrokerState, HasAccepted, published, queue_of, with_queue, nobody}
+use Rattle.cdc_broker.specs.declared.broker.Taken.{Taken}
+use Rattle.cdc_broker.specs.Broker.{BrokerState, HasAccepted, accepted_after, published, queue_of, with_queue, nobody}
 use Rattle.cdc_broker.specs.Queues.{QueueState, acknowledged, empty_queue, moved_on, queued, with_item}
 
 -- a queue holds what belongs to it of the accepted items
@@ -30,10 +32,10 @@ queued_binding false item q = refl
 
 pub Holds-queued : (accepted : List Item) (item : Item) (q : QueueState) → Holds accepted q → Holds (accepted ++ item ∷ []) (queued item q)
 Holds-queued accepted item q holds =
-    queued_items (belongs q.binding item) accepted item q
-    ∙ ap (λ items. items ++ (if belongs q.binding item then item ∷ [] else [])) holds
-    ∙ sym (filter_push (belongs q.binding) accepted item)
-    ∙ ap (λ binding. queue (accepted ++ item ∷ []) binding) (sym (queued_binding (belongs q.binding item) item q))
+    queued_items (takes_item q.binding item) accepted item q
+    ∙ ap (λ items. items ++ (if takes_item q.binding item then item ∷ [] else [])) holds
+    ∙ sym (filter_push (takes_item q.binding) accepted item)
+    ∙ ap (λ binding. queue (accepted ++ item ∷ []) binding) (sym (queued_binding (takes_item q.binding item) item q))
 
 -- where each queue holds its own before, it does so after
 pub HasAccepted-published : (s : BrokerState) (tag : ℕ) (item : Item) (accepted : List Item)
@@ -77,3 +79,13 @@ HasAccepted-moved_on s i delivery accepted inside has =
 pub either_way : {T E P P' Q : Type 0} (r : Result T E) → OnOk r P → OnErr r P' → (P → Q) → (P' → Q) → Q
 either_way (Ok x) p p' f g = f p
 either_way (Err e) p p' f g = g p'
+
+-- queues that are those of a broker hold what it has accepted
+pub HasAccepted-queues : (s : BrokerState) (queues : List QueueState) (accepted : List Item) → queues ≡ s.queues
+    → HasAccepted s accepted → All (Holds accepted) queues
+HasAccepted-queues s queues accepted same has = subst (λ (qs : List QueueState). All (Holds accepted) qs) (sym same) has
+
+-- where memory ran out, nothing more was accepted
+pub accepted_after-err : (r : Result Taken AllocError) (e : AllocError) (accepted : List Item) (item : Item) → r ≡ Err e
+    → accepted_after accepted item r ≡ accepted
+accepted_after-err r e accepted item is = ap (accepted_after accepted item) is

@@ -12,9 +12,9 @@ take_fewer xs ys n same =
     sym (take-take n (n + 1) xs (omega arith)) ∙ ap (take n) same ∙ take-take n (n + 1) ys (omega arith)
 
 -- a queue that is prepared looks as it did, and so do all
-pub prepared_states : (queues : List Queue) (place : ℕ) (q q' : Queue) → q ≡ get_or queues place q → queue_state q' ≡ queue_state q
+pub prepared_states : (queues : List Queue) (place : ℕ) (q q' : Queue) → queue_state q' ≡ queue_state (get_or queues place q)
     → map queue_state (slice_set queues place q') ≡ map queue_state queues
-prepared_states queues place q q' found same = map-set_same queue_state queues place q' q (same ∙ ap queue_state found)
+prepared_states queues place q q' same = map-set_same queue_state queues place q' q same
 
 -- what holds anyway
 pub on_err_anyway : {T E P : Type 0} (r : Result T E) → P → OnErr r P

@@ -2,7 +2,7 @@
 use Rattle.std.specs.Prelude.{ℕ, ◌+◌, ◌-◌, ◌==◌, ◌||◌, max, nat_lt, Bool, Option, Some, None, List, [], ◌∷◌, ◌++◌, slice_get, if◌then◌else◌}
 use Rattle.std.specs.Option.{option_map}
 use Rattle.cdc_match.specs.Arguments.{Arguments}
-use Rattle.cdc_match.specs.Queue.{belongs}
+use Rattle.cdc_match.specs.Queue.{takes_item}
 use Rattle.cdc_message.specs.declared.items.Item.{Item}
 use Rattle.cdc_message.specs.declared.items.Delivery.{Delivery}
 
@@ -21,7 +21,7 @@ empty_queue binding = record { binding = binding; items = []; cursor = 1; handed
 
 -- the item where it belongs to the queue of a binding
 abbrev pub wanted : Arguments → Item → Option Item
-wanted binding item = if belongs binding item then Some item else None
+wanted binding item = if takes_item binding item then Some item else None
 
 -- the queue with an item at its back, if there is one
 abbrev pub with_item : Option Item → QueueState → QueueState

@@ -1,7 +1,7 @@
 //! One queue: a list of items in the order in which they came.
 
 ghost use Rattle.std.specs.Prelude.{◌≡◌, ◌<◌, not, IfOk, OnOk, OnErr, if◌then◌else◌};
-ghost use Rattle.cdc_match.specs.Queue.{belongs};
+ghost use Rattle.cdc_match.specs.Queue.{takes_item};
 ghost use Rattle.cdc_broker.specs.Queues.{acknowledged, empty_queue, is_unknown, moved_on, next_delivery, wanted, with_item};
 ghost use Rattle.cdc_broker.specs.Kept.{queue_state, room_of, IsInOrder};
 
@@ -41,7 +41,7 @@ impl Queue {
 
     /// Whether the item belongs to the queue: an end mark belongs to each.
     fn wants(&self, item: &Item) -> bool
-        ensures { result ≡ belongs self.now.binding item.now }
+        ensures { result ≡ takes_item self.now.binding item.now }
     {
         match item {
             Item::Event(message) => self.binding.matches(&message.headers()),

@@ -6,7 +6,7 @@ use Rattle.cdc_broker.proofs.broker.+queue_from.Goals as goal
 pub returns-in_err-copy-clause-err : goal.returns-in_err-copy-clause-err
 returns-in_err-copy-clause-err t c =
     on_err_anyway c.from_residual.result
-    (prepared_states c.args.queues.now c.args.place c.index-queues-place.result c.prepare.new.self c.index-queues-place.is
+    (prepared_states c.args.queues.now c.args.place c.index-queues-place.result c.prepare.new.self
     c.prepare.ensures.state)
 
 pub returns-in_err-queue_from-clause-below : goal.returns-in_err-queue_from-clause-below
@@ -18,5 +18,5 @@ pub returns-in_err-queue_from-clause-err : goal.returns-in_err-queue_from-clause
 returns-in_err-queue_from-clause-err t c =
     on_err_anyway c.from_residual-in_err-queue_from.result
     (c.in_err-queue_from.ensures.err
-    ∙ prepared_states c.args.queues.now c.args.place c.index-queues-place.result c.prepare.new.self c.index-queues-place.is
+    ∙ prepared_states c.args.queues.now c.args.place c.index-queues-place.result c.prepare.new.self
     c.prepare.ensures.state)
