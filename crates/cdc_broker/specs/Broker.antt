@@ -1,0 +1,68 @@
+-- A broker: whose connection is current, which tag it takes next, and its queues.
+use Rattle.std.specs.Prelude.{◌≡◌, ℕ, ◌+◌, ◌-◌, nat_lt, Option, Some, None, Result, Ok, Err, List, [], ◌∷◌, ◌++◌, map, All, slice_get, slice_set, unwrap_or, if◌then◌else◌}
+use Rattle.std.specs.declared.alloc.AllocError.{AllocError}
+use Rattle.cdc_match.specs.declared.pairs.Mode.TheVariants as mode
+use Rattle.cdc_match.specs.Arguments.{Arguments}
+use Rattle.cdc_match.specs.Queue.{queue}
+use Rattle.cdc_message.specs.declared.items.Item.{Item}
+use Rattle.cdc_broker.specs.declared.broker.Refusal.{Refusal}
+use Rattle.cdc_broker.specs.declared.broker.Refusal.TheVariants.{WrongConnection, WrongTag}
+use Rattle.cdc_broker.specs.declared.broker.Taken.{Taken}
+use Rattle.cdc_broker.specs.declared.broker.Taken.TheVariants.{Accepted, Ignored}
+use Rattle.cdc_broker.specs.Queues.{QueueState, empty_queue, queued}
+
+-- the number of the current connection, 0 before the first; the tag that is taken next, if one is; and the queues
+pub record BrokerState : Type 0 where
+  pub connection : ℕ
+  pub expected : Option ℕ
+  pub queues : List QueueState
+
+-- a broker that nothing has come to, with a queue for each binding
+abbrev pub empty_broker : List Arguments → BrokerState
+empty_broker bindings = record { connection = 0; expected = None; queues = map empty_queue bindings }
+
+-- the greatest number of 64 bits, which is no tag
+abbrev pub max_64 : ℕ
+max_64 = 18446744073709551615
+
+-- the tag that comes after this one
+abbrev pub tag_after : ℕ → Option ℕ
+tag_after tag = if nat_lt (tag + 1) max_64 then Some (tag + 1) else None
+
+-- the broker under a new connection: tags begin anew
+abbrev pub connected : ℕ → BrokerState → BrokerState
+connected connection s = record s { connection = connection; expected = Some 1 }
+
+-- the broker after an item that it accepted under this tag
+abbrev pub published : ℕ → Item → BrokerState → BrokerState
+published tag item s = record s { expected = tag_after tag; queues = map (queued item) s.queues }
+
+-- how a publish under this connection and tag is answered: the first of the two refusals, or it is accepted, for which
+-- memory may run out; and the broker after it, which a refusal leaves as it was
+abbrev pub Publishes : BrokerState → ℕ → ℕ → Item → Result Taken AllocError → BrokerState → Type 0
+Publishes s c tag item (Ok Accepted) s' = (c ≡ s.connection) × (s.expected ≡ Some tag) × (s' ≡ published tag item s)
+Publishes s c tag item (Ok (Ignored WrongConnection)) s' = (c ≡ s.connection → ⊥) × (s' ≡ s)
+Publishes s c tag item (Ok (Ignored WrongTag)) s' = (c ≡ s.connection) × (s.expected ≡ Some tag → ⊥) × (s' ≡ s)
+Publishes s c tag item (Err _) s' = (c ≡ s.connection) × (s.expected ≡ Some tag) × (s' ≡ s)
+
+-- what stands for the binding of a queue that isn't there
+abbrev pub nobody : Arguments
+nobody = record { mode = mode.Any; pairs = [] }
+
+-- the queue of this number, from 1 on
+abbrev pub queue_of : BrokerState → ℕ → QueueState
+queue_of s i = unwrap_or (slice_get s.queues (i - 1)) (empty_queue nobody)
+
+-- the broker with another queue under this number
+abbrev pub with_queue : ℕ → QueueState → BrokerState → BrokerState
+with_queue i q s = record s { queues = slice_set s.queues (i - 1) q }
+
+-- the items that were accepted, one more where this one was
+abbrev pub accepted_after : List Item → Item → Result Taken AllocError → List Item
+accepted_after accepted item (Ok Accepted) = accepted ++ item ∷ []
+accepted_after accepted item (Ok (Ignored _)) = accepted
+accepted_after accepted item (Err _) = accepted
+
+-- the broker has accepted these items: each queue holds those that belong to it, in order
+abbrev pub HasAccepted : BrokerState → List Item → Type 0
+HasAccepted s accepted = All (λ q. q.items ≡ queue accepted q.binding) s.queues

@@ -1,0 +1,3 @@
+pub mod Broker
+pub mod Kept
+pub mod Queues

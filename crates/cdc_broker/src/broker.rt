@@ -1,0 +1,207 @@
+//! The broker as its callers see it.
+
+ghost use Rattle.std.specs.Prelude.{◌≡◌, ◌<◌, ◌≤◌, ◌↔◌, List, [], All, IfOk, OnOk, OnErr, IsTrue, not, if◌then◌else◌, length, map, take, drop};
+ghost use Rattle.cdc_message.specs.declared.items.Item.{Item as SomeItem};
+ghost use Rattle.cdc_broker.specs.Broker.{HasAccepted, Publishes, accepted_after, connected, empty_broker, queue_of, tag_after as next_tag, with_queue};
+ghost use Rattle.cdc_broker.specs.Kept.{queue_state, IsInOrder};
+ghost use Rattle.cdc_broker.specs.Queues.{acknowledged, is_unknown, moved_on, next_delivery, queued};
+
+use crate::queue::Queue;
+use cdc_match::Binding;
+use cdc_message::{Delivery, Item};
+use std::alloc::{AllocError, Global};
+use std::marker::Model;
+
+/// Why a publish was passed over.
+#[derive(Clone, Copy, Debug, PartialEq, Eq)]
+pub enum Refusal {
+    /// It came under another connection than the current one.
+    WrongConnection,
+    /// Its tag isn't the one that is taken next.
+    WrongTag,
+}
+
+/// What became of a publish.
+#[derive(Clone, Copy, Debug, PartialEq, Eq)]
+pub enum Taken {
+    /// Its item went to the queues.
+    Accepted,
+    /// It changed nothing, and its item is gone.
+    Ignored(Refusal),
+}
+
+/// A broker in memory, with a queue for each binding, numbered from 1. A clause sees the current connection, the tag that
+/// is taken next, and the queues.
+#[derive(Drop)]
+pub struct Broker {
+    connection: u64,
+    expected: Option<u64>,
+    queues: Vec<Queue>,
+}
+
+impl Model for Broker {
+    ghost use Rattle.std.specs.Prelude.{map, All};
+    ghost use Rattle.cdc_broker.specs.Broker.{BrokerState};
+
+    ghost Value = { BrokerState };
+
+    ghost use Rattle.cdc_broker.specs.Kept.{queue_state, IsInOrder};
+
+    ghost view = { λ broker. record {
+      connection = broker.connection;
+      expected = broker.expected;
+      queues = map queue_state broker.queues.items;
+    } };
+
+    ghost invariant = { λ broker. All IsInOrder broker.queues.items };
+}
+
+/// The tag after this one; the greatest number of 64 bits is no tag.
+fn tag_after(tag: u64) -> Option<u64>
+    ensures { result ≡ next_tag tag }
+{
+    if tag < u64::MAX - 1 {
+        Some(tag + 1)
+    } else {
+        None
+    }
+}
+
+/// Takes an item to the queues from this place on that it belongs to. All growth comes before the first change.
+fn queue_from(
+    alloc: Global,
+    queues: &mut [Queue],
+    place: usize,
+    item: &Item,
+) -> Result<(), AllocError>
+    requires inside { place ≤ length queues.old }
+    requires in_order { All IsInOrder queues.old }
+    ensures below { take place queues.new ≡ take place queues.old }
+    ensures ok { OnOk result (map queue_state (drop place queues.new)
+        ≡ map (queued item.now) (map queue_state (drop place queues.old))) }
+    ensures err { OnErr result (map queue_state queues.new ≡ map queue_state queues.old) }
+    ensures in_order { All IsInOrder queues.new }
+{
+    if place == queues.len() {
+        return Ok(());
+    }
+    let queue = &mut queues[place];
+    let copy = queue.prepare(alloc, item)?;
+    queue_from(alloc, queues, place + 1, item)?;
+    let queue = &mut queues[place];
+    queue.accept(copy);
+    Ok(())
+}
+
+impl Broker {
+    /// A broker with an empty queue for each binding, and no connection.
+    pub fn new(alloc: Global, bindings: Vec<Binding>) -> Result<Broker, AllocError>
+        ensures state { IfOk result (λ broker. broker ≡ empty_broker bindings.items) }
+        ensures accepted { IfOk result (λ broker. HasAccepted broker []) }
+    {
+        let mut queues = Vec::with_capacity(alloc, bindings.len())?;
+        for binding in bindings {
+            queues.push_reserved(Queue::new(alloc, binding));
+        }
+        Ok(Broker {
+            connection: 0,
+            expected: None,
+            queues,
+        })
+    }
+
+    /// Takes a connection whose number is greater than the current one's (0 at first); tags begin at 1 again. Says
+    /// whether it was taken; nothing changes where it wasn't.
+    pub fn connect(&mut self, connection: u64) -> bool
+        ensures answer { IsTrue result ↔ (self.old.connection < connection) }
+        ensures state { self.new ≡ (if result then connected connection self.old else self.old) }
+        ensures accepted { (accepted : List SomeItem) → HasAccepted self.old accepted → HasAccepted self.new accepted }
+    {
+        if connection <= self.connection {
+            return false;
+        }
+        self.connection = connection;
+        self.expected = Some(1);
+        true
+    }
+
+    /// Takes an item under the current connection's number and the tag that is taken next, which then rises by 1: an event
+    /// goes to the back of each queue whose binding takes its headers, an end mark to all. A publish under another
+    /// number, or else with another tag, changes nothing. Tag 2^64-1 is never taken. Where memory runs out nothing
+    /// changes.
+    pub fn publish(
+        &mut self,
+        alloc: Global,
+        connection: u64,
+        tag: u64,
+        item: Item,
+    ) -> Result<Taken, AllocError>
+        ensures publishes { Publishes self.old connection tag item result self.new }
+        ensures accepted { (accepted : List SomeItem) → HasAccepted self.old accepted
+            → HasAccepted self.new (accepted_after accepted item result) }
+    {
+        if connection != self.connection {
+            return Ok(Taken::Ignored(Refusal::WrongConnection));
+        }
+        if self.expected != Some(tag) {
+            return Ok(Taken::Ignored(Refusal::WrongTag));
+        }
+        queue_from(alloc, self.queues.as_mut_slice(), 0, &item)?;
+        self.expected = tag_after(tag);
+        Ok(Taken::Accepted)
+    }
+
+    /// Hands out the item at the cursor of queue `i`, with its position, and moves the cursor on; nothing where the cursor
+    /// is past the queue. Where memory runs out nothing changes.
+    pub fn next_for(&mut self, alloc: Global, i: usize) -> Result<Option<Delivery>, AllocError>
+        requires first { 0 < i }
+        requires last { i ≤ length self.old.queues }
+        ensures answer { IfOk result (λ delivery. delivery ≡ next_delivery (queue_of self.old i)) }
+        ensures ok { OnOk result (self.new ≡
+            with_queue i (moved_on (next_delivery (queue_of self.old i)) (queue_of self.old i)) self.old) }
+        ensures err { OnErr result (self.new ≡ self.old) }
+        ensures accepted { (accepted : List SomeItem) → HasAccepted self.old accepted → HasAccepted self.new accepted }
+    {
+        let queue = &mut self.queues[i - 1];
+        queue.next(alloc)
+    }
+
+    /// Acknowledges all positions of queue `i` up to this one. False, with nothing changed, where the position is 0 or was
+    /// never handed out.
+    pub fn ack(&mut self, i: usize, position: u64) -> bool
+        requires first { 0 < i }
+        requires last { i ≤ length self.old.queues }
+        ensures answer { result ≡ not (is_unknown (queue_of self.old i) position) }
+        ensures state { self.new ≡ (if result
+            then with_queue i (acknowledged position (queue_of self.old i)) self.old else self.old) }
+        ensures accepted { (accepted : List SomeItem) → HasAccepted self.old accepted → HasAccepted self.new accepted }
+    {
+        let queue = &mut self.queues[i - 1];
+        queue.ack(position)
+    }
+
+    /// How many items have come to queue `i`, acknowledged ones too.
+    pub fn queue_len(&self, i: usize) -> u64
+        requires first { 0 < i }
+        requires last { i ≤ length self.now.queues }
+        ensures { result ≡ length (queue_of self.now i).items }
+    {
+        self.queues[i - 1].items.len() as u64
+    }
+
+    /// The position of queue `i` up to which all are acknowledged.
+    pub fn acked(&self, i: usize) -> u64
+        requires first { 0 < i }
+        requires last { i ≤ length self.now.queues }
+        ensures { result ≡ (queue_of self.now i).acked }
+    {
+        self.queues[i - 1].acked
+    }
+
+    /// How many queues there are.
+    pub fn queue_count(&self) -> usize
+        ensures { result ≡ length self.now.queues }
+    {
+        self.queues.len()
+    }
+}
