@@ -3,9 +3,11 @@ pub mod Errors
 pub mod Fields
 pub mod Found
 pub mod Headers
+pub mod Items
 pub mod Kinds
 pub mod Laws
 pub mod Messages
 pub mod Reading
+pub mod Replays
 pub mod Values
 pub mod Widths
