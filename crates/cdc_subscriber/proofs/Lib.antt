@@ -1,1 +1,3 @@
 pub mod BookLemmas
+pub mod HeardLemmas
+pub mod RiseLemmas

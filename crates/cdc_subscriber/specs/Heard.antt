@@ -1,32 +1,13 @@
 -- What a subscriber has heard, and what it keeps of that.
-use Rattle.std.specs.Prelude.{ℕ, ◌-◌, ◌^◌, Bool, true, false, ◌||◌, min, List, [], ◌∷◌, ◌++◌, length, if◌then◌else◌, Result, Ok, Err, nat_lt}
+use Rattle.std.specs.Prelude.{ℕ, ◌-◌, ◌^◌, Bool, true, false, ◌||◌, min, List, [], ◌∷◌, ◌++◌, length, if◌then◌else◌, Result, Ok, Err}
 use Rattle.std.specs.List.{list_any}
 use Rattle.cdc_types.specs.declared.events.Event.{Event}
 use Rattle.cdc_message.specs.declared.errors.DecodeError.{DecodeError}
 use Rattle.cdc_message.specs.declared.items.Item.{Item}
 use Rattle.cdc_message.specs.declared.items.Item.TheVariants as item
+use Rattle.cdc_message.specs.Items.{events_of, rises, last_timestamp}
 use Rattle.cdc_subscriber.specs.Book.{book_of}
 use Rattle.cdc_subscriber.specs.Kept.{Kept}
-
--- the events of items
-abbrev pub events_of : List Item → List Event
-events_of [] = []
-events_of (item.Event e ∷ items) = e ∷ events_of items
-events_of (item.EndMark ∷ items) = events_of items
-
--- the events that are later than the moment t and than each one before
-abbrev pub rises_from : ℕ → List Event → List Event
-rises_from t [] = []
-rises_from t (e ∷ es) = if nat_lt t e.timestamp then e ∷ rises_from e.timestamp es else rises_from t es
-
--- the events whose timestamp is above 0 and above that of each one before
-abbrev pub rises : List Event → List Event
-rises = rises_from 0
-
--- the timestamp of the last event, or the given moment where there is none
-abbrev pub last_from : ℕ → List Event → ℕ
-last_from t [] = t
-last_from t (e ∷ es) = last_from e.timestamp es
 
 -- the items that a subscriber was handed while it was neither closed nor ended, in order, and whether it is closed
 pub record Heard : Type 0 where
@@ -64,7 +45,7 @@ applied_of heard = rises (events_of heard.items)
 abbrev pub kept_of : Heard → Kept
 kept_of heard = record {
   book = book_of (applied_of heard);
-  last = last_from 0 (applied_of heard);
+  last = last_timestamp (applied_of heard);
   applied = min (length (applied_of heard)) (2 ^ 64 - 1);
   ended = has_ended heard;
   closed = heard.closed;
