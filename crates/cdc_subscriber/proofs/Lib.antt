@@ -1,3 +1,4 @@
 pub mod BookLemmas
 pub mod HeardLemmas
+pub mod LineLemmas
 pub mod RiseLemmas
