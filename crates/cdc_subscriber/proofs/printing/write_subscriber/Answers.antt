@@ -10,6 +10,6 @@ returns g c =
     let closed = rw c.closed.ensures at c.in_ok-write_flagged-2.ensures in
     on_ok_weaker c.write_text.result
     (λ end. Appends-trans _ _ _ _ _ c.in_ok-write_named.ensures
-      (Appends-trans _ _ _ _ _ applied
-        (Appends-trans _ _ _ _ _ last (Appends-trans _ _ _ _ _ ended (Appends-trans _ _ _ _ _ closed end)))))
+    (Appends-trans _ _ _ _ _ applied
+    (Appends-trans _ _ _ _ _ last (Appends-trans _ _ _ _ _ ended (Appends-trans _ _ _ _ _ closed end)))))
     c.write_text.ensures
