@@ -3,6 +3,10 @@ pub mod Bytes
 pub mod Decimals
 pub mod Examples
 pub mod Law
+pub mod LineLaws
 pub mod Parts
+pub mod ReplayLaws
+pub mod RisesLaws
+pub mod Same
 pub mod Texts
 pub mod Utf8

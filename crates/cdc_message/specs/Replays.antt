@@ -1,5 +1,5 @@
 -- Lists in which elements come late, again or not at all.
-use Rattle.std.specs.Prelude.{◌≡◌, ℕ, Bool, List, [], ◌∷◌, ◌++◌, take, fold, Contains, if◌then◌else◌}
+use Rattle.std.specs.Prelude.{◌≡◌, ◌≢◌, ℕ, Bool, List, [], ◌∷◌, ◌++◌, take, fold, AllPairs, Contains, if◌then◌else◌}
 use Rattle.std.specs.List.{list_any}
 
 -- whatever stands in one of the two lists stands in the other one
@@ -10,6 +10,10 @@ pub record HaveSame {X : Type 0} (xs ys : List X) : Type 0 where
 -- w is f with repeats: each beginning of w has just what some beginning of f has, in whatever order and number
 pub record IsReplay {X : Type 0} (w f : List X) : Type 0 where
   pub beginnings : (n : ℕ) → (m : ℕ) × HaveSame (take n w) (take m f)
+
+-- no element stands at two places
+abbrev pub HasNoneTwice : {X : Type 0} → List X → Type 0
+HasNoneTwice f = AllPairs (λ a b. a ≢ b) f
 
 -- the first elements of f
 pub record IsPrefix {X : Type 0} (start f : List X) : Type 0 where

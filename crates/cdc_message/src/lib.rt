@@ -8,6 +8,7 @@ pub mod fields;
 mod headers;
 mod items;
 mod kinds;
+mod laws;
 mod message;
 #[cfg(test)]
 mod tests;
@@ -19,4 +20,5 @@ pub use fields::{Field, FieldName, Part};
 pub use headers::{headers_of, properties_of};
 pub use items::{Delivery, Item};
 pub use kinds::{kind_named, kind_text};
+pub use laws::replay_laws;
 pub use message::Message;

@@ -1,6 +1,6 @@
 use crate::{
-    DecodeError, Field, FieldName, Message, Part, decode, encode, headers_of, kind_named,
-    kind_text, properties_of,
+    DecodeError, Delivery, Field, FieldName, Item, Message, Part, decode, encode, headers_of,
+    kind_named, kind_text, properties_of, replay_laws,
 };
 use cdc_types::{Event, EventAccount, EventKind, EventTransfer};
 use std::alloc::{AllocError, Global};
@@ -97,6 +97,18 @@ fn writers_may_differ(rt: HostRuntime) -> Result<(), Fail> {
         let event = first_event(EventKind::SinglePhase);
         assert_eq!(rt; decode(alloc, text.as_bytes()), Ok(event), "{to}");
     }
+    Ok(())
+}
+
+#[test]
+fn a_mebibyte_of_spaces_is_no_matter(rt: HostRuntime) -> Result<(), Fail> {
+    let alloc = rt.alloc();
+    let mut text = String::from_str(alloc, BODY)?;
+    for _ in 0..16_384 {
+        text.push_str("                                                                \n")?;
+    }
+    let event = first_event(EventKind::SinglePhase);
+    assert_eq!(rt; decode(alloc, text.as_bytes()), Ok(event));
     Ok(())
 }
 
@@ -367,6 +379,72 @@ fn parts_belong_to_one_event(rt: HostRuntime) -> Result<(), Fail> {
     assert_eq!(rt; properties.app_id, "tigerbeetle");
     assert_eq!(rt; properties.content_type, "application/json");
     assert_eq!(rt; (properties.delivery_mode, properties.timestamp), (2, 1));
+    Ok(())
+}
+
+// The event with the longest body: every number is the greatest of its width.
+fn longest_event() -> Event {
+    let account = EventAccount {
+        id: u128::MAX,
+        debits_pending: u128::MAX,
+        debits_posted: u128::MAX,
+        credits_pending: u128::MAX,
+        credits_posted: u128::MAX,
+        user_data_128: u128::MAX,
+        user_data_64: u64::MAX,
+        user_data_32: u32::MAX,
+        code: u16::MAX,
+        flags: u16::MAX,
+        timestamp: u64::MAX,
+    };
+    Event {
+        timestamp: u64::MAX,
+        kind: EventKind::TwoPhasePending,
+        ledger: u32::MAX,
+        transfer: EventTransfer {
+            id: u128::MAX,
+            amount: u128::MAX,
+            pending_id: u128::MAX,
+            user_data_128: u128::MAX,
+            user_data_64: u64::MAX,
+            user_data_32: u32::MAX,
+            timeout: u32::MAX,
+            code: u16::MAX,
+            flags: u16::MAX,
+            timestamp: u64::MAX,
+        },
+        debit_account: account,
+        credit_account: account,
+    }
+}
+
+// The event of an item, read from its message's body.
+fn event_of(alloc: Global, item: &Item) -> Result<Option<Event>, DecodeError> {
+    match item {
+        Item::Event(message) => Ok(Some(decode(alloc, message.body().as_bytes())?)),
+        Item::EndMark => Ok(None),
+    }
+}
+
+#[test]
+fn items_and_deliveries_are_copied(rt: HostRuntime) -> Result<(), Fail> {
+    let alloc = rt.alloc();
+    replay_laws();
+    let events = [
+        Some(first_event(EventKind::SinglePhase)),
+        Some(longest_event()),
+        None,
+    ];
+    for event in events {
+        let item = match event {
+            Some(event) => Item::Event(Message::of(alloc, &event)?),
+            None => Item::EndMark,
+        };
+        let delivery = Delivery { position: 7, item }.try_copy(alloc)?;
+        assert_eq!(rt; delivery.position, 7);
+        assert_eq!(rt; event_of(alloc, &delivery.item)?, event);
+        assert_eq!(rt; event_of(alloc, &delivery.item.try_copy(alloc)?)?, event);
+    }
     Ok(())
 }
 
