@@ -1,4 +1,4 @@
--- What an entry that is put into a book makes of it.
+-- What an entry that is put into a book makes of it, and what is found there then.
 use Rattle.std.proofs.Common.{◌≡◌, ℕ, zero, suc, ◌+◌, ◌<◌, ◌≤◌, length, take, Bool, true, false, cond, set, List, [], ◌∷◌, ◌++◌, map, refl, sym, ap, ◌∙◌, inl, inr, Some, None, append_assoc, arith}
 use Rattle.std.specs.Prelude.{◌==◌, ◌||◌, fold, find, reverse, unwrap_or}
 use Rattle.std.specs.List.{flat_map, position_from, slice_get}
@@ -53,7 +53,7 @@ is_among-push id new (x ∷ ids) h other =
     let both = neither (x == id) (is_among id ids) h in
     rw both.0 (is_among-push id new ids both.1 other)
 
-eqb_same : (a : ℕ) → (a == a) ≡ true
+pub eqb_same : (a : ℕ) → (a == a) ≡ true
 eqb_same a = elim (eqb_tells a a) [ inl e ↦ e.0 | inr e ↦ absurd (e.1 refl) ]
 
 eqb_swap : (a b : ℕ) → (a == b) ≡ false → (b == a) ≡ false
@@ -110,7 +110,7 @@ put_present f g entry (id ∷ ids) named changed distinct present =
     ]
 
 -- one more account is shown: the book of all is the book so far with an entry put into it
-book_of_sides-push : (shown : List BookEntry) (entry : BookEntry) → book_of_sides (shown ++ entry ∷ []) ≡ put entry (book_of_sides shown)
+pub book_of_sides-push : (shown : List BookEntry) (entry : BookEntry) → book_of_sides (shown ++ entry ∷ []) ≡ put entry (book_of_sides shown)
 book_of_sides-push shown entry =
     rw (map-append (λ (e : BookEntry). e.id) shown (entry ∷ []), first_appearances-push (map (λ e. e.id) shown) entry.id)
     (by_cases _ refl (distinct_from (map (λ e. e.id) shown) [] tt))
@@ -176,13 +176,3 @@ put_nowhere entry k (e ∷ entries) h =
 pub put_missing : (entry : BookEntry) (entries : List BookEntry) → position_from (λ e. e.id == entry.id) 0 entries ≡ None
     → entries ++ entry ∷ [] ≡ put entry entries
 put_missing entry entries h = put_nowhere entry 0 entries h
-
--- the elements up to one that was found
-pub take_found : {X : Type 0} (xs : List X) (i : ℕ) (x : X) → slice_get xs i ≡ Some x → take (i + 1) xs ≡ take i xs ++ x ∷ []
-take_found xs i x h = take_more xs i x (slice_get_within xs i x h) ∙ ap (λ y. take i xs ++ y ∷ []) (get_or_from_slice_get xs i x x h)
-
--- one is found at each place
-pub found_within : {X : Type 0} (xs : List X) (i : ℕ) → i < length xs → slice_get xs i ≡ None → ⊥
-found_within [] i below h = omega arith
-found_within (x ∷ xs) zero below h = cc
-found_within (x ∷ xs) (suc i) below h = found_within xs i (omega arith) h

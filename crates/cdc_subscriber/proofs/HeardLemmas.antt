@@ -3,19 +3,26 @@ use Rattle.std.proofs.Common.{◌≡◌, ℕ, ◌+◌, ◌-◌, ◌^◌, ◌<◌
 use Rattle.std.specs.Prelude.{◌||◌, nat_lt}
 use Rattle.std.specs.List.{list_any}
 use Rattle.std.proofs.lemmas.Bool.{lt-ltb, le-ltb}
-use Rattle.std.proofs.lemmas.List.Elements.{filter_map-append}
 use Rattle.std.proofs.lemmas.List.Folds.{list_any-append}
 use Rattle.cdc_types.specs.declared.events.Event.{Event}
 use Rattle.cdc_message.specs.declared.items.Item.{Item}
 use Rattle.cdc_message.specs.declared.items.Item.TheVariants as item
-use Rattle.cdc_message.specs.Items.{events_of, item_event, last_timestamp, rises}
+use Rattle.cdc_message.specs.Items.{events_of, last_timestamp, last_timestamp_from, rises}
+use Rattle.cdc_message.proofs.RisesLaws.{events_of-push_end, events_of-push_event, rises-push}
 use Rattle.cdc_subscriber.specs.declared.book.BookEntry.{BookEntry}
 use Rattle.cdc_subscriber.specs.declared.subscriber.Taking.{Taking}
 use Rattle.cdc_subscriber.specs.Answers.{settled_answer}
 use Rattle.cdc_subscriber.specs.Book.{book_of}
 use Rattle.cdc_subscriber.specs.Heard.{Heard, applied_of, has_ended, is_end, kept_of, next}
 use Rattle.cdc_subscriber.specs.Kept.{Kept}
-use Rattle.cdc_subscriber.proofs.RiseLemmas.{last_timestamp-push, rises-push}
+
+last_timestamp_from-push : (t : ℕ) (es : List Event) (e : Event) → last_timestamp_from t (es ++ e ∷ []) ≡ e.timestamp
+last_timestamp_from-push t [] e = refl
+last_timestamp_from-push t (x ∷ es) e = last_timestamp_from-push x.timestamp es e
+
+-- the last of events where one more comes
+last_timestamp-push : (es : List Event) (e : Event) → last_timestamp (es ++ e ∷ []) ≡ e.timestamp
+last_timestamp-push es e = last_timestamp_from-push 0 es e
 
 -- it is neither closed nor ended
 pub record Listens (kept : Kept) : Type 0 where
@@ -51,12 +58,12 @@ next-listening heard item listens = rw (listens.open_yet, listens.before_end) re
 
 -- the end mark has no event
 applied_of-end : (heard : Heard) (closed : Bool) → applied_of (record { items = heard.items ++ item.EndMark ∷ []; closed = closed }) ≡ applied_of heard
-applied_of-end heard closed = rw (filter_map-append item_event heard.items (item.EndMark ∷ []), append-nil (events_of heard.items)) refl
+applied_of-end heard closed = rw (events_of-push_end heard.items) refl
 
 -- once more an event is heard
 applied_of-event : (heard : Heard) (closed : Bool) (e : Event) → applied_of (record { items = heard.items ++ item.Event e ∷ []; closed = closed })
     ≡ cond (nat_lt (last_timestamp (applied_of heard)) e.timestamp) (applied_of heard ++ e ∷ []) (applied_of heard)
-applied_of-event heard closed e = rw (filter_map-append item_event heard.items (item.Event e ∷ [])) (rises-push (events_of heard.items) e)
+applied_of-event heard closed e = rw (events_of-push_event heard.items e) (rises-push (events_of heard.items) e)
 
 has_ended-push : (heard : Heard) (closed : Bool) (x : Item) → has_ended (record { items = heard.items ++ x ∷ []; closed = closed }) ≡ (has_ended heard || is_end x)
 has_ended-push heard closed x = list_any-append is_end heard.items (x ∷ []) ∙ ap (λ b. has_ended heard || b) (or_false (is_end x))

@@ -62,6 +62,12 @@ put entry (other ∷ rest) = if other.id == entry.id then entry ∷ rest else ot
 abbrev pub balances_in : List BookEntry → ℕ → Option Balances
 balances_in book id = option_map (λ entry. entry.balances) (find (λ entry. entry.id == id) book)
 
+-- the balances of the account of this number in the last event that has it, if one has; where both of that event's
+-- accounts are this one, the credited side's
+abbrev pub balances_shown : List Event → ℕ → Option Balances
+balances_shown events id =
+    option_map (λ entry. entry.balances) (find (λ entry. entry.id == id) (reverse (flat_map sides events)))
+
 -- an account's number and its balances
 abbrev pub numbered : BookEntry → ℕ × Balances
 numbered entry = (entry.id, entry.balances)

@@ -3,7 +3,7 @@
 ghost use Rattle.std.specs.Prelude.{◌≡◌, ◌==◌, ◌+◌, ◌<◌, ◌≤◌, [], ◌∷◌, ◌++◌, List, length, IfSome, OnOk, OnErr, option_map, slice_get, vec_len, vec_capacity};
 ghost use Rattle.std.specs.List.{position_from};
 ghost use Rattle.cdc_types.specs.declared.events.Event.{Event as Told};
-ghost use Rattle.cdc_subscriber.specs.Book.{balances_in, entry_of as shown_entry, book_of, numbered, put as put_entry};
+ghost use Rattle.cdc_subscriber.specs.Book.{balances_in, balances_shown, entry_of as shown_entry, book_of, numbered, put as put_entry};
 
 use cdc_types::{Balances, Event, EventAccount};
 use std::alloc::{AllocError, Global};
@@ -46,12 +46,10 @@ impl Book {
 
     /// The balances of the account of this number, if an event has shown it.
     pub fn get(&self, id: u128) -> Option<Balances>
-        ensures { result ≡ balances_in self.now id }
+        ensures found { result ≡ balances_in self.now id }
+        ensures last { (events : List Told) → self.now ≡ book_of events → result ≡ balances_shown events id }
     {
-        self.entries
-            .iter()
-            .find(|entry| entry.id == id)
-            .map(|entry| entry.balances)
+        balances_of(self.entries.as_slice(), id)
     }
 
     /// The account at this place, from 0 on, and its balances.
@@ -95,6 +93,16 @@ impl Book {
         put(&mut self.entries, entry_of(&event.credit_account));
         Ok(())
     }
+}
+
+/// The balances in the entry of this number.
+fn balances_of(entries: &[BookEntry], id: u128) -> Option<Balances>
+    ensures { result ≡ balances_in entries.now id }
+{
+    entries
+        .iter()
+        .find(|entry| entry.id == id)
+        .map(|entry| entry.balances)
 }
 
 /// What an event shows of an account.
