@@ -1,13 +1,12 @@
 -- What a subscriber keeps where it hears one more item.
-use Rattle.std.proofs.Common.{◌≡◌, ℕ, ◌+◌, ◌-◌, ◌^◌, ◌<◌, ◌≤◌, Bool, true, false, cond, min, length, List, [], ◌∷◌, ◌++◌, None, Some, refl, sym, ap, ◌∙◌, inl, inr, append-nil, length-append, arith}
+use Rattle.std.proofs.Common.{◌≡◌, ℕ, ◌+◌, ◌-◌, ◌^◌, ◌<◌, ◌≤◌, Bool, true, false, cond, min, length, List, [], ◌∷◌, ◌++◌, None, Some, refl, ap, ◌∙◌, length-append, arith}
 use Rattle.std.specs.Prelude.{◌||◌, nat_lt}
-use Rattle.std.specs.List.{list_any}
 use Rattle.std.proofs.lemmas.Bool.{lt-ltb, le-ltb}
 use Rattle.std.proofs.lemmas.List.Folds.{list_any-append}
 use Rattle.cdc_types.specs.declared.events.Event.{Event}
 use Rattle.cdc_message.specs.declared.items.Item.{Item}
 use Rattle.cdc_message.specs.declared.items.Item.TheVariants as item
-use Rattle.cdc_message.specs.Items.{events_of, last_timestamp, last_timestamp_from, rises}
+use Rattle.cdc_message.specs.Items.{events_of, last_timestamp, last_timestamp_from}
 use Rattle.cdc_message.proofs.RisesLaws.{events_of-push_end, events_of-push_event, rises-push}
 use Rattle.cdc_subscriber.specs.declared.book.BookEntry.{BookEntry}
 use Rattle.cdc_subscriber.specs.declared.subscriber.Taking.{Taking}

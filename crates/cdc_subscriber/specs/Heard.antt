@@ -1,5 +1,5 @@
 -- What a subscriber has heard, and what it keeps of that.
-use Rattle.std.specs.Prelude.{ℕ, ◌-◌, ◌^◌, Bool, true, false, ◌||◌, min, List, [], ◌∷◌, ◌++◌, length, if◌then◌else◌, Result, Ok, Err}
+use Rattle.std.specs.Prelude.{◌-◌, ◌^◌, Bool, true, false, ◌||◌, min, List, [], ◌∷◌, ◌++◌, length, if◌then◌else◌, Result, Ok, Err}
 use Rattle.std.specs.List.{list_any}
 use Rattle.cdc_types.specs.declared.events.Event.{Event}
 use Rattle.cdc_message.specs.declared.errors.DecodeError.{DecodeError}

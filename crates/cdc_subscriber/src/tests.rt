@@ -135,6 +135,7 @@ fn bodies_ends_and_closes(rt: HostRuntime) -> Result<(), Fail> {
 }
 
 const MANY: u64 = 10_000;
+
 const ACCOUNTS: u64 = 1_000;
 
 #[test]
