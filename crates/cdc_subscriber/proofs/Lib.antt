@@ -1,0 +1,4 @@
+pub mod BookFinds
+pub mod BookLemmas
+pub mod HeardLemmas
+pub mod LineLemmas

@@ -1,0 +1,6 @@
+pub mod Answers
+pub mod Book
+pub mod Heard
+pub mod Kept
+pub mod Lines
+pub mod TakeErrors

@@ -1,0 +1,33 @@
+-- What a subscriber prints: lines of text, each with its line feed.
+use Rattle.std.specs.Prelude.{ℕ, Bool, List, ◌++◌, codes, decimal, if◌then◌else◌}
+use Rattle.std.specs.List.{flat_map}
+use Rattle.cdc_subscriber.specs.declared.book.BookEntry.{BookEntry}
+use Rattle.cdc_subscriber.specs.Kept.{Kept}
+
+-- a number behind a space
+abbrev pub spaced : ℕ → List ℕ
+spaced n = codes " " ++ decimal n
+
+-- a number behind a word
+abbrev pub named : List ℕ → ℕ → List ℕ
+named name n = name ++ spaced n
+
+-- yes or no behind a word
+abbrev pub flagged : List ℕ → Bool → List ℕ
+flagged name flag = name ++ (if flag then codes " yes" else codes " no")
+
+-- the line of an account of a book: its number and its four balances
+abbrev pub account_line : BookEntry → List ℕ
+account_line entry =
+    named (codes "account") entry.id ++ (spaced entry.balances.debits_pending ++ (spaced entry.balances.debits_posted
+    ++ (spaced entry.balances.credits_pending ++ (spaced entry.balances.credits_posted ++ codes "\n"))))
+
+-- the line of the subscriber of this number
+abbrev pub subscriber_line : ℕ → Kept → List ℕ
+subscriber_line number kept =
+    named (codes "subscriber") number ++ (named (codes " applied") kept.applied ++ (named (codes " last") kept.last
+    ++ (flagged (codes " ended") kept.ended ++ (flagged (codes " closed") kept.closed ++ codes "\n"))))
+
+-- that line, and one for each account of its book
+abbrev pub subscriber_text : ℕ → Kept → List ℕ
+subscriber_text number kept = subscriber_line number kept ++ flat_map account_line kept.book
