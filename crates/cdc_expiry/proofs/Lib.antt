@@ -1,3 +1,4 @@
 pub mod Apart
+pub mod Least
 pub mod Lists
 pub mod Order
