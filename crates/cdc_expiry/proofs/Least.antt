@@ -40,10 +40,13 @@ pub IsLeastOf-run : {S : Type 0} {steps : S → Option Triple → S → Type 0} 
     → IsLeastOf xs answer
 IsLeastOf-run p xs None gave none = no_items xs (sym (ap length gave) ∙ sym p.long ∙ none)
 IsLeastOf-run p xs (Some m) gave least =
-    subst (λ ys. IsLeastOf ys (Some m)) gave
-    ( ( least.0.0
-      , subst (λ n. least.0.0 < n) p.long least.0.1
-      , read_and (λ x. x ≡ m) (p.at least.0.0) _ (p.reads least.0.0 m least.0.1) least.0.2 )
-    , λ k d within. at_or_after m _
-        (read_if (λ x. is_lt (triple_cmp x m) ≡ false) (p.at k) _
-          (p.reads k d (subst (λ n. k < n) (sym p.long) within)) (least.1 k)) )
+    subst (λ ys. IsLeastOf ys (Some m)) gave (
+      (
+        least.0.0,
+        subst (λ n. least.0.0 < n) p.long least.0.1,
+        read_and (λ x. x ≡ m) (p.at least.0.0) _ (p.reads least.0.0 m least.0.1) least.0.2,
+      ),
+      λ k d within. at_or_after m _
+          (read_if (λ x. is_lt (triple_cmp x m) ≡ false) (p.at k) _
+          (p.reads k d (subst (λ n. k < n) (sym p.long) within)) (least.1 k)),
+    )

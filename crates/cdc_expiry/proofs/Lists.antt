@@ -130,14 +130,14 @@ TimestampsAreUnique-set_of (z ∷ xs) differ x y there also same =
     let timestamp : Triple → ℕ = λ v. v.timestamp in
     elim (first_or_rest z x xs there) [
       | inl x_first ↦ elim (first_or_rest z y xs also) [
-          | inl y_first ↦ x_first ∙ sym y_first
-          | inr y_later ↦ absurd (All-contains (λ v. v.timestamp ≢ z.timestamp) xs y differ.0 y_later (sym same ∙ ap timestamp x_first))
-        ]
+        | inl y_first ↦ x_first ∙ sym y_first
+        | inr y_later ↦ absurd (All-contains (λ v. v.timestamp ≢ z.timestamp) xs y differ.0 y_later (sym same ∙ ap timestamp x_first))
+      ]
       | inr x_later ↦ elim (first_or_rest z y xs also) [
-          | inl y_first ↦ absurd (All-contains (λ v. v.timestamp ≢ z.timestamp) xs x differ.0 x_later (same ∙ ap timestamp y_first))
-          | inr y_later ↦
+        | inl y_first ↦ absurd (All-contains (λ v. v.timestamp ≢ z.timestamp) xs x differ.0 x_later (same ∙ ap timestamp y_first))
+        | inr y_later ↦
             TimestampsAreUnique-set_of xs differ.1 x y (contains-set_of xs x x_later) (contains-set_of xs y y_later) same
-        ]
+      ]
     ]
 
 -- a triple of the list has its numbers in the set
@@ -160,9 +160,10 @@ IsLeastOf-set_of xs (Some x) least =
 
 pub IsLeast-set_of : (xs : List Triple) (answer : Option Triple) → IsLeastOf xs answer → IsLeast (set_of xs) answer
 IsLeast-set_of xs None least = ap set_of least
-IsLeast-set_of xs (Some x) least =
-    ( contains-set_of xs x least.0
-    , λ y there. All-contains (λ y. is_le (triple_cmp x y) ≡ true) xs y least.1 (Contains-set_of xs y there) )
+IsLeast-set_of xs (Some x) least = (
+  contains-set_of xs x least.0,
+  λ y there. All-contains (λ y. is_le (triple_cmp x y) ≡ true) xs y least.1 (Contains-set_of xs y there),
+)
 
 -- of two triples each at or before the other, the order doesn't tell
 neither_later : (x y : Triple) (there back : Ordering) → triple_cmp x y ≡ there → back ≡ ordering_reverse there

@@ -14,6 +14,6 @@ returns c =
     let answer = c.min.result in
     let xs = c.self.inside.triples.items in
     let least : IsLeastOf (filter (is_due now) xs) answer =
-      IsLeastOf-run c.min.ensures.runs.0 (filter (is_due now) xs) answer (yielded c) c.min.ensures.runs.3 in
+    IsLeastOf-run c.min.ensures.runs.0 (filter (is_due now) xs) answer (yielded c) c.min.ensures.runs.3 in
     subst (λ (i : Index). IsLeast (due_at i.triples now) answer) c.self.view_is
     (subst (λ (s : Triples). IsLeast s answer) (sym (due_at-set_of xs now)) (IsLeast-set_of (filter (is_due now) xs) answer least))
