@@ -31,7 +31,7 @@ Contains-set_of xs x there =
     Contains-from_any same_triple x xs (sym (contains-from_list triple_cmp_total xs x) ∙ there)
 
 -- the empty set has no triple
-empty_lacks : (s : Triples) (x : Triple) → s ≡ empty → contains s x ≡ true → ⊥
+pub empty_lacks : (s : Triples) (x : Triple) → s ≡ empty → contains s x ≡ true → ⊥
 empty_lacks s x is_empty there = let absent = contains-empty triple_cmp x in cc
 
 -- lists with the same triples have the same set
@@ -115,13 +115,18 @@ IsNewTimestamp-set_of xs t others x there =
 pub others-set_of : (xs : List Triple) (t : ℕ) → IsNewTimestamp (set_of xs) t → All (λ x. x.timestamp ≢ t) xs
 others-set_of xs t new k d within = new _ (contains-set_of xs _ (Contains-get_or xs k d within))
 
--- a triple of such a set is the first of the list or in the rest
+-- a triple of a set with z is z, or was there before
+pub added_or_there : (s : Triples) (z x : Triple) → contains (insert s z) x ≡ true → (x ≡ z) ⊎ (contains s x ≡ true)
+added_or_there s z x there =
+    elim (eq_by_cmp triple_cmp x z) as (λ b. eq_by_cmp triple_cmp x z ≡ b → (b || contains s x) ≡ true → (x ≡ z) ⊎ (contains s x ≡ true)) [
+      | true ↦ λ tied _. inl (same_triple x z tied)
+      | false ↦ λ _ before. inr before
+    ] refl (sym (contains-insert triple_cmp_total s z x) ∙ there)
+
+-- a triple of a list's set is the first of the list or in the rest
 first_or_rest : (z x : Triple) (xs : List Triple) → contains (set_of (z ∷ xs)) x ≡ true → (x ≡ z) ⊎ Contains xs x
 first_or_rest z x xs there =
-    elim (eq_by_cmp triple_cmp x z) as (λ b. eq_by_cmp triple_cmp x z ≡ b → (b || contains (set_of xs) x) ≡ true → (x ≡ z) ⊎ Contains xs x) [
-      | true ↦ λ tied _. inl (same_triple x z tied)
-      | false ↦ λ _ rest. inr (Contains-set_of xs x rest)
-    ] refl (sym (contains-insert triple_cmp_total (set_of xs) z x) ∙ there)
+    elim (added_or_there (set_of xs) z x there) [ inl first ↦ inl first | inr later ↦ inr (Contains-set_of xs x later) ]
 
 -- the timestamp tells the triples of such a list apart
 pub TimestampsAreUnique-set_of : (xs : List Triple) → TimestampsDiffer xs → TimestampsAreUnique (set_of xs)
