@@ -99,9 +99,9 @@ impl EventLog {
     {
         self.events
             .iter()
-            .copied()
             .filter(|event| timestamp < event.timestamp)
             .take(limit)
+            .copied()
             .collect(alloc)
     }
 
