@@ -5,7 +5,7 @@ ghost use Rattle.std.specs.Io.KnownBytes.{Appends};
 ghost use Rattle.cdc_message.specs.Reading.{read};
 ghost use Rattle.cdc_subscriber.specs.Lines.{subscriber_text};
 ghost use Rattle.cdc_subscriber.specs.Heard.{Heard, nothing, next, next_read, kept_of};
-ghost use Rattle.cdc_subscriber.specs.Answers.{answer_to, event_answer, settled_answer, GivesUnlessMemory, TakesBody, TakesItem};
+ghost use Rattle.cdc_subscriber.specs.Answers.{answer_to, event_answer, settled_answer, GivesOrLacksMemory, TakesBody, TakesItem};
 
 use crate::book::Book;
 use crate::errors::TakeError;
@@ -181,7 +181,7 @@ impl Subscriber {
     /// Hears an event, and applies it where it is later than the last one applied.
     fn hear(&mut self, event: &Event) -> Result<Taking, TakeError>
         requires { settled_answer self.old ≡ None }
-        ensures answer { GivesUnlessMemory true (Ok (event_answer self.old.last event.now)) result }
+        ensures answer { GivesOrLacksMemory true (Ok (event_answer self.old.last event.now)) result }
         ensures stands { (heard : Heard) → self.old ≡ kept_of heard
             → OnOk result (self.new ≡ kept_of (next heard (Item.Event event.now))) }
         ensures err { OnErr result (self.new ≡ self.old) }
