@@ -31,8 +31,9 @@ find-book_of_sides : (latest_first : List BookEntry) (id : ℕ)
     → find (λ e. e.id == id) (book_of_sides (reverse latest_first)) ≡ find (λ e. e.id == id) latest_first
 find-book_of_sides [] id = refl
 find-book_of_sides (entry ∷ earlier) id =
-    rw (reverse-append (entry ∷ []) earlier, book_of_sides-push (reverse earlier) entry, find-put entry id (book_of_sides (reverse earlier)), find-book_of_sides earlier id)
-    refl
+    let before = book_of_sides (reverse earlier) in
+    rw (reverse-append (entry ∷ []) earlier, book_of_sides-push (reverse earlier) entry, find-put entry id before)
+    (rw (find-book_of_sides earlier id) refl)
 
 -- the book of events has of each account what they showed last
 pub balances_in-book_of : (events : List Event) (id : ℕ) → balances_in (book_of events) id ≡ balances_shown events id

@@ -1,5 +1,5 @@
--- What an entry that is put into a book makes of it, and what is found there then.
-use Rattle.std.proofs.Common.{◌≡◌, ℕ, zero, suc, ◌+◌, ◌≤◌, Bool, true, false, cond, set, List, [], ◌∷◌, ◌++◌, map, refl, sym, ap, ◌∙◌, inl, inr, Some, None, append_assoc, arith}
+-- What an entry that is put into a book makes of it.
+use Rattle.std.proofs.Common.{◌≡◌, ℕ, zero, suc, ◌+◌, ◌≤◌, Bool, true, false, cond, set, List, [], ◌∷◌, ◌++◌, map, refl, sym, ap, ◌∙◌, inl, inr, Option, Some, None, append_assoc, arith}
 use Rattle.std.specs.Prelude.{◌==◌, ◌||◌, fold, find, reverse, unwrap_or}
 use Rattle.std.specs.List.{flat_map, position_from}
 use Rattle.std.proofs.lemmas.Bool.{ne_eqb, cases_Bool}
@@ -11,15 +11,26 @@ use Rattle.cdc_types.specs.declared.events.Event.{Event}
 use Rattle.cdc_subscriber.specs.declared.book.BookEntry.{BookEntry}
 use Rattle.cdc_subscriber.specs.Book.{entry_of, sides, is_among, first_appearances, last_shown, unseen, book_of_sides, book_of, put}
 
+-- an entry has this number
+abbrev has_id : ℕ → BookEntry → Bool
+has_id id entry = entry.id == id
+
+-- the numbers of entries
+abbrev ids_of : List BookEntry → List ℕ
+ids_of entries = map (λ (e : BookEntry). e.id) entries
+
 -- one more account is shown
 last_shown-push : (shown : List BookEntry) (entry : BookEntry) (id : ℕ)
     → last_shown (shown ++ entry ∷ []) id ≡ cond (entry.id == id) entry (last_shown shown id)
-last_shown-push shown entry id =
-    rw (reverse-append shown (entry ∷ [])) (elim (entry.id == id)
-    as (λ t. unwrap_or (cond t (Some entry) (find (λ e. e.id == id) (reverse shown))) (unseen id) ≡ cond t entry (unwrap_or (find (λ e. e.id == id) (reverse shown)) (unseen id)))
-    [ true ↦ refl | false ↦ refl ])
+last_shown-push shown entry id = rw (reverse-append shown (entry ∷ [])) (by_test (entry.id == id))
+  where
+    by_test : (t : Bool)
+        → unwrap_or (cond t (Some entry) (find (has_id id) (reverse shown))) (unseen id)
+        ≡ cond t entry (last_shown shown id)
+    by_test true = refl
+    by_test false = refl
 
-found_id : (entries : List BookEntry) (id : ℕ) → (unwrap_or (find (λ e. e.id == id) entries) (unseen id)).id ≡ id
+found_id : (entries : List BookEntry) (id : ℕ) → (unwrap_or (find (has_id id) entries) (unseen id)).id ≡ id
 found_id [] id = refl
 found_id (e ∷ entries) id =
     elim (eqb_tells e.id id) [
@@ -31,11 +42,13 @@ found_id (e ∷ entries) id =
 last_shown_id : (shown : List BookEntry) (id : ℕ) → (last_shown shown id).id ≡ id
 last_shown_id shown id = found_id (reverse shown) id
 
--- one more number
+-- numbers in the order of their first appearance, and one more
+abbrev appeared : List ℕ → ℕ → List ℕ
+appeared seen id = cond (is_among id seen) seen (seen ++ id ∷ [])
+
 first_appearances-push : (ids : List ℕ) (id : ℕ)
-    → first_appearances (ids ++ id ∷ []) ≡ cond (is_among id (first_appearances ids)) (first_appearances ids) (first_appearances ids ++ id ∷ [])
-first_appearances-push ids id =
-    rw (fold-append (λ seen n. cond (is_among n seen) seen (seen ++ n ∷ [])) [] ids (id ∷ [])) refl
+    → first_appearances (ids ++ id ∷ []) ≡ appeared (first_appearances ids) id
+first_appearances-push ids id = rw (fold-append appeared [] ids (id ∷ [])) refl
 
 -- no number stands twice
 abbrev AreDistinct : List ℕ → Type 0
@@ -46,13 +59,14 @@ neither : (a b : Bool) → (a || b) ≡ false → (a ≡ false) × (b ≡ false)
 neither true b h = cc
 neither false b h = (refl, h)
 
-is_among-push : (id new : ℕ) (ids : List ℕ) → is_among id ids ≡ false → (new == id) ≡ false → is_among id (ids ++ new ∷ []) ≡ false
+is_among-push : (id new : ℕ) (ids : List ℕ) → is_among id ids ≡ false → (new == id) ≡ false
+    → is_among id (ids ++ new ∷ []) ≡ false
 is_among-push id new [] h other = rw other refl
 is_among-push id new (x ∷ ids) h other =
     let both = neither (x == id) (is_among id ids) h in
     rw both.0 (is_among-push id new ids both.1 other)
 
-pub eqb_same : (a : ℕ) → (a == a) ≡ true
+eqb_same : (a : ℕ) → (a == a) ≡ true
 eqb_same a = elim (eqb_tells a a) [ inl e ↦ e.0 | inr e ↦ absurd (e.1 refl) ]
 
 eqb_swap : (a b : ℕ) → (a == b) ≡ false → (b == a) ≡ false
@@ -64,8 +78,7 @@ distinct-push (x ∷ ids) id distinct new =
     let both = neither (x == id) (is_among id ids) new in
     (is_among-push x id ids distinct.0 (eqb_swap x id both.0), distinct-push ids id distinct.1 both.1)
 
-distinct_from : (ids seen : List ℕ) → AreDistinct seen
-    → AreDistinct (fold (λ seen n. cond (is_among n seen) seen (seen ++ n ∷ [])) seen ids)
+distinct_from : (ids seen : List ℕ) → AreDistinct seen → AreDistinct (fold appeared seen ids)
 distinct_from [] seen distinct = distinct
 distinct_from (id ∷ ids) seen distinct =
     elim (cases_Bool (is_among id seen)) [
@@ -73,105 +86,138 @@ distinct_from (id ∷ ids) seen distinct =
       | inr new ↦ rw new (distinct_from ids (seen ++ id ∷ []) (distinct-push seen id distinct new))
     ]
 
--- an entry with a number that the book doesn't have comes last
-put_absent : (f g : ℕ → BookEntry) (entry : BookEntry) (ids : List ℕ) → ((id : ℕ) → (f id).id ≡ id)
-    → ((id : ℕ) → g id ≡ cond (entry.id == id) entry (f id)) → is_among entry.id ids ≡ false
-    → map g ids ++ entry ∷ [] ≡ put entry (map f ids)
-put_absent f g entry [] named changed absent = refl
-put_absent f g entry (id ∷ ids) named changed absent =
-    let both = neither (id == entry.id) (is_among entry.id ids) absent in
-    let differs : ((f id).id == entry.id) ≡ false = rw (named id) both.0 in
-    rw (changed id, eqb_swap id entry.id both.0, differs) (ap (λ (es : List BookEntry). f id ∷ es) (put_absent f g entry ids named changed both.1))
+-- two books that show the same, but for the account of one more entry
+record Differ (f g : ℕ → BookEntry) (entry : BookEntry) : Type 0 where
+  named : (id : ℕ) → (f id).id ≡ id
+  changed : (id : ℕ) → g id ≡ cond (entry.id == id) entry (f id)
 
-map_absent : (f g : ℕ → BookEntry) (entry : BookEntry) (ids : List ℕ)
-    → ((id : ℕ) → g id ≡ cond (entry.id == id) entry (f id)) → is_among entry.id ids ≡ false → map g ids ≡ map f ids
-map_absent f g entry [] changed absent = refl
-map_absent f g entry (id ∷ ids) changed absent =
+-- an entry with a number that the book doesn't have comes last
+put_absent : (f g : ℕ → BookEntry) (entry : BookEntry) (ids : List ℕ) → Differ f g entry
+    → is_among entry.id ids ≡ false → map g ids ++ entry ∷ [] ≡ put entry (map f ids)
+put_absent f g entry [] differ absent = refl
+put_absent f g entry (id ∷ ids) differ absent =
     let both = neither (id == entry.id) (is_among entry.id ids) absent in
-    rw (changed id, eqb_swap id entry.id both.0) (ap (λ (es : List BookEntry). f id ∷ es) (map_absent f g entry ids changed both.1))
+    let differs : ((f id).id == entry.id) ≡ false = rw (differ.named id) both.0 in
+    let rest = put_absent f g entry ids differ both.1 in
+    rw (differ.changed id, eqb_swap id entry.id both.0, differs) (ap (λ (es : List BookEntry). f id ∷ es) rest)
+
+map_absent : (f g : ℕ → BookEntry) (entry : BookEntry) (ids : List ℕ) → Differ f g entry
+    → is_among entry.id ids ≡ false → map g ids ≡ map f ids
+map_absent f g entry [] differ absent = refl
+map_absent f g entry (id ∷ ids) differ absent =
+    let both = neither (id == entry.id) (is_among entry.id ids) absent in
+    let rest = map_absent f g entry ids differ both.1 in
+    rw (differ.changed id, eqb_swap id entry.id both.0) (ap (λ (es : List BookEntry). f id ∷ es) rest)
 
 -- an entry with a number that the book has takes its place
-put_present : (f g : ℕ → BookEntry) (entry : BookEntry) (ids : List ℕ) → ((id : ℕ) → (f id).id ≡ id)
-    → ((id : ℕ) → g id ≡ cond (entry.id == id) entry (f id)) → AreDistinct ids → is_among entry.id ids ≡ true
-    → map g ids ≡ put entry (map f ids)
-put_present f g entry [] named changed distinct present = cc
-put_present f g entry (id ∷ ids) named changed distinct present =
+put_present : (f g : ℕ → BookEntry) (entry : BookEntry) (ids : List ℕ) → Differ f g entry → AreDistinct ids
+    → is_among entry.id ids ≡ true → map g ids ≡ put entry (map f ids)
+put_present f g entry [] differ distinct present = cc
+put_present f g entry (id ∷ ids) differ distinct present =
     elim (eqb_tells id entry.id) [
       | inl same ↦
           let here : (entry.id == id) ≡ true = rw (← same.1) (eqb_same id) in
           let others : is_among entry.id ids ≡ false = rw (← same.1) distinct.0 in
-          let agrees : ((f id).id == entry.id) ≡ true = rw (named id) same.0 in
-          rw (changed id, here, agrees) (ap (λ (es : List BookEntry). entry ∷ es) (map_absent f g entry ids changed others))
+          let agrees : ((f id).id == entry.id) ≡ true = rw (differ.named id) same.0 in
+          let rest = map_absent f g entry ids differ others in
+          rw (differ.changed id, here, agrees) (ap (λ (es : List BookEntry). entry ∷ es) rest)
       | inr other ↦
-          let rest : is_among entry.id ids ≡ true = rw other.0 at present in
-          let differs : ((f id).id == entry.id) ≡ false = rw (named id) other.0 in
-          rw (changed id, eqb_swap id entry.id other.0, differs) (ap (λ (es : List BookEntry). f id ∷ es) (put_present f g entry ids named changed distinct.1 rest))
+          let away = eqb_swap id entry.id other.0 in
+          let within : is_among entry.id ids ≡ true = rw other.0 at present in
+          let differs : ((f id).id == entry.id) ≡ false = rw (differ.named id) other.0 in
+          let rest = put_present f g entry ids differ distinct.1 within in
+          rw (differ.changed id, away, differs) (ap (λ (es : List BookEntry). f id ∷ es) rest)
     ]
 
 -- one more account is shown: the book of all is the book so far with an entry put into it
-pub book_of_sides-push : (shown : List BookEntry) (entry : BookEntry) → book_of_sides (shown ++ entry ∷ []) ≡ put entry (book_of_sides shown)
+pub book_of_sides-push : (shown : List BookEntry) (entry : BookEntry)
+    → book_of_sides (shown ++ entry ∷ []) ≡ put entry (book_of_sides shown)
 book_of_sides-push shown entry =
-    rw (map-append (λ (e : BookEntry). e.id) shown (entry ∷ []), first_appearances-push (map (λ e. e.id) shown) entry.id)
-    (by_cases _ refl (distinct_from (map (λ e. e.id) shown) [] tt))
+    rw (map-append (λ (e : BookEntry). e.id) shown (entry ∷ []), first_appearances-push (ids_of shown) entry.id)
+    (by_cases (first_appearances (ids_of shown)) (is_among entry.id _) refl (distinct_from (ids_of shown) [] tt))
   where
-    by_cases : (t : Bool) → is_among entry.id (first_appearances (map (λ e. e.id) shown)) ≡ t → AreDistinct (first_appearances (map (λ e. e.id) shown))
-        → map (last_shown (shown ++ entry ∷ [])) (cond t (first_appearances (map (λ e. e.id) shown)) (first_appearances (map (λ e. e.id) shown) ++ entry.id ∷ []))
-        ≡ put entry (map (last_shown shown) (first_appearances (map (λ e. e.id) shown)))
-    by_cases true old distinct =
-        put_present (last_shown shown) (last_shown (shown ++ entry ∷ [])) entry _ (last_shown_id shown) (last_shown-push shown entry) distinct old
-    by_cases false new distinct =
-        rw (map-append (last_shown (shown ++ entry ∷ [])) (first_appearances (map (λ e. e.id) shown)) (entry.id ∷ []))
-        (let last : last_shown (shown ++ entry ∷ []) entry.id ≡ entry = last_shown-push shown entry entry.id ∙ rw (eqb_same entry.id) refl in
-        rw last (put_absent (last_shown shown) (last_shown (shown ++ entry ∷ [])) entry _ (last_shown_id shown) (last_shown-push shown entry) new))
+    differ : Differ (last_shown shown) (last_shown (shown ++ entry ∷ [])) entry
+    differ = record { named = last_shown_id shown; changed = last_shown-push shown entry }
+
+    itself : last_shown (shown ++ entry ∷ []) entry.id ≡ entry
+    itself = last_shown-push shown entry entry.id ∙ rw (eqb_same entry.id) refl
+
+    by_cases : (ids : List ℕ) (t : Bool) → is_among entry.id ids ≡ t → AreDistinct ids
+        → map (last_shown (shown ++ entry ∷ [])) (cond t ids (ids ++ entry.id ∷ []))
+        ≡ put entry (map (last_shown shown) ids)
+    by_cases ids true old distinct =
+        put_present (last_shown shown) (last_shown (shown ++ entry ∷ [])) entry ids differ distinct old
+    by_cases ids false new distinct =
+        rw (map-append (last_shown (shown ++ entry ∷ [])) ids (entry.id ∷ []), itself)
+        (put_absent (last_shown shown) (last_shown (shown ++ entry ∷ [])) entry ids differ new)
 
 -- an event takes in both of its accounts, the debited one first
 pub book_of-push : (events : List Event) (e : Event)
     → book_of (events ++ e ∷ []) ≡ put (entry_of e.credit_account) (put (entry_of e.debit_account) (book_of events))
 book_of-push events e =
-    let both : flat_map sides (events ++ e ∷ []) ≡ (flat_map sides events ++ entry_of e.debit_account ∷ []) ++ entry_of e.credit_account ∷ [] =
-    flat_map-append sides events (e ∷ []) ∙ sym (append_assoc (flat_map sides events) (entry_of e.debit_account ∷ []) (entry_of e.credit_account ∷ [])) in
-    ap book_of_sides both
-    ∙ book_of_sides-push (flat_map sides events ++ entry_of e.debit_account ∷ []) (entry_of e.credit_account)
-    ∙ ap (put (entry_of e.credit_account)) (book_of_sides-push (flat_map sides events) (entry_of e.debit_account))
+    let debit = entry_of e.debit_account in
+    let credit = entry_of e.credit_account in
+    let before = flat_map sides events in
+    let both : flat_map sides (events ++ e ∷ []) ≡ (before ++ debit ∷ []) ++ credit ∷ [] =
+    flat_map-append sides events (e ∷ []) ∙ sym (append_assoc before (debit ∷ []) (credit ∷ [])) in
+    ap book_of_sides both ∙ book_of_sides-push (before ++ debit ∷ []) credit
+    ∙ ap (put credit) (book_of_sides-push before debit)
 
 -- a place is counted from the first one on
-counted_from : (p : BookEntry → Bool) (k : ℕ) (entries : List BookEntry) (i : ℕ) → position_from p k entries ≡ Some i → k ≤ i
+counted_from : (p : BookEntry → Bool) (k : ℕ) (entries : List BookEntry) (i : ℕ)
+    → position_from p k entries ≡ Some i → k ≤ i
 counted_from p k [] i h = cc
 counted_from p k (e ∷ entries) i h =
     elim (cases_Bool (p e)) [
-      | inl passes ↦ let here : Some k ≡ Some i = rw passes at h in let same : k ≡ i = cc in omega arith
-      | inr fails ↦ let there = rw fails at h in omega (arith, counted_from p (k + 1) entries i there)
+      | inl passes ↦
+          let here : Some k ≡ Some i = rw passes at h in
+          let same : k ≡ i = cc in
+          omega arith
+      | inr fails ↦
+          let there = rw fails at h in
+          omega (arith, counted_from p (k + 1) entries i there)
     ]
 
-put_from : (entry : BookEntry) (k : ℕ) (entries : List BookEntry) (j i : ℕ) → k + j ≡ i → position_from (λ e. e.id == entry.id) k entries ≡ Some i
-    → set entries j entry ≡ put entry entries
+put_from : (entry : BookEntry) (k : ℕ) (entries : List BookEntry) (j i : ℕ) → k + j ≡ i
+    → position_from (has_id entry.id) k entries ≡ Some i → set entries j entry ≡ put entry entries
 put_from entry k [] j i sum h = cc
 put_from entry k (e ∷ entries) zero i sum h =
     elim (cases_Bool (e.id == entry.id)) [
       | inl passes ↦ rw passes refl
-      | inr fails ↦ let there = rw fails at h in absurd (omega (arith, counted_from (λ x. x.id == entry.id) (k + 1) entries i there))
+      | inr fails ↦
+          let there = rw fails at h in
+          absurd (omega (arith, counted_from (has_id entry.id) (k + 1) entries i there))
     ]
 put_from entry k (e ∷ entries) (suc j) i sum h =
     elim (cases_Bool (e.id == entry.id)) [
-      | inl passes ↦ let here : Some k ≡ Some i = rw passes at h in let same : k ≡ i = cc in absurd (omega arith)
-      | inr fails ↦ let there = rw fails at h in rw fails (ap (λ (es : List BookEntry). e ∷ es) (put_from entry (k + 1) entries j i (omega arith) there))
+      | inl passes ↦
+          let here : Some k ≡ Some i = rw passes at h in
+          let same : k ≡ i = cc in
+          absurd (omega arith)
+      | inr fails ↦
+          let there = rw fails at h in
+          let rest = put_from entry (k + 1) entries j i (omega arith) there in
+          rw fails (ap (λ (es : List BookEntry). e ∷ es) rest)
     ]
 
 -- where an entry of that number stands, it is exchanged
-pub put_found : (entry : BookEntry) (entries : List BookEntry) (i : ℕ) → position_from (λ e. e.id == entry.id) 0 entries ≡ Some i
-    → set entries i entry ≡ put entry entries
+pub put_found : (entry : BookEntry) (entries : List BookEntry) (i : ℕ)
+    → position_from (λ e. e.id == entry.id) 0 entries ≡ Some i → set entries i entry ≡ put entry entries
 put_found entry entries i h = put_from entry 0 entries i i (omega arith) h
 
-put_nowhere : (entry : BookEntry) (k : ℕ) (entries : List BookEntry) → position_from (λ e. e.id == entry.id) k entries ≡ None
-    → entries ++ entry ∷ [] ≡ put entry entries
+put_nowhere : (entry : BookEntry) (k : ℕ) (entries : List BookEntry)
+    → position_from (has_id entry.id) k entries ≡ None → entries ++ entry ∷ [] ≡ put entry entries
 put_nowhere entry k [] h = refl
 put_nowhere entry k (e ∷ entries) h =
     elim (cases_Bool (e.id == entry.id)) [
       | inl passes ↦ let here : Some k ≡ None = rw passes at h in cc
-      | inr fails ↦ let there = rw fails at h in rw fails (ap (λ (es : List BookEntry). e ∷ es) (put_nowhere entry (k + 1) entries there))
+      | inr fails ↦
+          let there = rw fails at h in
+          let rest = put_nowhere entry (k + 1) entries there in
+          rw fails (ap (λ (es : List BookEntry). e ∷ es) rest)
     ]
 
 -- where none stands, it comes last
-pub put_missing : (entry : BookEntry) (entries : List BookEntry) → position_from (λ e. e.id == entry.id) 0 entries ≡ None
-    → entries ++ entry ∷ [] ≡ put entry entries
+pub put_missing : (entry : BookEntry) (entries : List BookEntry)
+    → position_from (λ e. e.id == entry.id) 0 entries ≡ None → entries ++ entry ∷ [] ≡ put entry entries
 put_missing entry entries h = put_nowhere entry 0 entries h

@@ -1,3 +1,4 @@
+mod Examples
 pub mod BookFinds
 pub mod BookLemmas
 pub mod HeardLemmas

@@ -33,8 +33,8 @@ body_answer kept (Ok e) = Ok (answer_to kept (item.Event e))
 body_answer kept (Err why) = ok_or (settled_answer kept) (Decode why)
 
 -- the answer is this one or, where the subscriber has something to read, memory ran out
-abbrev pub GivesUnlessMemory : Bool → Result Taking TakeError → Result Taking TakeError → Type 0
-GivesUnlessMemory reads expected answer = (answer ≡ expected) ⊎ (IsTrue reads × (answer ≡ Err OutOfMemory))
+abbrev pub GivesOrLacksMemory : Bool → Result Taking TakeError → Result Taking TakeError → Type 0
+GivesOrLacksMemory reads expected answer = (answer ≡ expected) ⊎ (IsTrue reads × (answer ≡ Err OutOfMemory))
 
 -- the subscriber is neither closed nor ended
 abbrev pub listens : Kept → Bool
@@ -47,8 +47,8 @@ has_body item.EndMark = false
 
 -- what is answered to an item: only an event that is heard takes memory
 abbrev pub TakesItem : Kept → Item → Result Taking TakeError → Type 0
-TakesItem kept item = GivesUnlessMemory (listens kept && has_body item) (Ok (answer_to kept item))
+TakesItem kept item = GivesOrLacksMemory (listens kept && has_body item) (Ok (answer_to kept item))
 
 -- what is answered to a body of which this was read: only one that is heard takes memory
 abbrev pub TakesBody : Kept → Result Event DecodeError → Result Taking TakeError → Type 0
-TakesBody kept read = GivesUnlessMemory (listens kept) (body_answer kept read)
+TakesBody kept read = GivesOrLacksMemory (listens kept) (body_answer kept read)

@@ -30,7 +30,8 @@ has_ended heard = list_any is_end heard.items
 -- what a subscriber has heard after it was handed one more item
 abbrev pub next : Heard → Item → Heard
 next heard item =
-    if heard.closed || has_ended heard then heard else record { items = heard.items ++ item ∷ []; closed = heard.closed }
+    if heard.closed || has_ended heard then heard
+    else record { items = heard.items ++ item ∷ []; closed = heard.closed }
 
 -- the same where it was handed a body: a body that is no event isn't heard
 abbrev pub next_read : Heard → Result Event DecodeError → Heard

@@ -124,7 +124,8 @@ fn entry_of(account: &EventAccount) -> BookEntry
 fn put(entries: &mut Vec<BookEntry>, entry: BookEntry)
     requires { vec_len entries.old < vec_capacity entries.old }
     ensures items { entries.new.items ≡ put_entry entry entries.old.items }
-    ensures room { (vec_capacity entries.new ≡ vec_capacity entries.old) × (vec_len entries.new ≤ vec_len entries.old + 1) }
+    ensures room { (vec_capacity entries.new ≡ vec_capacity entries.old)
+        × (vec_len entries.new ≤ vec_len entries.old + 1) }
 {
     match place_of(entries.as_slice(), entry.id) {
         Some(place) => entries[place] = entry,

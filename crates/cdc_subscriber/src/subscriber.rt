@@ -5,7 +5,7 @@ ghost use Rattle.std.specs.Io.KnownBytes.{Appends};
 ghost use Rattle.cdc_message.specs.Reading.{read};
 ghost use Rattle.cdc_subscriber.specs.Lines.{subscriber_text};
 ghost use Rattle.cdc_subscriber.specs.Heard.{Heard, nothing, next, next_read, kept_of};
-ghost use Rattle.cdc_subscriber.specs.Answers.{answer_to, event_answer, settled_answer, GivesUnlessMemory, TakesBody, TakesItem};
+ghost use Rattle.cdc_subscriber.specs.Answers.{answer_to, event_answer, settled_answer, GivesOrLacksMemory, TakesBody, TakesItem};
 
 use crate::book::Book;
 use crate::errors::TakeError;
@@ -30,9 +30,9 @@ pub enum Taking {
     AfterClose,
 }
 
-/// A subscriber. It hears events in any order, any number of times, and applies those that are later than all before; it
-/// keeps the book of what it has applied. Once it has heard the end, or is closed, it changes no more.
-/// A clause sees what its readers give. That is what it keeps of all that it has heard: `kept_of` of that list.
+/// A subscriber. It hears events in any order, any number of times, and applies those that are later than all before;
+/// it keeps the book of what it has applied. Once it has heard the end, or is closed, it applies no more. A clause sees
+/// what its readers give: for whatever list of items it heard, that is `kept_of` of this list.
 #[derive(Drop)]
 pub struct Subscriber {
     book: Book,
@@ -83,8 +83,8 @@ impl Subscriber {
         }
     }
 
-    /// Takes the bytes of a body. A subscriber that is closed, or has heard the end, doesn't read them; else bytes that are
-    /// no event are an error.
+    /// Takes the bytes of a body. A subscriber that is closed, or has heard the end, doesn't read them; else bytes that
+    /// are no event are an error.
     pub fn take_body(&mut self, alloc: Global, body: &[u8]) -> Result<Taking, TakeError>
         ensures answer { TakesBody self.old (read body.now) result }
         ensures stands { (heard : Heard) → self.old ≡ kept_of heard
@@ -181,7 +181,7 @@ impl Subscriber {
     /// Hears an event, and applies it where it is later than the last one applied.
     fn hear(&mut self, event: &Event) -> Result<Taking, TakeError>
         requires { settled_answer self.old ≡ None }
-        ensures answer { GivesUnlessMemory true (Ok (event_answer self.old.last event.now)) result }
+        ensures answer { GivesOrLacksMemory true (Ok (event_answer self.old.last event.now)) result }
         ensures stands { (heard : Heard) → self.old ≡ kept_of heard
             → OnOk result (self.new ≡ kept_of (next heard (Item.Event event.now))) }
         ensures err { OnErr result (self.new ≡ self.old) }

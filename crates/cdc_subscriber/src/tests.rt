@@ -136,16 +136,14 @@ fn bodies_ends_and_closes(rt: HostRuntime) -> Result<(), Fail> {
 
 const MANY: u64 = 10_000;
 
-const ACCOUNTS: u64 = 1_000;
-
 #[test]
 fn many_deliveries(rt: HostRuntime) -> Result<(), Fail> {
     let mut subscriber = Subscriber::new(rt.alloc());
     let mut event = decode(rt.alloc(), FIRST.as_bytes())?;
     for position in 1..MANY + 1 {
         event.timestamp = position;
-        event.debit_account.id = u128::from(position % ACCOUNTS);
-        event.credit_account.id = u128::from(position % ACCOUNTS) + 1;
+        event.debit_account.id = u128::from(position);
+        event.credit_account.id = u128::from(position) + 1;
         let item = Item::Event(Message::of(rt.alloc(), &event)?);
         let delivery = Delivery { position, item };
         assert_eq!(rt; subscriber.take(rt.alloc(), &delivery), Ok(Taking::Applied));
@@ -167,16 +165,16 @@ fn many_deliveries(rt: HostRuntime) -> Result<(), Fail> {
         credits_pending: 0,
         credits_posted: 100,
     };
-    assert_eq!(rt; book.len(), 1_001);
+    assert_eq!(rt; book.len(), 10_001);
     assert!(rt; !book.is_empty());
-    assert_eq!(rt; (book.get(1_000), book.get(1_001)), (Some(last), None));
+    assert_eq!(rt; (book.get(10_001), book.get(10_002)), (Some(last), None));
     assert_eq!(rt;
-        (book.at_place(999), book.at_place(1_001)),
-        (Some((1_000, last)), None)
+        (book.at_place(10_000), book.at_place(10_001)),
+        (Some((10_001, last)), None)
     );
     let mut printed = Vec::new(rt.alloc());
     subscriber.print(&mut printed, 1)?;
-    assert!(rt; printed.as_slice().ends_with(b"account 0 0 100 0 0\n"));
+    assert!(rt; printed.as_slice().ends_with(b"account 10001 0 0 0 100\n"));
     Ok(())
 }
 

@@ -8,7 +8,8 @@ loop-entry-init g c = Appends-nil _
 
 pub loop-entry-preserved : goal.loop-entry-preserved
 loop-entry-preserved g c =
-    lines_more _ _ _ c.args.entries.now c.loop-entry.entry-index c.loop-entry-test.true c.loop-entry.invariant c.in_ok-write_account.ensures
+    lines_more _ _ _ c.args.entries.now c.loop-entry.entry-index c.loop-entry-test.true c.loop-entry.invariant
+    c.in_ok-write_account.ensures
 
 pub returns : goal.returns
 returns g c =

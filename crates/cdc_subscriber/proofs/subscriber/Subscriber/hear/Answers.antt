@@ -1,22 +1,24 @@
-use Rattle.std.proofs.Common.{◌≡◌, ◌+◌, ◌-◌, ◌^◌, ◌<◌, ◌≤◌, ◌∷◌, ◌++◌, [], min, ap, arith, sym, ◌∙◌}
+use Rattle.std.proofs.Common.{◌≡◌, ◌<◌, ◌≤◌, ◌∷◌, ◌++◌, [], ap, arith, sym, ◌∙◌}
 use Rattle.cdc_subscriber.specs.Book.{book_of}
 use Rattle.cdc_subscriber.specs.Heard.{applied_of, kept_of}
 use Rattle.cdc_subscriber.specs.Kept.{Kept}
-use Rattle.cdc_subscriber.proofs.HeardLemmas.{Listens-unsettled, kept_of-applied, kept_of-repeat}
+use Rattle.cdc_subscriber.proofs.HeardLemmas.{Listens-unsettled, kept_more, kept_of-applied, kept_of-repeat}
 use Rattle.cdc_subscriber.proofs.subscriber.Subscriber.hear.Goals as goal
 
 pub returns-then-event-self-clause-stands : goal.returns-then-event-self-clause-stands
 returns-then-event-self-clause-stands c heard is =
     let listens = Listens-unsettled (kept_of heard) (rw is at c.requires) in
-    let late : c.args.event.now.timestamp ≤ (kept_of heard).last = omega (arith, ap (λ (k : Kept). k.last) (c.self.view_is ∙ is)) in
+    let late : c.args.event.now.timestamp ≤ (kept_of heard).last =
+    omega (arith, ap (λ (k : Kept). k.last) (c.self.view_is ∙ is)) in
     is ∙ sym (kept_of-repeat heard c.args.event.now listens late)
 
 pub returns-clause-stands : goal.returns-clause-stands
 returns-clause-stands c heard is =
+    let was = c.self.view_is ∙ is in
     let listens = Listens-unsettled (kept_of heard) (rw is at c.requires) in
-    let later : (kept_of heard).last < c.args.event.now.timestamp = omega (arith, ap (λ (k : Kept). k.last) (c.self.view_is ∙ is)) in
+    let later : (kept_of heard).last < c.args.event.now.timestamp = omega (arith, ap (λ (k : Kept). k.last) was) in
     let held : c.apply.new.self ≡ book_of (applied_of heard ++ c.args.event.now ∷ []) =
-    c.in_ok-apply.ensures.ok (applied_of heard) (ap (λ (k : Kept). k.book) (c.self.view_is ∙ is)) in
+    c.in_ok-apply.ensures.ok (applied_of heard) (ap (λ (k : Kept). k.book) was) in
     rw c.saturating_add-self-inside.ensures
-    (ap (λ (k : Kept). record k { book = c.apply.new.self; last = c.args.event.now.timestamp; applied = min (k.applied + 1) (2 ^ 64 - 1) }) (c.self.view_is ∙ is)
+    (ap (λ (k : Kept). kept_more k c.args.event.now c.apply.new.self) was
     ∙ sym (kept_of-applied heard c.args.event.now c.apply.new.self listens later held))
