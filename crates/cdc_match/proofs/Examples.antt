@@ -19,7 +19,8 @@ under_any pairs = record { mode = Any; pairs = pairs }
 -- ---- words
 
 -- leading zeros are allowed, and a key may stand twice
-two_ledgers : arguments_of (codes "any" ∷ codes "ledger=0700" ∷ codes "ledger=1" ∷ []) ≡ Ok (under_any (Ledger 700 ∷ Ledger 1 ∷ []))
+two_ledgers : arguments_of (codes "any" ∷ codes "ledger=0700" ∷ codes "ledger=1" ∷ [])
+    ≡ Ok (under_any (Ledger 700 ∷ Ledger 1 ∷ []))
 two_ledgers = refl
 
 -- a mode is wanted first

@@ -6,24 +6,29 @@ use Rattle.cdc_message.specs.Replays.{HaveSame, IsReplay}
 
 -- ---- the elements of a filtered list
 
+-- an element of a filtered list passes the test, and was in the list
 filtered_passes : {X : Type 0} (p : X → Bool) (xs : List X) (x : X) → Contains (filter p xs) x → p x ≡ true
 filtered_passes p xs x h = All-contains (λ y. p y ≡ true) (filter p xs) x (filter_passes p xs) h
 
 filtered_was_there : {X : Type 0} (p : X → Bool) (xs : List X) (x : X) → Contains (filter p xs) x → Contains xs x
-filtered_was_there p xs x h = All-contains (Contains xs) (filter p xs) x (All-filter p (Contains xs) xs (All-contains_itself xs)) h
+filtered_was_there p xs x h =
+    All-contains (Contains xs) (filter p xs) x (All-filter p (Contains xs) xs (All-contains_itself xs)) h
 
 -- an element of the rest of a list, whether or not the first one is kept
-kept_after : {X : Type 0} (first : X) (rest : List X) (x : X) (b : Bool) → Contains rest x → Contains (cond b (first ∷ rest) rest) x
+kept_after : {X : Type 0} (first : X) (rest : List X) (x : X) (b : Bool) → Contains rest x
+    → Contains (cond b (first ∷ rest) rest) x
 kept_after first rest x true h = Contains-append_right (first ∷ []) rest x h
 kept_after first rest x false h = h
 
 -- the first element, which is kept
-kept_first : {X : Type 0} (p : X → Bool) (first x : X) (rest : List X) → first ≡ x → p x ≡ true → Contains (cond (p first) (first ∷ rest) rest) x
+kept_first : {X : Type 0} (p : X → Bool) (first x : X) (rest : List X) → first ≡ x → p x ≡ true
+    → Contains (cond (p first) (first ∷ rest) rest) x
 kept_first p first x rest is passes = rw (is, passes) (Contains-append_left (x ∷ []) rest x (Contains-push [] x))
 
 none_there : {X : Type 0} (x : X) → Contains [] x → ⊥
 none_there x h = omega (arith, h.1)
 
+-- an element that passes the test stays
 stays : {X : Type 0} (p : X → Bool) (xs : List X) (x : X) → Contains xs x → p x ≡ true → Contains (filter p xs) x
 stays p [] x h passes = h
 stays p (y ∷ ys) x h passes =
@@ -52,7 +57,8 @@ record Begins {X : Type 0} (p : X → Bool) (xs kept : List X) : Type 0 where
 -- one more element before the beginning, kept or not
 begins_with : {X : Type 0} (p : X → Bool) (x : X) (xs : List X) (n : ℕ) (b : Bool) → Begins p xs (take n (filter p xs))
     → Begins p xs (take (suc n) (filter p xs))
-    → (k : ℕ) × (take (suc n) (cond b (x ∷ filter p xs) (filter p xs)) ≡ cond b (x ∷ filter p (take k xs)) (filter p (take k xs)))
+    → (k : ℕ)
+    × (take (suc n) (cond b (x ∷ filter p xs) (filter p xs)) ≡ cond b (x ∷ filter p (take k xs)) (filter p (take k xs)))
 begins_with p x xs n true kept passed = (kept.length, ap (λ ys. x ∷ ys) kept.is)
 begins_with p x xs n false kept passed = (passed.length, passed.is)
 
@@ -69,6 +75,7 @@ record IsBeginning {X : Type 0} (p : X → Bool) (xs kept : List X) : Type 0 whe
   length : ℕ
   is : kept ≡ take length (filter p xs)
 
+-- the same with one more element before it, kept or not
 filtered_with : {X : Type 0} (p : X → Bool) (x : X) (xs kept : List X) (b : Bool) → IsBeginning p xs kept
     → (k : ℕ) × (cond b (x ∷ kept) kept ≡ take k (cond b (x ∷ filter p xs) (filter p xs)))
 filtered_with p x xs kept true h = (suc h.length, ap (λ ys. x ∷ ys) h.is)

@@ -15,10 +15,13 @@ record Reached {A B : Type 0} (first : Read A) (then : A → Read B) (value : B)
   first_is : first ≡ Ok from
   then_is : then from ≡ Ok value
 
-reached : {A B : Type 0} (first : Read A) (then : A → Read B) (value : B) → (first >>= then) ≡ Ok value → Reached first then value
+-- both steps of an answer without a fault
+reached : {A B : Type 0} (first : Read A) (then : A → Read B) (value : B) → (first >>= then) ≡ Ok value
+    → Reached first then value
 reached (Ok from) then value h = record { from = from; first_is = refl; then_is = h }
 reached (Err error) then value h = absurd (cc)
 
+-- equal answers without a fault hold equal values
 ok_inside : {A : Type 0} (a b : A) → let left : Read A = Ok a in left ≡ Ok b → a ≡ b
 ok_inside a b h = cc
 
@@ -33,8 +36,8 @@ each_more read (w ∷ words) found word value h is =
     (ap (λ f. Ok (f ++ value ∷ [])) (ok_inside (front.from ∷ rest.from) found rest.then_is))
 
 -- the first fault
-each_fault : {A B : Type 0} (read : A → Read B) (words : List A) (found : List B) (word : A) (error : BindError) (others : List A)
-    → each read words ≡ Ok found → read word ≡ Err error → each read (words ++ word ∷ others) ≡ Err error
+each_fault : {A B : Type 0} (read : A → Read B) (words : List A) (found : List B) (word : A) (error : BindError)
+    (others : List A) → each read words ≡ Ok found → read word ≡ Err error → each read (words ++ word ∷ others) ≡ Err error
 each_fault read [] found word error others h is = rw is
 each_fault read (w ∷ words) found word error others h is =
     let front = reached (read w) _ found h in
@@ -47,7 +50,8 @@ each_fault read (w ∷ words) found word error others h is =
 pub pairs_more : (words : List (List ℕ)) (i : ℕ) (found : List Pair) (pair : Pair) → i < length words
     → each pair_of (take i words) ≡ Ok found → pair_of (get_or words i []) ≡ Ok pair
     → each pair_of (take (i + 1) words) ≡ Ok (found ++ pair ∷ [])
-pairs_more words i found pair below h is = rw (take_more words i [] below) (each_more pair_of (take i words) found (get_or words i []) pair h is)
+pairs_more words i found pair below h is =
+    rw (take_more words i [] below) (each_more pair_of (take i words) found (get_or words i []) pair h is)
 
 -- the words up to the tenth, parted at word i
 around : (words : List (List ℕ)) (i : ℕ) → i < length words → i < most_pairs
@@ -59,11 +63,13 @@ around words i below few =
     ∙ rw (take-take i most_pairs words le, get_or-take most_pairs words i [] few) refl
 
 -- the next word is at fault
-pub pairs_fault : (words : List (List ℕ)) (i : ℕ) (found : List Pair) (error : BindError) → i < length words → i < most_pairs
+pub pairs_fault : (words : List (List ℕ)) (i : ℕ) (found : List Pair) (error : BindError) → i < length words
+    → i < most_pairs
     → each pair_of (take i words) ≡ Ok found → pair_of (get_or words i []) ≡ Err error → pairs_of words ≡ Err error
 pairs_fault words i found error below few h is =
     rw (around words i below few, each_fault pair_of (take i words) found (get_or words i []) error _ h is)
 
+-- a length that isn't allowed
 more_than_most : (n : ℕ) → most_pairs < n → leb n most_pairs ≡ false
 more_than_most n h = grind arith
 
@@ -79,7 +85,8 @@ pub pairs_all : (words : List (List ℕ)) (i : ℕ) (found : List Pair) → i �
     → each pair_of (take i words) ≡ Ok found → pairs_of words ≡ Ok found
 pairs_all words i found end few h =
     let short : length words ≤ most_pairs = omega arith in
-    let all : take most_pairs words ≡ take i words = take_all most_pairs words short ∙ sym (take_all i words (omega arith)) in
+    let all : take most_pairs words ≡ take i words =
+    take_all most_pairs words short ∙ sym (take_all i words (omega arith)) in
     rw (all, h, le-leb (length words) most_pairs short)
 
 -- where pairs were found, the words begin with one
@@ -91,24 +98,33 @@ pairs_begin (word ∷ words) i found below h =
     let first = reached (pair_of word) _ found (rw step at h) in
     rw first.first_is refl
 
--- ---- reading takes no memory
+-- ---- reading a word takes no memory
 
 -- this doesn't say that memory ran out
-abbrev Remembers : {A : Type 0} → Read A → Type 0
-Remembers answer = answer ≡ Err OutOfMemory → ⊥
+abbrev SparesMemory : {A : Type 0} → Read A → Type 0
+SparesMemory answer = answer ≡ Err OutOfMemory → ⊥
 
-remembers_ok_or : {A : Type 0} (value : Option A) (error : BindError) → (error ≡ OutOfMemory → ⊥) → Remembers (ok_or value error)
-remembers_ok_or None error other h = other (cc)
-remembers_ok_or (Some value) error other h = absurd (cc)
+-- a value that has to be there
+spares-ok_or : {A : Type 0} (value : Option A) (error : BindError) → (error ≡ OutOfMemory → ⊥)
+    → SparesMemory (ok_or value error)
+spares-ok_or None error other h = other (cc)
+spares-ok_or (Some value) error other h = absurd (cc)
 
-remembers_then : {A B : Type 0} (first : Read A) (then : A → Read B) → Remembers first → ((value : A) → Remembers (then value))
-    → Remembers (first >>= then)
-remembers_then (Ok value) then one two h = two value h
-remembers_then (Err error) then one two h = one (cc)
+-- one step and then another
+spares-then : {A B : Type 0} (first : Read A) (then : A → Read B) → SparesMemory first
+    → ((value : A) → SparesMemory (then value)) → SparesMemory (first >>= then)
+spares-then (Ok value) then one two h = two value h
+spares-then (Err error) then one two h = one (cc)
+
+spares-key : {A : Type 0} (value : Option A) → SparesMemory (ok_or value UnknownKey)
+spares-key value = spares-ok_or value UnknownKey (λ h. absurd (cc))
+
+spares-value : {A : Type 0} (value : Option A) → SparesMemory (ok_or value BadValue)
+spares-value value = spares-ok_or value BadValue (λ h. absurd (cc))
 
 -- a word's fault is never want of memory
-pub pair_remembers : (word : List ℕ) → Remembers (pair_of word)
-pair_remembers word =
-    remembers_then (ok_or (parted 61 word) UnknownKey) _ (remembers_ok_or (parted 61 word) UnknownKey (λ h. absurd (cc)))
-    (λ parts. remembers_then (ok_or (key_named parts.0) UnknownKey) _ (remembers_ok_or (key_named parts.0) UnknownKey (λ h. absurd (cc)))
-    (λ key. remembers_ok_or (pair_with key parts.1) BadValue (λ h. absurd (cc))))
+pub spares-pair_of : (word : List ℕ) → SparesMemory (pair_of word)
+spares-pair_of word =
+    spares-then (ok_or (parted 61 word) UnknownKey) _ (spares-key (parted 61 word))
+    (λ parts. spares-then (ok_or (key_named parts.0) UnknownKey) _ (spares-key (key_named parts.0))
+    (λ key. spares-value (pair_with key parts.1)))

@@ -13,8 +13,11 @@ one_more : (event : Event) (items : List Item) (events : List Event) (b : Bool) 
 one_more event items events true h = ap (λ es. event ∷ es) h
 one_more event items events false h = h
 
-pub events_of-queue : (items : List Item) (binding : Arguments) → events_of (queue items binding) ≡ feed (events_of items) binding
+-- the events of a queue are those events that the binding takes
+pub events_of-queue : (items : List Item) (binding : Arguments)
+    → events_of (queue items binding) ≡ feed (events_of items) binding
 events_of-queue [] binding = refl
 events_of-queue (OfEvent event ∷ items) binding =
-    one_more event (queue items binding) (feed (events_of items) binding) (takes_event binding event) (events_of-queue items binding)
+    one_more event (queue items binding) (feed (events_of items) binding) (takes_event binding event)
+    (events_of-queue items binding)
 events_of-queue (EndMark ∷ items) binding = events_of-queue items binding

@@ -9,4 +9,5 @@ use Rattle.cdc_match.specs.Parsing.{Read}
 
 -- the answer is the pairs that were read, or their fault, or memory ran out
 abbrev pub FindsPairsUnlessMemory : Result (Vec Pair Global) BindError → Read (List Pair) → Type 0
-FindsPairsUnlessMemory answer expected = MatchResult answer (λ pairs. expected ≡ Ok pairs.items) (λ error. (expected ≡ Err error) ⊎ (error ≡ OutOfMemory))
+FindsPairsUnlessMemory answer expected =
+    MatchResult answer (λ pairs. expected ≡ Ok pairs.items) (λ error. (expected ≡ Err error) ⊎ (error ≡ OutOfMemory))

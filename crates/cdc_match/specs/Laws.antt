@@ -12,4 +12,5 @@ QueuesReplay = (w f : List Item) (binding : Arguments) → IsReplay w f → IsRe
 
 -- the events of a queue are those events of the whole list that the binding takes
 abbrev pub QueuesHoldFeeds : Type 0
-QueuesHoldFeeds = (items : List Item) (binding : Arguments) → events_of (queue items binding) ≡ feed (events_of items) binding
+QueuesHoldFeeds = (items : List Item) (binding : Arguments)
+    → events_of (queue items binding) ≡ feed (events_of items) binding

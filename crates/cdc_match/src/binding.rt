@@ -49,8 +49,8 @@ fn pairs_of(alloc: Global, words: &[&str]) -> Result<Vec<Pair>, BindError>
 }
 
 impl Binding {
-    /// The binding that words say: `all` or `any`, and then up to ten words `key=value`, each parted at its first equals
-    /// sign. The keys are `event_type`, whose value is the text of a kind of event, `ledger`, whose value is a decimal
+    /// The binding that words say: `all` or `any`, and then up to ten words `key=value`, each parted at its first
+    /// equals sign. The keys are `event_type`, whose value is the text of a kind of event, `ledger`, whose value is a decimal
     /// number up to 4294967295, and `transfer_code`, `debit_account_code` and `credit_account_code`, whose values are
     /// decimal numbers up to 65535. A key may stand twice.
     ///

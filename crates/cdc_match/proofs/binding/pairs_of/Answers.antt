@@ -4,7 +4,7 @@ use Rattle.std.proofs.lemmas.Result.{err_from_is_err_and}
 use Rattle.cdc_match.specs.declared.errors.BindError.{BindError}
 use Rattle.cdc_match.specs.declared.pairs.Pair.{Pair}
 use Rattle.cdc_match.specs.Parsing.{Read, most_pairs, pair_of}
-use Rattle.cdc_match.proofs.PairLemmas.{pairs_more, pairs_fault, pairs_begin, pair_remembers}
+use Rattle.cdc_match.proofs.PairLemmas.{pairs_more, pairs_fault, pairs_begin, spares-pair_of}
 use Rattle.cdc_match.proofs.binding.pairs_of.Goals as goal
 
 -- the texts of the words
@@ -16,6 +16,7 @@ pair_at : (words : List (Bor (List ℕ))) (i : ℕ) (other : Bor (List ℕ)) (an
     → answer ≡ pair_of (get_or words i other).now → pair_of (get_or (texts words) i []) ≡ answer
 pair_at words i other answer below h = ap pair_of (get_or-map (λ word. word.now) words i other [] below) ∙ sym h
 
+-- the texts are as many as the words
 within : (words : List (Bor (List ℕ))) (i : ℕ) → i < length words → i < length (texts words)
 within words i below = rw (length-map words (λ word. word.now)) below
 
@@ -27,31 +28,38 @@ pub returns-in_err-pair-clause-pairs : goal.returns-in_err-pair-clause-pairs
 returns-in_err-pair-clause-pairs c =
     let p = err_from_is_err_and c.from_residual.result c.from_residual.ensures.1 in
     let below = c.loop-word-test.true in
-    let few : c.loop-word.word-index < most_pairs = omega (arith, c.loop-word.invariant.few, c.loop-word.invariant.counted, c.len.ensures, c.if-len-eq-MOST_PAIRS.false) in
-    rw (p.1, p.2) (inl (pairs_fault (texts c.args.words.now) c.loop-word.word-index c.loop-word.pairs.items _ (within _ _ below) few
-    c.loop-word.invariant.found (pair_at c.args.words.now c.loop-word.word-index _ _ below c.in_err-pair.ensures)))
+    let before = c.loop-word.invariant in
+    let few : c.loop-word.word-index < most_pairs =
+    omega (arith, before.few, before.counted, c.len.ensures, c.if-len-eq-MOST_PAIRS.false) in
+    let fault = pair_at c.args.words.now c.loop-word.word-index _ _ below c.in_err-pair.ensures in
+    rw (p.1, p.2) (inl (pairs_fault (texts c.args.words.now) c.loop-word.word-index c.loop-word.pairs.items _
+    (within _ _ below) few before.found fault))
 
 pub returns-in_err-pair-clause-memory : goal.returns-in_err-pair-clause-memory
 returns-in_err-pair-clause-memory c h =
     let p = err_from_is_err_and c.from_residual.result c.from_residual.ensures.1 in
     let memory = one_fault c.from_residual.result _ _ p.1 h in
     let fault = pair_at c.args.words.now c.loop-word.word-index _ _ c.loop-word-test.true c.in_err-pair.ensures in
-    absurd (pair_remembers (get_or (texts c.args.words.now) c.loop-word.word-index []) (fault ∙ ap (λ e. Err e) (sym p.2 ∙ memory)))
+    absurd (spares-pair_of (get_or (texts c.args.words.now) c.loop-word.word-index [])
+    (fault ∙ ap (λ e. Err e) (sym p.2 ∙ memory)))
 
 pub returns-in_err-push-clause-memory : goal.returns-in_err-push-clause-memory
 returns-in_err-push-clause-memory c h =
     let below = c.loop-word-test.true in
+    let pair = pair_at c.args.words.now c.loop-word.word-index _ _ below c.in_ok-pair.ensures in
     pairs_begin (texts c.args.words.now) c.loop-word.word-index _ (within _ _ below)
-    (pairs_more (texts c.args.words.now) c.loop-word.word-index c.loop-word.pairs.items c.in_ok-pair.pair (within _ _ below)
-    c.loop-word.invariant.found (pair_at c.args.words.now c.loop-word.word-index _ _ below c.in_ok-pair.ensures))
+    (pairs_more (texts c.args.words.now) c.loop-word.word-index c.loop-word.pairs.items c.in_ok-pair.pair
+    (within _ _ below) c.loop-word.invariant.found pair)
 
 pub loop-word-preserved : goal.loop-word-preserved
 loop-word-preserved c =
     let below = c.loop-word-test.true in
+    let before = c.loop-word.invariant in
+    let pair = pair_at c.args.words.now c.loop-word.word-index _ _ below c.in_ok-pair.ensures in
     record {
       found = rw c.in_ok-push.ensures.items
-          (pairs_more (texts c.args.words.now) c.loop-word.word-index c.loop-word.pairs.items c.in_ok-pair.pair (within _ _ below)
-          c.loop-word.invariant.found (pair_at c.args.words.now c.loop-word.word-index _ _ below c.in_ok-pair.ensures));
-      counted = grind (arith, c.in_ok-push.ensures.items, c.loop-word.invariant.counted);
-      few = omega (arith, c.loop-word.invariant.few, c.loop-word.invariant.counted, c.len.ensures, c.if-len-eq-MOST_PAIRS.false);
+          (pairs_more (texts c.args.words.now) c.loop-word.word-index c.loop-word.pairs.items c.in_ok-pair.pair
+          (within _ _ below) before.found pair);
+      counted = grind (arith, c.in_ok-push.ensures.items, before.counted);
+      few = omega (arith, before.few, before.counted, c.len.ensures, c.if-len-eq-MOST_PAIRS.false);
     }

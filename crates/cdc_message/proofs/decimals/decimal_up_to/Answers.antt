@@ -9,7 +9,8 @@ pub returns-in-Err : goal.returns-in-Err
 returns-in-Err c =
     let text = c.args.text.now in
     let is = sym c.if-not-is_decimal.ensures in
-    let refused = OkIff-at_err _ _ _ _ (parse_digits own_digits 128 text c.parse.result c.parse.ensures.value.0 (decimal_digits text is)) c.in-Err.is in
+    let parsed = parse_digits own_digits 128 text c.parse.result c.parse.ensures.value.0 (decimal_digits text is) in
+    let refused = OkIff-at_err _ _ _ _ parsed c.in-Err.is in
     sym (decimal_large c.args.greatest text is (λ fits.
     let small : digits_value 10 text < 2 ^ 128 = omega (arith, fits, c.ranges.greatest.fits) in
     refused (decimal_some text is, small)))
