@@ -14,7 +14,6 @@ broker_of connection expected queues = record { connection = connection; expecte
 
 module _ (connection : ℕ) (expected : Option ℕ) (queues : List Queue) (i : ℕ) (q : Queue)
     (inside : i - 1 < length queues) (found : q ≡ get_or queues (i - 1) q) where
-
   -- the queue of a number is the one at its place
   pub queue_of-broker_of : queue_of (broker_of connection expected queues) i ≡ queue_state q
   queue_of-broker_of =

@@ -4,5 +4,7 @@
 
 mod broker;
 mod queue;
+#[cfg(test)]
+mod tests;
 
 pub use broker::{Broker, Refusal, Taken};

@@ -50,11 +50,7 @@ impl Queue {
     }
 
     /// A copy of the item, and room for it, where it belongs to the queue.
-    pub(crate) fn prepare(
-        &mut self,
-        alloc: Global,
-        item: &Item,
-    ) -> Result<Option<Item>, AllocError>
+    pub(crate) fn prepare(&mut self, alloc: Global, item: &Item) -> Result<Option<Item>, AllocError>
         requires { IsInOrder self.old }
         ensures state { queue_state self.new ≡ queue_state self.old }
         ensures in_order { IsInOrder self.new }
