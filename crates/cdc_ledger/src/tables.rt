@@ -303,13 +303,13 @@ impl Tables {
     }
 
     /// Why a batch of this many items at this moment is refused, if it is.
-    fn batch_refusal(&self, now: u64, items: usize) -> Option<BatchError>
+    fn batch_refusal(&self, too_large: bool, now: u64, items: usize) -> Option<BatchError>
         requires { self.now.last ≤ max_timestamp }
-        ensures { result ≡ refusal_at (history_of self.now) now items }
+        ensures { result ≡ refusal_at (history_of self.now) too_large now items }
     {
         if self.closed {
             Some(BatchError::LedgerClosed)
-        } else if items > Limits::BATCH_ITEMS {
+        } else if too_large {
             Some(BatchError::BatchTooLarge)
         } else if items > 0 && self.base(now).saturating_add(items as u64 - 1) > Limits::TIMESTAMP {
             Some(BatchError::TimestampsExhausted)
@@ -401,7 +401,7 @@ impl Tables {
             (Batch.Accounts now requests.now) result (history_of self.new) }
         ensures kept { IsKept self.new }
     {
-        if let Some(refusal) = self.batch_refusal(now, requests.len()) {
+        if let Some(refusal) = self.batch_refusal(requests.len() > Limits::BATCH_ITEMS, now, requests.len()) {
             return Err(refusal);
         }
         let results = Vec::with_capacity(alloc, requests.len())?;
@@ -422,24 +422,51 @@ impl Tables {
             (Batch.Transfers now requests.now) result (history_of self.new) }
         ensures kept { IsKept self.new }
     {
-        if let Some(refusal) = self.batch_refusal(now, requests.len()) {
+        if let Some(refusal) = self.batch_refusal(requests.len() > Limits::BATCH_ITEMS, now, requests.len()) {
             return Err(refusal);
         }
         let results = Vec::with_capacity(alloc, requests.len())?;
         self.reserve_entries(requests.len())?;
+        self.index.reserve(requests.len())?;
         let base = self.base(now);
         Ok(self.take_transfers(base, requests, results))
     }
 
-    /// Brings the pending transfers whose time is up to their end. There are none today.
-    pub(crate) fn pulse(&self, now: u64) -> Result<u64, BatchError>
-        requires { IsKept self.now }
-        ensures { let h = history_of self.now in Answers BatchResults.Pulsed h (Batch.Pulse now) result h }
+    /// Brings the pending transfer whose entry stands at this place, and which is due, to its end.
+    fn expire(&mut self, place: usize, timestamp: u64)
     {
-        match self.batch_refusal(now, 0) {
-            Some(refusal) => Err(refusal),
-            None => Ok(0),
+        let pending = self.entries[place].transfer;
+        let entry = Entry {
+            timestamp,
+            kind: EventKind::TwoPhaseExpired,
+            transfer: pending,
+        };
+        let movement = self.settling(entry, pending);
+        self.record(&movement);
+    }
+
+    /// Brings this many pending transfers to their end, those whose time is up at the moment `now`, from the moment
+    /// `base` on. There is room for all of their entries.
+    fn expire_all(&mut self, now: u64, base: u64, count: usize)
+    {
+        for place in 0..count {
+            if let Some(first) = self.index.due(now) {
+                self.expire(first.slot, base + place as u64);
+            }
         }
+    }
+
+    /// Brings the pending transfers whose time is up at the moment `now` to their end, and answers how many they were.
+    pub(crate) fn pulse(&mut self, now: u64) -> Result<u64, BatchError>
+    {
+        let count = self.index.due_count(now);
+        if let Some(refusal) = self.batch_refusal(false, now, count) {
+            return Err(refusal);
+        }
+        self.reserve_entries(count)?;
+        let base = self.base(now);
+        self.expire_all(now, base, count);
+        Ok(count as u64)
     }
 
     /// Takes no more batches.
