@@ -16,5 +16,6 @@ pub mod Accounts
 pub mod Effects
 pub mod Entries
 pub mod Follows
+pub mod Parts
 pub mod Sound
 pub mod Tables

@@ -33,11 +33,27 @@ impl Movement {
         let amount = self.entry.transfer.amount;
         let released = self.settled.map_or(0, |pending| pending.amount);
         match self.entry.kind {
-            EventKind::SinglePhase => Effect { released: 0, held: 0, moved: amount },
-            EventKind::TwoPhasePending => Effect { released: 0, held: amount, moved: 0 },
-            EventKind::TwoPhasePosted => Effect { released, held: 0, moved: amount },
+            EventKind::SinglePhase => Effect {
+                released: 0,
+                held: 0,
+                moved: amount,
+            },
+            EventKind::TwoPhasePending => Effect {
+                released: 0,
+                held: amount,
+                moved: 0,
+            },
+            EventKind::TwoPhasePosted => Effect {
+                released,
+                held: 0,
+                moved: amount,
+            },
             EventKind::TwoPhaseVoided | EventKind::TwoPhaseExpired => {
-                Effect { released, held: 0, moved: 0 }
+                Effect {
+                    released,
+                    held: 0,
+                    moved: 0,
+                }
             }
         }
     }

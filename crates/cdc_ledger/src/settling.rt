@@ -1,9 +1,10 @@
 //! What refuses a post or a void of a pending transfer.
 
-ghost use Rattle.std.specs.Prelude.{◌≡◌, ◌<◌, ◌^◌};
+ghost use Rattle.std.specs.Prelude.{◌≡◌, ◌≢◌, ◌==◌, ◌&&◌, not, nat_le, ◌<◌, ◌^◌};
 ghost use Rattle.cdc_types.specs.Lines.{first_line};
 ghost use Rattle.cdc_ledger.specs.Kinds as kinds;
 ghost use Rattle.cdc_ledger.specs.Filling as filling;
+ghost use Rattle.cdc_ledger.specs.Parts.{field_lines, end_lines};
 ghost use Rattle.cdc_ledger.specs.Verdict as lines;
 
 use crate::transfers::{expires_at, settled_amount};
@@ -18,6 +19,7 @@ fn is_other(given: u128, own: u128) -> bool
 
 /// The first refusal that the fields of a post or a void call for, against those of the transfer that it names.
 pub(crate) fn field_refusal(entry: &Entry, request: &NewTransfer) -> Option<TransferResult>
+    ensures { result ≡ first_line (field_lines entry.now request.now) }
 {
     let pending = &entry.transfer;
     let amount = settled_amount(request, pending);
@@ -63,6 +65,8 @@ fn expires(entry: &Entry, pending: &Transfer) -> bool
 
 /// Whether the pending transfer has a timeout that is up at this moment.
 fn is_up(pending: &Transfer, timestamp: u64) -> bool
+    requires { pending.now.timeout ≢ 0 → filling.expires_at pending.now < 2 ^ 64 }
+    ensures { result ≡ (not (pending.now.timeout == 0) && nat_le (filling.expires_at pending.now) timestamp) }
 {
     pending.timeout != 0 && expires_at(pending) <= timestamp
 }
@@ -74,12 +78,14 @@ pub(crate) fn end_refusal(
     pending: &Transfer,
     timestamp: u64,
 ) -> Option<TransferResult>
+    requires { pending.now.timeout ≢ 0 → filling.expires_at pending.now < 2 ^ 64 }
+    ensures { result ≡ first_line (end_lines entries.now pending.now timestamp) }
 {
     if entries.iter().any(|entry| posts(entry, pending)) {
         Some(TransferResult::PendingTransferAlreadyPosted)
     } else if entries.iter().any(|entry| voids(entry, pending)) {
         Some(TransferResult::PendingTransferAlreadyVoided)
-    } else if is_up(pending, timestamp) || entries.iter().any(|entry| expires(entry, pending)) {
+    } else if entries.iter().any(|entry| expires(entry, pending)) || is_up(pending, timestamp) {
         Some(TransferResult::PendingTransferExpired)
     } else {
         None

@@ -6,7 +6,7 @@ ghost use Rattle.cdc_types.specs.Lines.{first_line};
 ghost use Rattle.cdc_types.specs.Shapes.{max_128};
 ghost use Rattle.cdc_ledger.specs.Accounts.{HasBoundedSums, lines_between, opened_as};
 ghost use Rattle.cdc_ledger.specs.Verdict.{max_timestamp, sum_lines};
-ghost use Rattle.cdc_ledger.specs.Sums.{overflow_lines, timeout_lines, limit_lines};
+ghost use Rattle.cdc_ledger.specs.Parts.{overflow_lines, timeout_lines, limit_lines};
 
 use crate::transfers::{as_asked, expires_at};
 use cdc_types::{Account, AccountFlags, Balances, Limits, NewTransfer, TransferResult};
@@ -19,7 +19,11 @@ fn overflows(sum: u128, amount: u128) -> bool
 }
 
 /// The first sum that doesn't fit 128 bits after a single-phase or a pending transfer.
-fn overflow_refusal(debit: &Balances, credit: &Balances, request: &NewTransfer) -> Option<TransferResult>
+fn overflow_refusal(
+    debit: &Balances,
+    credit: &Balances,
+    request: &NewTransfer,
+) -> Option<TransferResult>
     requires debit { debit.now.debits_pending + debit.now.debits_posted ≤ max_128 }
     requires credit { credit.now.credits_pending + credit.now.credits_posted ≤ max_128 }
     ensures { result ≡ first_line (overflow_lines debit.now credit.now request.now) }

@@ -20,9 +20,7 @@ use crate::errors::BatchError;
 use crate::movements::Movement;
 use crate::settling::{end_refusal, field_refusal};
 use crate::sums::refusal_between;
-use crate::transfers::{
-    as_asked, expires_at, filled_from, find_entry, is_same_transfer, kind_of,
-};
+use crate::transfers::{as_asked, expires_at, filled_from, find_entry, is_same_transfer, kind_of};
 use cdc_expiry::{DueIndex, Triple};
 use cdc_log::EventLog;
 use cdc_types::{
@@ -144,8 +142,7 @@ impl Tables {
     }
 
     /// The transfer that is stored for the request at this moment.
-    fn filled(&self, request: &NewTransfer, timestamp: u64) -> Transfer
-    {
+    fn filled(&self, request: &NewTransfer, timestamp: u64) -> Transfer {
         if request.is_plain() {
             return as_asked(request, timestamp);
         }
@@ -156,8 +153,7 @@ impl Tables {
     }
 
     /// Why a request whose id is another transfer's is refused.
-    fn known_refusal(&self, request: &NewTransfer) -> Option<TransferResult>
-    {
+    fn known_refusal(&self, request: &NewTransfer) -> Option<TransferResult> {
         let entry = self.entry(request.id)?;
         if is_same_transfer(&self.filled(request, entry.timestamp), &entry.transfer) {
             Some(TransferResult::Exists)
@@ -167,8 +163,11 @@ impl Tables {
     }
 
     /// What a request for a single-phase or a pending transfer leads to, or the first line that refuses it.
-    fn judge_plain(&self, request: &NewTransfer, timestamp: u64) -> Result<Movement, TransferResult>
-    {
+    fn judge_plain(
+        &self,
+        request: &NewTransfer,
+        timestamp: u64,
+    ) -> Result<Movement, TransferResult> {
         let accounts = self.accounts.as_slice();
         let Some(debit) = find_place(accounts, request.debit_account_id) else {
             return Err(TransferResult::DebitAccountNotFound);
@@ -176,9 +175,12 @@ impl Tables {
         let Some(credit) = find_place(accounts, request.credit_account_id) else {
             return Err(TransferResult::CreditAccountNotFound);
         };
-        if let Some(refusal) =
-            refusal_between(&accounts[debit], &accounts[credit], request, timestamp)
-        {
+        if let Some(refusal) = refusal_between(
+            &accounts[debit],
+            &accounts[credit],
+            request,
+            timestamp,
+        ) {
             return Err(refusal);
         }
         let entry = Entry {
@@ -186,12 +188,16 @@ impl Tables {
             kind: kind_of(request),
             transfer: as_asked(request, timestamp),
         };
-        Ok(Movement { entry, debit, credit, settled: None })
+        Ok(Movement {
+            entry,
+            debit,
+            credit,
+            settled: None,
+        })
     }
 
     /// The movement of an entry that posts, voids or ends this pending transfer, whose accounts are there.
-    fn settling(&self, entry: Entry, pending: Transfer) -> Movement
-    {
+    fn settling(&self, entry: Entry, pending: Transfer) -> Movement {
         let accounts = self.accounts.as_slice();
         Movement {
             entry,
@@ -202,8 +208,11 @@ impl Tables {
     }
 
     /// What a post or a void leads to, or the first line that refuses it.
-    fn judge_settling(&self, request: &NewTransfer, timestamp: u64) -> Result<Movement, TransferResult>
-    {
+    fn judge_settling(
+        &self,
+        request: &NewTransfer,
+        timestamp: u64,
+    ) -> Result<Movement, TransferResult> {
         let Some(entry) = self.entry(request.pending_id) else {
             return Err(TransferResult::PendingTransferNotFound);
         };
@@ -223,8 +232,7 @@ impl Tables {
     }
 
     /// What a request for a transfer leads to at this moment, or the first line that refuses it.
-    fn judge(&self, request: &NewTransfer, timestamp: u64) -> Result<Movement, TransferResult>
-    {
+    fn judge(&self, request: &NewTransfer, timestamp: u64) -> Result<Movement, TransferResult> {
         if let Some(refusal) = request.check_shape() {
             return Err(refusal);
         }
@@ -239,8 +247,7 @@ impl Tables {
     }
 
     /// Keeps the end that a pending transfer will come to, and forgets that of one that is settled.
-    fn follow_end(&mut self, movement: &Movement)
-    {
+    fn follow_end(&mut self, movement: &Movement) {
         match movement.settled {
             Some(pending) => {
                 if pending.timeout != 0 {
@@ -261,8 +268,7 @@ impl Tables {
     }
 
     /// Takes the movement's entry and tells of it. There is room for it.
-    fn record(&mut self, movement: &Movement)
-    {
+    fn record(&mut self, movement: &Movement) {
         movement.apply(self.accounts.as_mut_slice());
         let event = movement.event(self.accounts.as_slice());
         self.follow_end(movement);
@@ -401,7 +407,11 @@ impl Tables {
             (Batch.Accounts now requests.now) result (history_of self.new) }
         ensures kept { IsKept self.new }
     {
-        if let Some(refusal) = self.batch_refusal(requests.len() > Limits::BATCH_ITEMS, now, requests.len()) {
+        if let Some(refusal) = self.batch_refusal(
+            requests.len() > Limits::BATCH_ITEMS,
+            now,
+            requests.len(),
+        ) {
             return Err(refusal);
         }
         let results = Vec::with_capacity(alloc, requests.len())?;
@@ -422,7 +432,11 @@ impl Tables {
             (Batch.Transfers now requests.now) result (history_of self.new) }
         ensures kept { IsKept self.new }
     {
-        if let Some(refusal) = self.batch_refusal(requests.len() > Limits::BATCH_ITEMS, now, requests.len()) {
+        if let Some(refusal) = self.batch_refusal(
+            requests.len() > Limits::BATCH_ITEMS,
+            now,
+            requests.len(),
+        ) {
             return Err(refusal);
         }
         let results = Vec::with_capacity(alloc, requests.len())?;
@@ -433,8 +447,7 @@ impl Tables {
     }
 
     /// Brings the pending transfer whose entry stands at this place, and which is due, to its end.
-    fn expire(&mut self, place: usize, timestamp: u64)
-    {
+    fn expire(&mut self, place: usize, timestamp: u64) {
         let pending = self.entries[place].transfer;
         let entry = Entry {
             timestamp,
@@ -447,8 +460,7 @@ impl Tables {
 
     /// Brings this many pending transfers to their end, those whose time is up at the moment `now`, from the moment
     /// `base` on. There is room for all of their entries.
-    fn expire_all(&mut self, now: u64, base: u64, count: usize)
-    {
+    fn expire_all(&mut self, now: u64, base: u64, count: usize) {
         for place in 0..count {
             if let Some(first) = self.index.due(now) {
                 self.expire(first.slot, base + place as u64);
@@ -457,8 +469,7 @@ impl Tables {
     }
 
     /// Brings the pending transfers whose time is up at the moment `now` to their end, and answers how many they were.
-    pub(crate) fn pulse(&mut self, now: u64) -> Result<u64, BatchError>
-    {
+    pub(crate) fn pulse(&mut self, now: u64) -> Result<u64, BatchError> {
         let count = self.index.due_count(now);
         if let Some(refusal) = self.batch_refusal(false, now, count) {
             return Err(refusal);
