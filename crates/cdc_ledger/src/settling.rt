@@ -1,6 +1,7 @@
 //! What refuses a post or a void of a pending transfer.
 
 ghost use Rattle.std.specs.Prelude.{◌≡◌, ◌≢◌, ◌==◌, ◌&&◌, not, nat_le, ◌<◌, ◌^◌};
+ghost use Rattle.std.specs.List.{list_any};
 ghost use Rattle.cdc_types.specs.Lines.{first_line};
 ghost use Rattle.cdc_ledger.specs.Kinds as kinds;
 ghost use Rattle.cdc_ledger.specs.Filling as filling;
@@ -71,6 +72,27 @@ fn is_up(pending: &Transfer, timestamp: u64) -> bool
     pending.timeout != 0 && expires_at(pending) <= timestamp
 }
 
+/// Whether one of the entries posts the pending transfer.
+fn is_posted(entries: &[Entry], pending: &Transfer) -> bool
+    ensures { result ≡ list_any (λ x. kinds.posts x.kind x.transfer pending.now) entries.now }
+{
+    entries.iter().any(|entry| posts(entry, pending))
+}
+
+/// Whether one of the entries voids the pending transfer.
+fn is_voided(entries: &[Entry], pending: &Transfer) -> bool
+    ensures { result ≡ list_any (λ x. kinds.voids x.kind x.transfer pending.now) entries.now }
+{
+    entries.iter().any(|entry| voids(entry, pending))
+}
+
+/// Whether one of the entries is the end of the pending transfer.
+fn is_expired(entries: &[Entry], pending: &Transfer) -> bool
+    ensures { result ≡ list_any (λ x. kinds.expires x.kind x.transfer pending.now) entries.now }
+{
+    entries.iter().any(|entry| expires(entry, pending))
+}
+
 /// Why the pending transfer can't be settled any more, if so: it was posted or voided, or it has come to its end,
 /// swept or not.
 pub(crate) fn end_refusal(
@@ -81,11 +103,11 @@ pub(crate) fn end_refusal(
     requires { pending.now.timeout ≢ 0 → filling.expires_at pending.now < 2 ^ 64 }
     ensures { result ≡ first_line (end_lines entries.now pending.now timestamp) }
 {
-    if entries.iter().any(|entry| posts(entry, pending)) {
+    if is_posted(entries, pending) {
         Some(TransferResult::PendingTransferAlreadyPosted)
-    } else if entries.iter().any(|entry| voids(entry, pending)) {
+    } else if is_voided(entries, pending) {
         Some(TransferResult::PendingTransferAlreadyVoided)
-    } else if entries.iter().any(|entry| expires(entry, pending)) || is_up(pending, timestamp) {
+    } else if is_expired(entries, pending) || is_up(pending, timestamp) {
         Some(TransferResult::PendingTransferExpired)
     } else {
         None

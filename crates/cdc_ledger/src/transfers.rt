@@ -2,7 +2,7 @@
 
 ghost use Rattle.std.specs.Prelude.{◌≡◌, ◌<◌, ◌^◌};
 ghost use Rattle.std.specs.Option.{option_copied};
-ghost use Rattle.cdc_ledger.specs.Entries.{stored_in};
+ghost use Rattle.cdc_ledger.specs.Filling.{stored_in};
 ghost use Rattle.cdc_ledger.specs.Events as shown;
 ghost use Rattle.cdc_ledger.specs.Filling as filling;
 ghost use Rattle.cdc_ledger.specs.Kinds as kinds;
