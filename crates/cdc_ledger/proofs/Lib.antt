@@ -20,3 +20,4 @@ pub mod Stored
 pub mod Answered
 pub mod Pulsed
 pub mod Legal
+pub mod Places
