@@ -19,3 +19,5 @@ pub mod Stored
 pub mod Answered
 pub mod Pulsed
 pub mod Legal
+pub mod DueOrder
+pub mod IndexTriples

@@ -9,6 +9,7 @@ pub mod Events
 pub mod Filling
 pub mod History
 pub mod Kinds
+pub mod OpenTriples
 pub mod Sound
 pub mod Submit
 pub mod Tables
