@@ -1,16 +1,21 @@
-pub mod Accounts
+-- what has to be believed
 pub mod Answers
 pub mod Balances
 pub mod BatchErrors
 pub mod Changes
 pub mod Due
-pub mod Entries
 pub mod Events
 pub mod Filling
+pub mod Fits
 pub mod History
 pub mod Kinds
+pub mod Submit
+pub mod Verdict
+-- what only private contracts and the laws cite
+pub mod Accounts
+pub mod Effects
+pub mod Entries
+pub mod Follows
 pub mod OpenTriples
 pub mod Sound
-pub mod Submit
 pub mod Tables
-pub mod Verdict

@@ -1,4 +1,5 @@
--- What the ledger's tables stand for, and what is kept of them between two calls.
+-- What the ledger's tables stand for, and what is kept of them between two calls (for private contracts and the
+-- laws).
 use Rattle.std.specs.Prelude.{ℕ, ◌-◌, ◌≡◌, min, map, vec_len, vec_capacity}
 use Rattle.cdc_ledger.specs.declared.tables.Tables.{Tables}
 use Rattle.cdc_ledger.specs.Accounts.{opened_as}

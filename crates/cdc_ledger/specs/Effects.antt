@@ -1,0 +1,53 @@
+-- What an entry does to the balances of its two accounts: each entry does one thing, whatever its kind (for private
+-- contracts and the laws).
+use Rattle.std.specs.Prelude.{ℕ, ◌+◌, ◌-◌, ◌==◌, Option, Some, None, if◌then◌else◌}
+use Rattle.cdc_types.specs.declared.accounts.Account.{Account}
+use Rattle.cdc_types.specs.declared.accounts.Balances.{Balances}
+use Rattle.cdc_types.specs.declared.events.Entry.{Entry}
+use Rattle.cdc_types.specs.declared.events.EventKind.{EventKind}
+use Rattle.cdc_ledger.specs.Filling.{stored}
+use Rattle.cdc_ledger.specs.History.{History}
+use Rattle.cdc_ledger.specs.Kinds.{holds, moves, settles, settled_id}
+
+-- what leaves the pending sums, what joins them, and what joins the posted ones
+pub record Effect : Type 0 where
+  pub released : ℕ
+  pub held : ℕ
+  pub moved : ℕ
+
+-- what an entry of this kind and amount does, where the pending transfer that it settles, if any, holds the last amount
+abbrev pub effect : EventKind → ℕ → ℕ → Effect
+effect kind amount pending = record {
+  released = if settles kind then pending else 0;
+  held = if holds kind then amount else 0;
+  moved = if moves kind then amount else 0;
+}
+
+abbrev pub amount_of : Option Entry → ℕ
+amount_of None = 0
+amount_of (Some x) = x.transfer.amount
+
+-- what an entry does after the history h
+abbrev pub effect_of : History → Entry → Effect
+effect_of h e = effect e.kind e.transfer.amount (amount_of (stored h (settled_id e.kind e.transfer)))
+
+-- the amount where this side of a transfer is the account
+abbrev pub part : ℕ → ℕ → ℕ → ℕ
+part side account amount = if side == account then amount else 0
+
+-- the balances of an account after an effect on the accounts of these two ids, of which it may be either
+abbrev pub changed : Effect → ℕ → ℕ → ℕ → Balances → Balances
+changed f debit credit account sums = record {
+  debits_pending = sums.debits_pending + part debit account f.held - part debit account f.released;
+  debits_posted = sums.debits_posted + part debit account f.moved;
+  credits_pending = sums.credits_pending + part credit account f.held - part credit account f.released;
+  credits_posted = sums.credits_posted + part credit account f.moved;
+}
+
+-- the balances of an account after the entry e
+abbrev pub changed_by : History → Entry → ℕ → Balances → Balances
+changed_by h e = changed (effect_of h e) e.transfer.debit_account_id e.transfer.credit_account_id
+
+-- the account after an effect
+abbrev pub account_changed : Effect → ℕ → ℕ → Account → Account
+account_changed f debit credit a = record a { balances = changed f debit credit a.id a.balances }
