@@ -1,5 +1,5 @@
 -- The triples of entries: one more entry, another test, a filter, and which entry a triple is of.
-use Rattle.std.proofs.Common.{ℕ, ◌+◌, ◌<◌, suc, Bool, true, false, List, [], ◌∷◌, ◌++◌, ◌≡◌, ◌⊎◌, length, refl, ap, ap₂, sym, ◌∙◌, arith, inl, inr, ⊎_elim}
+use Rattle.std.proofs.Common.{ℕ, zero, suc, ◌+◌, ◌<◌, Bool, true, false, List, [], ◌∷◌, ◌++◌, ◌≡◌, ◌⊎◌, length, refl, ap, ap₂, sym, ◌∙◌, arith, inl, inr, ⊎_elim}
 use Rattle.std.specs.Prelude.{◌&&◌, if◌then◌else◌, filter, slice_index_or}
 use Rattle.std.specs.List.{AllByRecursion, Contains}
 use Rattle.cdc_types.specs.declared.events.Entry.{Entry}

@@ -21,3 +21,4 @@ pub mod Pulsed
 pub mod Legal
 pub mod DueOrder
 pub mod IndexTriples
+pub mod Pending
