@@ -22,3 +22,5 @@ pub mod Legal
 pub mod DueOrder
 pub mod IndexTriples
 pub mod Pending
+pub mod IndexLaws
+pub mod DueLaws

@@ -3,7 +3,7 @@
 use Rattle.std.proofs.Common.{ℕ, ◌<◌, ◌≤◌, Bool, true, false, Option, Some, None, List, [], ◌∷◌, ◌++◌, ◌≡◌, ◌≢◌, refl, ap, ap₂, sym, subst, ◌∙◌, arith, le-leb}
 use Rattle.std.specs.Prelude.{◌==◌, ◌&&◌, ◌||◌, nat_le, find, map, filter, if◌then◌else◌}
 use Rattle.std.specs.List.{AllByRecursion, list_any}
-use Rattle.std.proofs.lemmas.Bool.{and_parts, and_right, eqb-true, ne_eqb}
+use Rattle.std.proofs.lemmas.Bool.{and_from, and_parts, and_right, eqb-true, eq-eqb, ne_eqb}
 use Rattle.std.proofs.lemmas.List.Folds.{list_any-append}
 use Rattle.cdc_types.specs.declared.events.Entry.{Entry}
 use Rattle.cdc_types.specs.declared.events.EventKind.{EventKind}
@@ -15,6 +15,7 @@ use Rattle.cdc_ledger.specs.Filling.{stored}
 use Rattle.cdc_ledger.specs.History.{History}
 use Rattle.cdc_ledger.specs.Kinds.{holds, stores, settles, settled_id, posts, voids, expires}
 use Rattle.cdc_ledger.specs.Sound.{AreApart, IsSound, RiseFrom, Settles, Stands, stored_ids}
+use Rattle.cdc_ledger.proofs.Elements.{AllByRecursion-both, AllByRecursion-weaker, list_any_same}
 
 -- the entry is one of the list, with these before it and those after it
 pub record IsAmong (es : List Entry) (e : Entry) : Type 0 where
@@ -35,6 +36,18 @@ around P e (x ∷ front) back all =
 pub All-around : (P : Entry → Type 0) (es : List Entry) (e : Entry) (among : IsAmong es e) → AllByRecursion P es
     → Around P among.front among.back
 All-around P es e among all = around P e among.front among.back (subst (AllByRecursion P) among.split all)
+
+pub Around-both : (P Q : Entry → Type 0) (front back : List Entry) → Around P front back → Around Q front back → Around (λ y. P y × Q y) front back
+Around-both P Q front back p q = record {
+  before = AllByRecursion-both P Q front p.before q.before;
+  after = AllByRecursion-both P Q back p.after q.after;
+}
+
+pub Around-weaker : (P Q : Entry → Type 0) → ((y : Entry) → P y → Q y) → (front back : List Entry) → Around P front back → Around Q front back
+Around-weaker P Q gives front back p = record {
+  before = AllByRecursion-weaker P Q gives front p.before;
+  after = AllByRecursion-weaker P Q gives back p.after;
+}
 
 here : (P : Entry → Type 0) (e : Entry) (front back : List Entry) → AllByRecursion P (front ++ e ∷ back) → P e
 here P e [] back all = all.0
@@ -95,6 +108,12 @@ IsStored-found h id e found =
     let first = IsFirst-found (λ x. stores x.kind && (x.transfer.id == id)) h.entries e found in
     let both = and_parts (stores e.kind) (e.transfer.id == id) first.passes in
     record { among = first.among; stores = both.0; same_id = eqb-true e.transfer.id id both.1 }
+
+find_first : (test : Entry → Bool) (e : Entry) (front back : List Entry) → AllByRecursion (λ y. test y ≡ false) front → test e ≡ true
+    → find test (front ++ e ∷ back) ≡ Some e
+find_first test e [] back none passes = ap (λ b. if b then Some e else find test back) passes
+find_first test e (x ∷ front) back none passes =
+    ap (λ b. if b then Some x else find test (front ++ e ∷ back)) none.0 ∙ find_first test e front back none.1 passes
 
 -- what pends was stored
 pub stores-holds : (k : EventKind) → holds k ≡ true → stores k ≡ true
@@ -158,6 +177,24 @@ pub HasOtherId-around : (h : History) (e : Entry) (among : IsAmong h.entries e) 
 HasOtherId-around h e among apart stored =
     other_ids e among.front among.back stored (subst (λ es. AreApart (stored_ids es)) among.split apart)
 
+others_fail : (e : Entry) (es : List Entry) → AllByRecursion (HasOtherId e) es
+    → AllByRecursion (λ y. (stores y.kind && (y.transfer.id == e.transfer.id)) ≡ false) es
+others_fail e [] all = tt
+others_fail e (y ∷ es) all =
+    (fails (stores y.kind) refl, others_fail e es all.1)
+  where
+    fails : (b : Bool) → stores y.kind ≡ b → (b && (y.transfer.id == e.transfer.id)) ≡ false
+    fails true is = ne_eqb y.transfer.id e.transfer.id (all.0 is)
+    fails false is = refl
+
+-- each entry that stored a transfer is the one that is found by its id
+pub stored-among : (h : History) (e : Entry) → IsSound h → IsAmong h.entries e → stores e.kind ≡ true → stored h e.transfer.id ≡ Some e
+stored-among h e sound among is =
+    ap (find (λ y. stores y.kind && (y.transfer.id == e.transfer.id))) among.split
+    ∙ find_first (λ y. stores y.kind && (y.transfer.id == e.transfer.id)) e among.front among.back
+    (others_fail e among.front (HasOtherId-around h e among sound.once is).before)
+    (and_from (stores e.kind) (e.transfer.id == e.transfer.id) is (eq-eqb e.transfer.id e.transfer.id refl))
+
 all_later : (t : ℕ) (e : Entry) (es : List Entry) → t ≤ e.timestamp → RiseFrom e.timestamp es
     → AllByRecursion (λ y. y.timestamp ≢ t) es
 all_later t e [] later rising = tt
@@ -180,6 +217,31 @@ pub other_times-around : (h : History) (e : Entry) (among : IsAmong h.entries e)
     → Around (λ y. y.timestamp ≢ e.timestamp) among.front among.back
 other_times-around h e among rising =
     other_times 0 e among.front among.back (subst (RiseFrom 0) among.split rising)
+
+-- the entry's transfer has another id and another timestamp than that of the entry e, if it pends
+pub record IsOther (e y : Entry) : Type 0 where
+  pub id : y.transfer.id ≢ e.transfer.id
+  pub time : y.transfer.timestamp ≢ e.transfer.timestamp
+
+-- so it is with every other entry of a sound history
+pub IsOther-around : (h : History) (e : Entry) (among : IsAmong h.entries e) → IsSound h → stores e.kind ≡ true
+    → Around (λ y. stores y.kind ≡ true → IsOther e y) among.front among.back
+IsOther-around h e among sound is =
+    Around-weaker (λ y. HasOtherId e y × (y.timestamp ≢ e.timestamp) × Stands h y) (λ y. stores y.kind ≡ true → IsOther e y)
+    (λ y known is_stored. record {
+      id = known.0 is_stored;
+      time = λ same. known.1 (sym (known.2.dated is_stored) ∙ (same ∙ (All-among (Stands h) h.entries e among sound.standing).dated is));
+    }) among.front among.back
+    (three among.front among.back (HasOtherId-around h e among sound.once is) (other_times-around h e among sound.rising)
+    (All-around (Stands h) h.entries e among sound.standing))
+  where
+    three : (front back : List Entry) → Around (HasOtherId e) front back → Around (λ y. y.timestamp ≢ e.timestamp) front back → Around (Stands h) front back
+        → Around (λ y. HasOtherId e y × (y.timestamp ≢ e.timestamp) × Stands h y) front back
+    three front back ids times standing =
+        Around-weaker (λ y. HasOtherId e y × ((y.timestamp ≢ e.timestamp) × Stands h y)) (λ y. HasOtherId e y × (y.timestamp ≢ e.timestamp) × Stands h y)
+        (λ y known. (known.0, known.1.0, known.1.1)) front back
+        (Around-both (HasOtherId e) (λ y. (y.timestamp ≢ e.timestamp) × Stands h y) front back ids
+        (Around-both (λ y. y.timestamp ≢ e.timestamp) (Stands h) front back times standing))
 
 or_no : (b : Bool) → (b || false) ≡ b
 or_no true = refl
@@ -210,24 +272,16 @@ resolves-none e p = by_kind e.kind e.transfer
     by_kind TwoPhaseVoided x is = cc
     by_kind TwoPhaseExpired x is = cc
 
-any_same : (p q : Entry → Bool) (es : List Entry) → AllByRecursion (λ e. p e ≡ q e) es → list_any p es ≡ list_any q es
-any_same p q [] agree = refl
-any_same p q (e ∷ es) agree = ap₂ (λ a b. a || b) agree.0 (any_same p q es agree.1)
-
 any_none : (test : Entry → Bool) (es : List Entry) → AllByRecursion (λ e. test e ≡ false) es → list_any test es ≡ false
 any_none test [] none = refl
 any_none test (e ∷ es) none = ap₂ (λ a b. a || b) none.0 (any_none test es none.1)
-
-all_weaker : (P Q : Entry → Type 0) → ((e : Entry) → P e → Q e) → (es : List Entry) → AllByRecursion P es → AllByRecursion Q es
-all_weaker P Q gives [] all = tt
-all_weaker P Q gives (e ∷ es) all = (gives e all.0, all_weaker P Q gives es all.1)
 
 -- at any moment from the last one on the same is resolved
 pub resolved-later : (h : History) (p : Transfer) (t : ℕ) → AllByRecursion (λ e. e.timestamp ≤ h.last) h.entries → h.last ≤ t
     → resolved h p t ≡ resolved h p h.last
 resolved-later h p t past later =
-    any_same (λ e. nat_le e.timestamp t && resolves p e) (λ e. nat_le e.timestamp h.last && resolves p e) h.entries
-    (all_weaker (λ e. e.timestamp ≤ h.last)
+    list_any_same (λ e. nat_le e.timestamp t && resolves p e) (λ e. nat_le e.timestamp h.last && resolves p e) h.entries
+    (AllByRecursion-weaker (λ e. e.timestamp ≤ h.last)
     (λ e. (nat_le e.timestamp t && resolves p e) ≡ (nat_le e.timestamp h.last && resolves p e))
     (λ e within. ap (λ b. b && resolves p e) (le-leb e.timestamp t (omega arith) ∙ sym (le-leb e.timestamp h.last within)))
     h.entries past)
@@ -258,5 +312,5 @@ resolves_unknown h p fresh e stands = by_settling (settles e.kind) refl
 pub resolved-fresh : (h : History) (p : Transfer) (t : ℕ) → AllByRecursion (Stands h) h.entries → stored h p.id ≡ None → resolved h p t ≡ false
 resolved-fresh h p t standing fresh =
     any_none (λ e. nat_le e.timestamp t && resolves p e) h.entries
-    (all_weaker (Stands h) (λ e. (nat_le e.timestamp t && resolves p e) ≡ false)
+    (AllByRecursion-weaker (Stands h) (λ e. (nat_le e.timestamp t && resolves p e) ≡ false)
     (λ e stands. and_right (nat_le e.timestamp t) (resolves p e) (resolves_unknown h p fresh e stands)) h.entries standing)
