@@ -1,2 +1,3 @@
-pub mod Order
+pub mod Apart
 pub mod Lists
+pub mod Order

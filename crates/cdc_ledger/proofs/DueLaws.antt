@@ -5,6 +5,7 @@ use Rattle.std.specs.List.{AllByRecursion}
 use Rattle.std.proofs.lemmas.Bool.{eq-eqb, ne_eqb}
 use Rattle.std.proofs.lemmas.List.{append-nil, length-map, map-append}
 use Rattle.std.proofs.lemmas.List.Elements.{filter-append}
+use Rattle.cdc_expiry.specs.declared.triple.Triple.{Triple}
 use Rattle.cdc_types.specs.declared.events.Entry.{Entry}
 use Rattle.cdc_types.specs.declared.transfers.Transfer.{Transfer}
 use Rattle.cdc_ledger.specs.Balances.{resolves, resolved}
@@ -13,7 +14,7 @@ use Rattle.cdc_ledger.specs.Due.{is_due, is_sooner, in_order_of_end, due}
 use Rattle.cdc_ledger.specs.Filling.{expires_at}
 use Rattle.cdc_ledger.specs.History.{History}
 use Rattle.cdc_ledger.specs.Kinds.{holds, stores}
-use Rattle.cdc_ledger.specs.OpenTriples.{Triple, is_open, triples_from, open_triples}
+use Rattle.cdc_ledger.specs.OpenTriples.{is_open, triples_from, open_triples}
 use Rattle.cdc_ledger.specs.Sound.{IsSound}
 use Rattle.cdc_ledger.proofs.DueOrder.{IsSoonest, in_order-soonest, length-in_order}
 use Rattle.cdc_ledger.proofs.IndexTriples.{filter-triples_from, length-triples_from}

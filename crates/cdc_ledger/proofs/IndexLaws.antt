@@ -4,6 +4,7 @@ use Rattle.std.specs.Prelude.{◌==◌, ◌&&◌, ◌||◌, not, filter, if◌th
 use Rattle.std.specs.List.{AllByRecursion}
 use Rattle.std.proofs.lemmas.Bool.{eq-eqb, ne_eqb}
 use Rattle.std.proofs.lemmas.List.{append-nil}
+use Rattle.cdc_expiry.specs.declared.triple.Triple.{Triple}
 use Rattle.cdc_types.specs.declared.events.Entry.{Entry}
 use Rattle.cdc_types.specs.declared.events.EventKind.{EventKind}
 use Rattle.cdc_types.specs.declared.events.EventKind.TheVariants.{SinglePhase, TwoPhasePending, TwoPhasePosted, TwoPhaseVoided, TwoPhaseExpired}
@@ -14,7 +15,7 @@ use Rattle.cdc_ledger.specs.Filling.{stored, expires_at}
 use Rattle.cdc_ledger.specs.Follows.{Follows, SettlesOpen}
 use Rattle.cdc_ledger.specs.History.{Opened, History}
 use Rattle.cdc_ledger.specs.Kinds.{holds, stores, settles, settled_id}
-use Rattle.cdc_ledger.specs.OpenTriples.{Triple, is_open, triple_at, triples_from, open_triples}
+use Rattle.cdc_ledger.specs.OpenTriples.{is_open, triple_at, triples_from, open_triples}
 use Rattle.cdc_ledger.specs.Sound.{IsSound, Settles, Stands}
 use Rattle.cdc_ledger.proofs.IndexTriples.{triples_from-push, triples_from-same, filter-triples_from}
 use Rattle.cdc_ledger.proofs.Pending.{All-from_around, Around-weaker, IsOther, IsOther-around, IsStored, IsStored-found, resolved-fresh, resolved-later, resolved-then, resolves-none, resolves-settling, stores-holds}

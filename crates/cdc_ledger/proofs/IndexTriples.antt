@@ -2,8 +2,9 @@
 use Rattle.std.proofs.Common.{ℕ, zero, suc, ◌+◌, ◌<◌, Bool, true, false, List, [], ◌∷◌, ◌++◌, ◌≡◌, ◌⊎◌, length, refl, ap, ap₂, sym, ◌∙◌, arith, inl, inr, ⊎_elim}
 use Rattle.std.specs.Prelude.{◌&&◌, if◌then◌else◌, filter, slice_index_or}
 use Rattle.std.specs.List.{AllByRecursion, Contains}
+use Rattle.cdc_expiry.specs.declared.triple.Triple.{Triple}
 use Rattle.cdc_types.specs.declared.events.Entry.{Entry}
-use Rattle.cdc_ledger.specs.OpenTriples.{Triple, triple_at, triples_from}
+use Rattle.cdc_ledger.specs.OpenTriples.{triple_at, triples_from}
 
 -- a triple, where the test passes
 abbrev here_if : Bool → Triple → List Triple

@@ -4,6 +4,7 @@ pub mod Elements
 pub mod LineLaws
 pub mod BalanceLaws
 pub mod OpenedLaws
+pub mod StoredLaws
 pub mod EventLaws
 pub mod AccountLaws
 pub mod BatchLaws

@@ -1,13 +1,15 @@
 -- What an entry does to the balances of its two accounts: each entry does one thing, whatever its kind (for private
 -- contracts and the laws).
-use Rattle.std.specs.Prelude.{ℕ, ◌+◌, ◌-◌, ◌==◌, Option, Some, None, if◌then◌else◌}
+use Rattle.std.specs.Prelude.{ℕ, ◌+◌, ◌-◌, ◌==◌, Option, Some, None, option_map, if◌then◌else◌}
 use Rattle.cdc_types.specs.declared.accounts.Account.{Account}
 use Rattle.cdc_types.specs.declared.accounts.Balances.{Balances}
 use Rattle.cdc_types.specs.declared.events.Entry.{Entry}
 use Rattle.cdc_types.specs.declared.events.EventKind.{EventKind}
+use Rattle.cdc_types.specs.declared.events.EventKind.TheVariants.{SinglePhase, TwoPhasePending, TwoPhasePosted, TwoPhaseVoided, TwoPhaseExpired}
+use Rattle.cdc_types.specs.declared.transfers.Transfer.{Transfer}
 use Rattle.cdc_ledger.specs.Filling.{stored}
 use Rattle.cdc_ledger.specs.History.{History}
-use Rattle.cdc_ledger.specs.Kinds.{holds, moves, settles, settled_id}
+use Rattle.cdc_ledger.specs.Kinds.{holds, moves}
 
 -- what leaves the pending sums, what joins them, and what joins the posted ones
 pub record Effect : Type 0 where
@@ -15,21 +17,32 @@ pub record Effect : Type 0 where
   pub held : ℕ
   pub moved : ℕ
 
--- what an entry of this kind and amount does, where the pending transfer that it settles, if any, holds the last amount
-abbrev pub effect : EventKind → ℕ → ℕ → Effect
-effect kind amount pending = record {
-  released = if settles kind then pending else 0;
-  held = if holds kind then amount else 0;
-  moved = if moves kind then amount else 0;
-}
+-- the pending transfer that an entry of this kind with this transfer brings to its end, if it does
+abbrev pub settled_in : EventKind → History → Transfer → Option Transfer
+settled_in SinglePhase h x = None
+settled_in TwoPhasePending h x = None
+settled_in TwoPhasePosted h x = option_map (λ e. e.transfer) (stored h x.pending_id)
+settled_in TwoPhaseVoided h x = option_map (λ e. e.transfer) (stored h x.pending_id)
+settled_in TwoPhaseExpired h x = Some x
 
-abbrev pub amount_of : Option Entry → ℕ
+abbrev pub settled_by : History → Entry → Option Transfer
+settled_by h e = settled_in e.kind h e.transfer
+
+abbrev pub amount_of : Option Transfer → ℕ
 amount_of None = 0
-amount_of (Some x) = x.transfer.amount
+amount_of (Some p) = p.amount
+
+-- what an entry does that brings this pending transfer, if any, to its end
+abbrev pub effect_by : Option Transfer → Entry → Effect
+effect_by p e = record {
+  released = amount_of p;
+  held = if holds e.kind then e.transfer.amount else 0;
+  moved = if moves e.kind then e.transfer.amount else 0;
+}
 
 -- what an entry does after the history h
 abbrev pub effect_of : History → Entry → Effect
-effect_of h e = effect e.kind e.transfer.amount (amount_of (stored h (settled_id e.kind e.transfer)))
+effect_of h e = effect_by (settled_by h e) e
 
 -- the amount where this side of a transfer is the account
 abbrev pub part : ℕ → ℕ → ℕ → ℕ

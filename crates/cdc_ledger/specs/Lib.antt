@@ -17,5 +17,6 @@ pub mod Effects
 pub mod Entries
 pub mod Follows
 pub mod OpenTriples
+pub mod Parts
 pub mod Sound
 pub mod Tables

@@ -1,15 +1,11 @@
 -- What an index of ends has: a triple for each pending transfer with a timeout that nothing brought to its end yet.
 use Rattle.std.specs.Prelude.{ℕ, ◌+◌, Bool, ◌==◌, ◌&&◌, not, List, [], ◌∷◌, if◌then◌else◌}
 use Rattle.cdc_types.specs.declared.events.Entry.{Entry}
+use Rattle.cdc_expiry.specs.declared.triple.Triple.{Triple}
 use Rattle.cdc_ledger.specs.History.{History}
 use Rattle.cdc_ledger.specs.Kinds.{holds}
 use Rattle.cdc_ledger.specs.Balances.{resolved}
 use Rattle.cdc_ledger.specs.Filling.{expires_at}
-
-pub record Triple : Type 0 where
-  pub expires_at : ℕ
-  pub timestamp : ℕ
-  pub slot : ℕ
 
 -- the entry's transfer is pending, has a timeout, and was neither posted, voided nor expired
 abbrev pub is_open : History → Entry → Bool

@@ -1,0 +1,11 @@
+use Rattle.std.proofs.Common.{subst, sym, ap, ◌∙◌}
+use Rattle.std.specs.FinSet.{len}
+use Rattle.cdc_expiry.specs.Triples.{Index, TimestampsAreUnique}
+use Rattle.cdc_expiry.proofs.Lists.{len-set_of}
+use Rattle.cdc_expiry.proofs.index.DueIndex.len.Goals as goal
+
+pub returns-clause-count : goal.returns-clause-count
+returns-clause-count c = c.len.ensures ∙ sym (len-set_of _ c.self.invariant) ∙ ap (λ (i : Index). len i.triples) c.self.view_is
+
+pub returns-clause-unique : goal.returns-clause-unique
+returns-clause-unique c = ?
