@@ -17,6 +17,7 @@ pub mod Effects
 pub mod Entries
 pub mod Follows
 pub mod Movements
+pub mod OpenTriples
 pub mod Parts
 pub mod Sound
 pub mod Tables
