@@ -1,8 +1,8 @@
 -- Sets of triples: what contracts see of the index.
-use Rattle.std.specs.Prelude.{◌≡◌, ◌≢◌, ℕ, Bool, true, not, ◌&&◌, ◌==◌, nat_eq, nat_le, List, map, Option, MatchOption, refl}
+use Rattle.std.specs.Prelude.{◌≡◌, ◌≢◌, ℕ, Bool, true, not, ◌&&◌, ◌==◌, nat_le, List, [], ◌∷◌, Option, MatchOption, refl}
 use Rattle.std.specs.Coded.{Coded, code_by, coded×, coded_ℕ}
 use Rattle.std.specs.FinSet as set
-use Rattle.std.specs.List.{IsDistinct}
+use Rattle.std.specs.List.{All}
 use Rattle.std.specs.declared.cmp.Ordering.{Ordering}
 use Rattle.std.specs.Ordering.{is_le, nat_cmp, ordering_then}
 use Rattle.cdc_expiry.specs.declared.triple.Triple.{Triple}
@@ -58,7 +58,8 @@ TimestampsAreUnique s =
 
 -- no two triples of the list have the same timestamp
 abbrev pub TimestampsDiffer : List Triple → Type 0
-TimestampsDiffer xs = IsDistinct nat_eq (map (λ x. x.timestamp) xs)
+TimestampsDiffer [] = Unit {0}
+TimestampsDiffer (x ∷ xs) = All (λ y. y.timestamp ≢ x.timestamp) xs × TimestampsDiffer xs
 
 -- a triple is stored as its three numbers, and an index as its set and its room
 abbrev pub triple_code : Coded Triple

@@ -4,6 +4,9 @@
 mod accounts;
 pub mod errors;
 pub mod ledger;
+mod movements;
+mod settling;
+mod sums;
 mod tables;
 mod transfers;
 

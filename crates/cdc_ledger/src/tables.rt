@@ -15,22 +15,30 @@ ghost use Rattle.cdc_ledger.specs.Submit.{accounts_from, after_account, after_tr
 ghost use Rattle.cdc_ledger.specs.Tables.{IsKept, history_of, room_for_accounts, room_for_entries};
 ghost use Rattle.cdc_ledger.specs.Verdict.{max_timestamp, account_lines, account_verdict, transfer_lines, transfer_verdict};
 
-use crate::accounts::{event_of, find_account, is_same_account, move_amount, opened_account};
+use crate::accounts::{find_account, find_place, is_same_account, opened_account};
 use crate::errors::BatchError;
-use crate::transfers::{as_asked, find_entry, known_refusal, refusal_between};
+use crate::movements::Movement;
+use crate::settling::{end_refusal, field_refusal};
+use crate::sums::refusal_between;
+use crate::transfers::{as_asked, expires_at, filled_from, find_entry, is_same_transfer, kind_of};
+use cdc_expiry::{DueIndex, Triple};
 use cdc_log::EventLog;
 use cdc_types::{
     Account, AccountResult, Batch, BatchResults, Entry, EventKind, Limits, NewAccount, NewTransfer,
-    TransferResult,
+    Transfer, TransferResult,
 };
 use std::alloc::Global;
 
-/// The accounts with their running balances, the entries, their events, and how far the ledger has come.
+/// The accounts with their running balances, the entries, their events, the ends that may still come, and how far the
+/// ledger has come.
 #[derive(Drop)]
 pub(crate) struct Tables {
     pub(crate) accounts: Vec<Account>,
     pub(crate) entries: Vec<Entry>,
     pub(crate) log: EventLog,
+    /// A triple for each pending transfer with a timeout that is neither posted, voided nor expired; its slot is the
+    /// place of the entry.
+    pub(crate) index: DueIndex,
     pub(crate) last: u64,
     pub(crate) closed: bool,
 }
@@ -45,6 +53,7 @@ impl Tables {
             accounts: Vec::new(alloc),
             entries: Vec::new(alloc),
             log: EventLog::new(alloc),
+            index: DueIndex::new(alloc),
             last: 0,
             closed: false,
         }
@@ -132,49 +141,140 @@ impl Tables {
         }
     }
 
-    /// The first line that refuses the request, if any does, at any moment from now on.
-    fn transfer_refusal(&self, request: &NewTransfer) -> Option<TransferResult>
-        requires { IsKept self.now }
-        ensures { (t : ℕ) → self.now.last ≤ t →
-            result ≡ first_line (transfer_lines features (history_of self.now) request.now t) }
-    {
-        if let Some(refusal) = request.check_shape() {
-            return Some(refusal);
+    /// The transfer that is stored for the request at this moment.
+    fn filled(&self, request: &NewTransfer, timestamp: u64) -> Transfer {
+        if request.is_plain() {
+            return as_asked(request, timestamp);
         }
-        if let Some(entry) = self.entry(request.id) {
-            return Some(known_refusal(entry, request));
+        match self.entry(request.pending_id) {
+            Some(entry) => filled_from(&entry.transfer, request, timestamp),
+            None => as_asked(request, timestamp),
         }
-        let Some(debited) = self.account(request.debit_account_id) else {
-            return Some(TransferResult::DebitAccountNotFound);
-        };
-        let Some(credited) = self.account(request.credit_account_id) else {
-            return Some(TransferResult::CreditAccountNotFound);
-        };
-        refusal_between(debited, credited, request)
     }
 
-    /// Stores the transfer that is asked for, which no line refuses, and tells of it. There is room for it.
-    fn store_transfer(&mut self, request: &NewTransfer, timestamp: u64)
-        requires kept { IsKept self.old }
-        requires later { self.old.last < timestamp }
-        requires within { timestamp ≤ max_timestamp }
-        requires accepted { first_line (transfer_lines features (history_of self.old) request.now timestamp) ≡ None }
-        requires room { 0 < room_for_entries self.old }
-        ensures history { history_of self.new ≡ pushed (history_of self.old) (single_entry request.now timestamp) }
-        ensures kept { IsKept self.new }
-        ensures room { room_for_entries self.new + 1 ≡ room_for_entries self.old }
-    {
-        let transfer = as_asked(request, timestamp);
-        move_amount(self.accounts.as_mut_slice(), &transfer);
+    /// Why a request whose id is another transfer's is refused.
+    fn known_refusal(&self, request: &NewTransfer) -> Option<TransferResult> {
+        let entry = self.entry(request.id)?;
+        if is_same_transfer(&self.filled(request, entry.timestamp), &entry.transfer) {
+            Some(TransferResult::Exists)
+        } else {
+            Some(TransferResult::ExistsWithDifferentFields)
+        }
+    }
+
+    /// What a request for a single-phase or a pending transfer leads to, or the first line that refuses it.
+    fn judge_plain(
+        &self,
+        request: &NewTransfer,
+        timestamp: u64,
+    ) -> Result<Movement, TransferResult> {
+        let accounts = self.accounts.as_slice();
+        let Some(debit) = find_place(accounts, request.debit_account_id) else {
+            return Err(TransferResult::DebitAccountNotFound);
+        };
+        let Some(credit) = find_place(accounts, request.credit_account_id) else {
+            return Err(TransferResult::CreditAccountNotFound);
+        };
+        if let Some(refusal) = refusal_between(
+            &accounts[debit],
+            &accounts[credit],
+            request,
+            timestamp,
+        ) {
+            return Err(refusal);
+        }
         let entry = Entry {
             timestamp,
-            kind: EventKind::SinglePhase,
-            transfer,
+            kind: kind_of(request),
+            transfer: as_asked(request, timestamp),
         };
-        let event = event_of(self.accounts.as_slice(), &entry);
+        Ok(Movement {
+            entry,
+            debit,
+            credit,
+            settled: None,
+        })
+    }
+
+    /// The movement of an entry that posts, voids or ends this pending transfer, whose accounts are there.
+    fn settling(&self, entry: Entry, pending: Transfer) -> Movement {
+        let accounts = self.accounts.as_slice();
+        Movement {
+            entry,
+            debit: find_place(accounts, pending.debit_account_id).unwrap(),
+            credit: find_place(accounts, pending.credit_account_id).unwrap(),
+            settled: Some(pending),
+        }
+    }
+
+    /// What a post or a void leads to, or the first line that refuses it.
+    fn judge_settling(
+        &self,
+        request: &NewTransfer,
+        timestamp: u64,
+    ) -> Result<Movement, TransferResult> {
+        let Some(entry) = self.entry(request.pending_id) else {
+            return Err(TransferResult::PendingTransferNotFound);
+        };
+        if let Some(refusal) = field_refusal(entry, request) {
+            return Err(refusal);
+        }
+        let pending = entry.transfer;
+        if let Some(refusal) = end_refusal(self.entries.as_slice(), &pending, timestamp) {
+            return Err(refusal);
+        }
+        let entry = Entry {
+            timestamp,
+            kind: kind_of(request),
+            transfer: filled_from(&pending, request, timestamp),
+        };
+        Ok(self.settling(entry, pending))
+    }
+
+    /// What a request for a transfer leads to at this moment, or the first line that refuses it.
+    fn judge(&self, request: &NewTransfer, timestamp: u64) -> Result<Movement, TransferResult> {
+        if let Some(refusal) = request.check_shape() {
+            return Err(refusal);
+        }
+        if let Some(refusal) = self.known_refusal(request) {
+            return Err(refusal);
+        }
+        if request.is_plain() {
+            self.judge_plain(request, timestamp)
+        } else {
+            self.judge_settling(request, timestamp)
+        }
+    }
+
+    /// Keeps the end that a pending transfer will come to, and forgets that of one that is settled.
+    fn follow_end(&mut self, movement: &Movement) {
+        match movement.settled {
+            Some(pending) => {
+                if pending.timeout != 0 {
+                    let _was_there = self.index.remove(expires_at(&pending), pending.timestamp);
+                }
+            }
+            None => {
+                let transfer = &movement.entry.transfer;
+                if transfer.timeout != 0 {
+                    self.index.add(Triple {
+                        expires_at: expires_at(transfer),
+                        timestamp: transfer.timestamp,
+                        slot: self.entries.len(),
+                    });
+                }
+            }
+        }
+    }
+
+    /// Takes the movement's entry and tells of it. There is room for it.
+    fn record(&mut self, movement: &Movement) {
+        movement.apply(self.accounts.as_mut_slice());
+        let event = movement.event(self.accounts.as_slice());
+        self.follow_end(movement);
         self.log.push(event);
-        self.entries.push_reserved(entry);
-        self.last = timestamp;
+        self.entries.push_reserved(movement.entry);
+        self.last = movement.entry.timestamp;
     }
 
     /// Takes a request for a transfer, for which there is room, at this moment.
@@ -188,13 +288,13 @@ impl Tables {
         ensures kept { IsKept self.new }
         ensures room { room_for_entries self.old ≤ room_for_entries self.new + 1 }
     {
-        match self.transfer_refusal(request) {
-            Some(refusal) => {
+        match self.judge(request, timestamp) {
+            Err(refusal) => {
                 self.take_timestamp(timestamp);
                 refusal
             }
-            None => {
-                self.store_transfer(request, timestamp);
+            Ok(movement) => {
+                self.record(&movement);
                 TransferResult::Accepted
             }
         }
@@ -209,13 +309,13 @@ impl Tables {
     }
 
     /// Why a batch of this many items at this moment is refused, if it is.
-    fn batch_refusal(&self, now: u64, items: usize) -> Option<BatchError>
+    fn batch_refusal(&self, too_large: bool, now: u64, items: usize) -> Option<BatchError>
         requires { self.now.last ≤ max_timestamp }
-        ensures { result ≡ refusal_at (history_of self.now) now items }
+        ensures { result ≡ refusal_at (history_of self.now) too_large now items }
     {
         if self.closed {
             Some(BatchError::LedgerClosed)
-        } else if items > Limits::BATCH_ITEMS {
+        } else if too_large {
             Some(BatchError::BatchTooLarge)
         } else if items > 0 && self.base(now).saturating_add(items as u64 - 1) > Limits::TIMESTAMP {
             Some(BatchError::TimestampsExhausted)
@@ -307,7 +407,11 @@ impl Tables {
             (Batch.Accounts now requests.now) result (history_of self.new) }
         ensures kept { IsKept self.new }
     {
-        if let Some(refusal) = self.batch_refusal(now, requests.len()) {
+        if let Some(refusal) = self.batch_refusal(
+            requests.len() > Limits::BATCH_ITEMS,
+            now,
+            requests.len(),
+        ) {
             return Err(refusal);
         }
         let results = Vec::with_capacity(alloc, requests.len())?;
@@ -328,24 +432,52 @@ impl Tables {
             (Batch.Transfers now requests.now) result (history_of self.new) }
         ensures kept { IsKept self.new }
     {
-        if let Some(refusal) = self.batch_refusal(now, requests.len()) {
+        if let Some(refusal) = self.batch_refusal(
+            requests.len() > Limits::BATCH_ITEMS,
+            now,
+            requests.len(),
+        ) {
             return Err(refusal);
         }
         let results = Vec::with_capacity(alloc, requests.len())?;
         self.reserve_entries(requests.len())?;
+        self.index.reserve(requests.len())?;
         let base = self.base(now);
         Ok(self.take_transfers(base, requests, results))
     }
 
-    /// Brings the pending transfers whose time is up to their end. There are none today.
-    pub(crate) fn pulse(&self, now: u64) -> Result<u64, BatchError>
-        requires { IsKept self.now }
-        ensures { let h = history_of self.now in Answers BatchResults.Pulsed h (Batch.Pulse now) result h }
-    {
-        match self.batch_refusal(now, 0) {
-            Some(refusal) => Err(refusal),
-            None => Ok(0),
+    /// Brings the pending transfer whose entry stands at this place, and which is due, to its end.
+    fn expire(&mut self, place: usize, timestamp: u64) {
+        let pending = self.entries[place].transfer;
+        let entry = Entry {
+            timestamp,
+            kind: EventKind::TwoPhaseExpired,
+            transfer: pending,
+        };
+        let movement = self.settling(entry, pending);
+        self.record(&movement);
+    }
+
+    /// Brings this many pending transfers to their end, those whose time is up at the moment `now`, from the moment
+    /// `base` on. There is room for all of their entries.
+    fn expire_all(&mut self, now: u64, base: u64, count: usize) {
+        for place in 0..count {
+            if let Some(first) = self.index.due(now) {
+                self.expire(first.slot, base + place as u64);
+            }
         }
+    }
+
+    /// Brings the pending transfers whose time is up at the moment `now` to their end, and answers how many they were.
+    pub(crate) fn pulse(&mut self, now: u64) -> Result<u64, BatchError> {
+        let count = self.index.due_count(now);
+        if let Some(refusal) = self.batch_refusal(false, now, count) {
+            return Err(refusal);
+        }
+        self.reserve_entries(count)?;
+        let base = self.base(now);
+        self.expire_all(now, base, count);
+        Ok(count as u64)
     }
 
     /// Takes no more batches.
