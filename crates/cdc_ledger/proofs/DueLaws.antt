@@ -36,7 +36,7 @@ ends_last true true false false = refl
 ends_last true false ended done = refl
 ends_last false timed ended done = refl
 
-is_due-ready : (h : History) (now : ℕ) (e : Entry) → is_due h now e ≡ is_ready h now e
+pub is_due-ready : (h : History) (now : ℕ) (e : Entry) → is_due h now e ≡ is_ready h now e
 is_due-ready h now e =
     ends_last (holds e.kind) (not (e.transfer.timeout == 0)) (nat_le (expires_at e.transfer) now) (resolved h e.transfer h.last)
 

@@ -15,7 +15,7 @@ use Rattle.cdc_ledger.specs.Filling.{stored, expires_at}
 use Rattle.cdc_ledger.specs.Follows.{Follows, SettlesOpen}
 use Rattle.cdc_ledger.specs.History.{Opened, History}
 use Rattle.cdc_ledger.specs.Kinds.{holds, stores, settles, settled_id}
-use Rattle.cdc_ledger.specs.OpenTriples.{is_open, triple_at, triples_from, open_triples}
+use Rattle.cdc_ledger.specs.OpenTriples.{is_open, opens, triple_at, triples_from, open_triples}
 use Rattle.cdc_ledger.specs.Sound.{IsSound, Settles, Stands}
 use Rattle.cdc_ledger.proofs.IndexTriples.{triples_from-push, triples_from-same, filter-triples_from}
 use Rattle.cdc_ledger.proofs.Pending.{All-from_around, Around-weaker, IsOther, IsOther-around, IsStored, IsStored-found, resolved-fresh, resolved-later, resolved-then, resolves-none, resolves-settling, stores-holds}
@@ -40,10 +40,6 @@ open_triples-later h accounts t closed sound later =
 is_open-then : (h : History) (e y : Entry) → IsSound h → h.last < e.timestamp
     → is_open (pushed h e) y ≡ open_by (resolved h y.transfer h.last || resolves y.transfer e) y
 is_open-then h e y sound after = ap (λ b. open_by b y) (resolved-then h e y.transfer sound.past after)
-
--- the entry has a triple of its own, if nothing resolved it
-abbrev pub opens : Entry → Bool
-opens e = holds e.kind && not (e.transfer.timeout == 0)
 
 or_none : (b c : Bool) → c ≡ false → (b || c) ≡ b
 or_none true c none = refl
