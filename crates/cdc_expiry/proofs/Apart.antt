@@ -23,10 +23,11 @@ TimestampsDiffer-filter p (x ∷ xs) differ =
 pub TimestampsDiffer-push : (xs : List Triple) (x : Triple) → TimestampsDiffer xs
     → All (λ y. y.timestamp ≢ x.timestamp) xs → TimestampsDiffer (xs ++ x ∷ [])
 TimestampsDiffer-push [] x differ others = (All-nil (λ y. y.timestamp ≢ x.timestamp), tt)
-TimestampsDiffer-push (z ∷ xs) x differ others =
-    ( All-push (λ y. y.timestamp ≢ z.timestamp) xs x differ.0
-        (λ same. All-head (λ y. y.timestamp ≢ x.timestamp) z xs others (sym same))
-    , TimestampsDiffer-push xs x differ.1 (All-tail (λ y. y.timestamp ≢ x.timestamp) z xs others) )
+TimestampsDiffer-push (z ∷ xs) x differ others = (
+  All-push (λ y. y.timestamp ≢ z.timestamp) xs x differ.0
+      (λ same. All-head (λ y. y.timestamp ≢ x.timestamp) z xs others (sym same)),
+  TimestampsDiffer-push xs x differ.1 (All-tail (λ y. y.timestamp ≢ x.timestamp) z xs others),
+)
 
 -- the same in the words of std, by which it outlasts a change of places
 abbrev same_timestamp : Triple → Triple → Bool
@@ -40,19 +41,20 @@ to_distinct [] differ = IsDistinct-from_apart same_timestamp [] (λ i j d below 
 to_distinct (x ∷ xs) differ =
     IsDistinct-cons same_timestamp x xs
     (recursion_from_All (λ y. same_timestamp x y ≡ false) xs
-      (All-weaker (λ y. y.timestamp ≢ x.timestamp) (λ y. same_timestamp x y ≡ false)
-        (λ y. not_equal x.timestamp y.timestamp) xs differ.0))
+    (All-weaker (λ y. y.timestamp ≢ x.timestamp) (λ y. same_timestamp x y ≡ false)
+    (λ y. not_equal x.timestamp y.timestamp) xs differ.0))
     (to_distinct xs differ.1)
 
 from_distinct : (xs : List Triple) → IsDistinct same_timestamp xs → TimestampsDiffer xs
 from_distinct [] distinct = tt
-from_distinct (x ∷ xs) distinct =
-    ( All-weaker (λ y. same_timestamp x y ≡ false) (λ y. y.timestamp ≢ x.timestamp)
-        (λ y apart same. eqb-false x.timestamp y.timestamp apart (sym same)) xs
-        (All-from_recursion (λ y. same_timestamp x y ≡ false) xs (IsDistinct-head same_timestamp x xs distinct))
-    , from_distinct xs (IsDistinct-tail same_timestamp x xs distinct) )
+from_distinct (x ∷ xs) distinct = (
+  All-weaker (λ y. same_timestamp x y ≡ false) (λ y. y.timestamp ≢ x.timestamp)
+      (λ y apart same. eqb-false x.timestamp y.timestamp apart (sym same)) xs
+      (All-from_recursion (λ y. same_timestamp x y ≡ false) xs (IsDistinct-head same_timestamp x xs distinct)),
+  from_distinct xs (IsDistinct-tail same_timestamp x xs distinct),
+)
 
 pub TimestampsDiffer-IsPermutation : (xs ys : List Triple) → IsPermutation xs ys → TimestampsDiffer xs → TimestampsDiffer ys
 TimestampsDiffer-IsPermutation xs ys moved differ =
     from_distinct ys (IsDistinct-IsPermutation same_timestamp (λ x y. nat_eq_equiv.symm x.timestamp y.timestamp) xs ys moved
-      (to_distinct xs differ))
+    (to_distinct xs differ))

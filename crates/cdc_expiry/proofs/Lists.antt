@@ -1,7 +1,7 @@
 -- What an index's contracts say of a set, where the set is known as that of a list.
-use Rattle.std.proofs.Common.{◌≡◌, ◌≢◌, ℕ, Bool, true, false, not, ◌&&◌, ◌==◌, cond, List, [], ◌∷◌, ◌++◌, length, filter, Option, Some, None, refl, sym, ap, ◌∙◌, ◌+◌, add-one, arith}
+use Rattle.std.proofs.Common.{◌≡◌, ◌≢◌, ℕ, Bool, true, false, not, ◌&&◌, ◌==◌, cond, List, [], ◌∷◌, ◌++◌, length, filter, Option, Some, None, refl, sym, ap, ◌∙◌, ◌⊎◌, ◌||◌, ◌+◌, inl, inr, add-one, arith}
 use Rattle.std.specs.Cmp.{both_ways, eq_by_cmp_equiv}
-use Rattle.std.specs.FinSet.{contains, empty, from_list, insert, retain, len, same_set, from_list_push, contains-empty, contains-from_list, contains-retain, len-empty, len-insert}
+use Rattle.std.specs.FinSet.{contains, empty, from_list, insert, retain, len, same_set, from_list_push, contains-empty, contains-from_list, contains-insert, contains-retain, len-empty, len-insert}
 use Rattle.std.specs.List.{All, Contains}
 use Rattle.std.specs.List.Sorted.{IsPermutation}
 use Rattle.std.specs.Option.{MatchOption}
@@ -29,6 +29,10 @@ contains-set_of xs x there =
 pub Contains-set_of : (xs : List Triple) (x : Triple) → contains (set_of xs) x ≡ true → Contains xs x
 Contains-set_of xs x there =
     Contains-from_any same_triple x xs (sym (contains-from_list triple_cmp_total xs x) ∙ there)
+
+-- the empty set has no triple
+pub empty_lacks : (s : Triples) (x : Triple) → s ≡ empty → contains s x ≡ true → ⊥
+empty_lacks s x is_empty there = let absent = contains-empty triple_cmp x in cc
 
 -- lists with the same triples have the same set
 pub set_of-same : (xs ys : List Triple)
@@ -111,6 +115,36 @@ IsNewTimestamp-set_of xs t others x there =
 pub others-set_of : (xs : List Triple) (t : ℕ) → IsNewTimestamp (set_of xs) t → All (λ x. x.timestamp ≢ t) xs
 others-set_of xs t new k d within = new _ (contains-set_of xs _ (Contains-get_or xs k d within))
 
+-- a triple of a set with z is z, or was there before
+pub added_or_there : (s : Triples) (z x : Triple) → contains (insert s z) x ≡ true → (x ≡ z) ⊎ (contains s x ≡ true)
+added_or_there s z x there =
+    elim (eq_by_cmp triple_cmp x z) as (λ b. eq_by_cmp triple_cmp x z ≡ b → (b || contains s x) ≡ true → (x ≡ z) ⊎ (contains s x ≡ true)) [
+      | true ↦ λ tied _. inl (same_triple x z tied)
+      | false ↦ λ _ before. inr before
+    ] refl (sym (contains-insert triple_cmp_total s z x) ∙ there)
+
+-- a triple of a list's set is the first of the list or in the rest
+first_or_rest : (z x : Triple) (xs : List Triple) → contains (set_of (z ∷ xs)) x ≡ true → (x ≡ z) ⊎ Contains xs x
+first_or_rest z x xs there =
+    elim (added_or_there (set_of xs) z x there) [ inl first ↦ inl first | inr later ↦ inr (Contains-set_of xs x later) ]
+
+-- the timestamp tells the triples of such a list apart
+pub TimestampsAreUnique-set_of : (xs : List Triple) → TimestampsDiffer xs → TimestampsAreUnique (set_of xs)
+TimestampsAreUnique-set_of [] differ x y there also same = absurd (empty_lacks (set_of []) x refl there)
+TimestampsAreUnique-set_of (z ∷ xs) differ x y there also same =
+    let timestamp : Triple → ℕ = λ v. v.timestamp in
+    elim (first_or_rest z x xs there) [
+      | inl x_first ↦ elim (first_or_rest z y xs also) [
+        | inl y_first ↦ x_first ∙ sym y_first
+        | inr y_later ↦ absurd (All-contains (λ v. v.timestamp ≢ z.timestamp) xs y differ.0 y_later (sym same ∙ ap timestamp x_first))
+      ]
+      | inr x_later ↦ elim (first_or_rest z y xs also) [
+        | inl y_first ↦ absurd (All-contains (λ v. v.timestamp ≢ z.timestamp) xs x differ.0 x_later (same ∙ ap timestamp y_first))
+        | inr y_later ↦
+            TimestampsAreUnique-set_of xs differ.1 x y (contains-set_of xs x x_later) (contains-set_of xs y y_later) same
+      ]
+    ]
+
 -- a triple of the list has its numbers in the set
 pub HasNumbers-set_of : (xs : List Triple) (x : Triple) → Contains xs x
     → HasNumbers (set_of xs) x.expires_at x.timestamp
@@ -123,10 +157,6 @@ IsLeastOf xs answer = MatchOption answer (xs ≡ []) (λ x. Contains xs x × All
 first_there : (x : Triple) (xs : List Triple) → contains (set_of (x ∷ xs)) x ≡ true
 first_there x xs = contains-set_of (x ∷ xs) x (0, omega arith, refl)
 
--- the empty set has no triple
-empty_lacks : (s : Triples) (x : Triple) → s ≡ empty → contains s x ≡ true → ⊥
-empty_lacks s x is_empty there = let absent = contains-empty triple_cmp x in cc
-
 pub IsLeastOf-set_of : (xs : List Triple) (answer : Option Triple) → IsLeast (set_of xs) answer → IsLeastOf xs answer
 IsLeastOf-set_of [] None least = refl
 IsLeastOf-set_of (x ∷ xs) None least = absurd (empty_lacks (set_of (x ∷ xs)) x least (first_there x xs))
@@ -135,9 +165,10 @@ IsLeastOf-set_of xs (Some x) least =
 
 pub IsLeast-set_of : (xs : List Triple) (answer : Option Triple) → IsLeastOf xs answer → IsLeast (set_of xs) answer
 IsLeast-set_of xs None least = ap set_of least
-IsLeast-set_of xs (Some x) least =
-    ( contains-set_of xs x least.0
-    , λ y there. All-contains (λ y. is_le (triple_cmp x y) ≡ true) xs y least.1 (Contains-set_of xs y there) )
+IsLeast-set_of xs (Some x) least = (
+  contains-set_of xs x least.0,
+  λ y there. All-contains (λ y. is_le (triple_cmp x y) ≡ true) xs y least.1 (Contains-set_of xs y there),
+)
 
 -- of two triples each at or before the other, the order doesn't tell
 neither_later : (x y : Triple) (there back : Ordering) → triple_cmp x y ≡ there → back ≡ ordering_reverse there

@@ -1,7 +1,8 @@
 //! The index itself.
 
-ghost use Rattle.std.specs.Prelude.{◌≡◌, ℕ, ◌+◌, ◌<◌, ◌≤◌, ◌↔◌, IsTrue, OnOk, OnErr, if◌then◌else◌};
-ghost use Rattle.std.specs.FinSet as set;
+ghost use Rattle.std.specs.Prelude.{◌≡◌};
+ghost use Rattle.std.specs.List.{position};
+ghost use Rattle.cdc_expiry.specs.Triples.{has_numbers};
 
 use crate::triple::Triple;
 use std::alloc::{AllocError, Global};
@@ -81,9 +82,7 @@ impl DueIndex {
         ensures triples { self.new.triples ≡ without self.old.triples expires_at timestamp }
         ensures room { self.new.room ≡ self.old.room + (if result then 1 else 0) }
     {
-        let place = self.triples.iter().position(|triple| triple.expires_at == expires_at
-            && triple.timestamp == timestamp);
-        match place {
+        match place_of(&self.triples, expires_at, timestamp) {
             Some(place) => {
                 self.triples.swap_remove(place);
                 true
@@ -128,4 +127,12 @@ impl DueIndex {
     {
         self.triples.is_empty()
     }
+}
+
+// The first place with this end and this timestamp.
+fn place_of(triples: &[Triple], expires_at: u64, timestamp: u64) -> Option<usize>
+    ensures { result ≡ position (has_numbers expires_at timestamp) triples.now }
+{
+    triples.iter().position(|triple| triple.expires_at == expires_at
+        && triple.timestamp == timestamp)
 }

@@ -2,6 +2,8 @@
 #![tactic(auto)]
 
 pub mod index;
+#[cfg(test)]
+mod tests;
 pub mod triple;
 
 pub use index::DueIndex;

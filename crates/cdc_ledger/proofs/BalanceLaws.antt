@@ -362,6 +362,19 @@ module _ (h : History) (e : Entry) (a : ℕ) (sound : IsSound h) (follows : Foll
       let both : Fits debit_side × Fits credit_side = taken_out (settles e.kind) refl in
       (omega (arith, both.0), omega (arith, both.1))
 
+-- what leaves the pending sums of the two accounts
+pub released_debit : (h : History) (e : Entry) → IsSound h → Follows h e → h.last < e.timestamp → (effect_of h e).released ≤ (balances h e.transfer.debit_account_id h.last).debits_pending
+released_debit h e sound follows after =
+    subst (λ b. (if b then (effect_of h e).released else 0) ≤ (balances h e.transfer.debit_account_id h.last).debits_pending)
+    (eq-eqb e.transfer.debit_account_id e.transfer.debit_account_id refl)
+    (released_fits h e e.transfer.debit_account_id sound follows after).0
+
+pub released_credit : (h : History) (e : Entry) → IsSound h → Follows h e → h.last < e.timestamp → (effect_of h e).released ≤ (balances h e.transfer.credit_account_id h.last).credits_pending
+released_credit h e sound follows after =
+    subst (λ b. (if b then (effect_of h e).released else 0) ≤ (balances h e.transfer.credit_account_id h.last).credits_pending)
+    (eq-eqb e.transfer.credit_account_id e.transfer.credit_account_id refl)
+    (released_fits h e e.transfer.credit_account_id sound follows after).1
+
 -- an account that isn't opened is named by no entry
 module _ (h : History) (a t : ℕ) (known : AllByRecursion (HasAccounts h) h.entries) (free : opened h a ≡ None) where
   other : (id : ℕ) → IsSome (opened h id) → (id == a) ≡ false

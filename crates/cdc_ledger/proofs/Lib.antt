@@ -20,6 +20,7 @@ pub mod Stored
 pub mod Answered
 pub mod Pulsed
 pub mod Legal
+pub mod Places
 pub mod DueOrder
 pub mod IndexTriples
 pub mod Pending

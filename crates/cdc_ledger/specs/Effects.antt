@@ -10,12 +10,8 @@ use Rattle.cdc_types.specs.declared.transfers.Transfer.{Transfer}
 use Rattle.cdc_ledger.specs.Filling.{stored}
 use Rattle.cdc_ledger.specs.History.{History}
 use Rattle.cdc_ledger.specs.Kinds.{holds, moves}
-
--- what leaves the pending sums, what joins them, and what joins the posted ones
-pub record Effect : Type 0 where
-  pub released : ℕ
-  pub held : ℕ
-  pub moved : ℕ
+-- what leaves the pending sums, what joins them, and what joins the posted ones: `released`, `held` and `moved`
+pub use Rattle.cdc_ledger.specs.declared.movements.Effect.{Effect}
 
 -- the pending transfer that an entry of this kind with this transfer brings to its end, if it does
 abbrev pub settled_in : EventKind → History → Transfer → Option Transfer

@@ -16,6 +16,7 @@ pub mod Accounts
 pub mod Effects
 pub mod Entries
 pub mod Follows
+pub mod Movements
 pub mod OpenTriples
 pub mod Parts
 pub mod Sound

@@ -46,6 +46,7 @@ pub record Settles (h : History) (e x : Entry) : Type 0 where
 
 -- what holds of the entry e of a history, and stays so whatever comes later
 pub record Stands (h : History) (e : Entry) : Type 0 where
+  pub apart : e.transfer.debit_account_id ≢ e.transfer.credit_account_id
   pub dated : stores e.kind ≡ true → e.transfer.timestamp ≡ e.timestamp
   pub timely : holds e.kind ≡ true → e.transfer.timeout ≢ 0 → expires_at e.transfer ≤ max_timestamp
   pub settling : settles e.kind ≡ true → (x : Entry) × Settles h e x
