@@ -212,7 +212,7 @@ none_of_three p t (e ∷ es) posted voided expired =
     (none_of_three p t es post.1 void.1 expire.1)
   where
     three : (seen a b c : Bool) → (seen && a) ≡ false → (seen && b) ≡ false → (seen && c) ≡ false → (seen && (a || b || c)) ≡ false
-    three true a b c p q r = or_from a (b || c) p (or_from b c q r)
+    three true a b c p q r = or_from (a || b) c (or_from a b p q) r
     three false a b c p q r = refl
 
 unresolved_from : (h : History) (p : Transfer) (t : ℕ) → some_by h t (λ x. posts x.kind x.transfer p) ≡ false → some_by h t (λ x. voids x.kind x.transfer p) ≡ false → is_over h p t ≡ false → resolved h p t ≡ false

@@ -11,16 +11,17 @@ use Rattle.cdc_ledger.specs.declared.errors.BatchError.TheVariants.{LedgerClosed
 use Rattle.cdc_ledger.specs.Answers.{Answers}
 use Rattle.cdc_ledger.specs.Balances.{balances}
 use Rattle.cdc_ledger.specs.Events.{account_now}
+use Rattle.cdc_ledger.specs.Fits.{BatchFits}
 use Rattle.cdc_ledger.specs.History.{History, Opened, opened}
 use Rattle.cdc_ledger.specs.Sound.{IsBounded}
 use Rattle.cdc_ledger.specs.Submit.{IsLegal}
 use Rattle.cdc_ledger.proofs.LegalLaws.{IsLegal-submit}
 use Rattle.cdc_ledger.proofs.OpenedLaws.{opened_id}
 
-module _ {A : Type 0} (shown : A → BatchResults) (h g : History) (b : Batch) where
+module _ {A : Type 0} (shown : A → BatchResults) (h g : History) (b : Batch) (fits : BatchFits b) where
   -- it stays legal, whatever the answer
   pub IsLegal-answered : (r : Result A BatchError) → IsLegal h → Answers shown h b r g → IsLegal g
-  IsLegal-answered (Ok results) legal answers = IsLegal-submit h g b (shown results) legal answers
+  IsLegal-answered (Ok results) legal answers = IsLegal-submit h g b (shown results) fits legal answers
   IsLegal-answered (Err LedgerClosed) legal answers = subst IsLegal (sym answers.1) legal
   IsLegal-answered (Err BatchTooLarge) legal answers = subst IsLegal (sym answers.1) legal
   IsLegal-answered (Err TimestampsExhausted) legal answers = subst IsLegal (sym answers.1) legal
