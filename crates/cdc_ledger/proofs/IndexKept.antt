@@ -26,11 +26,12 @@ use Rattle.cdc_ledger.specs.History.{Opened, History}
 use Rattle.cdc_ledger.specs.Kinds.{holds, stores, settles, settled_id}
 use Rattle.cdc_ledger.specs.OpenTriples.{index_of, is_open, opens, open_triples, triple_at, triples_from}
 use Rattle.cdc_ledger.specs.Sound.{IsSound, Settles}
+use Rattle.cdc_ledger.proofs.BalanceLaws.{stores-holds}
 use Rattle.cdc_ledger.proofs.DueLaws.{due-first, due-rest, is_due-ready, is_ready, length-due, ready_triples, ready_triples-filter}
 use Rattle.cdc_ledger.proofs.IndexLaws.{open_triples-later, open_triples-other, open_triples-pending, open_triples-settling}
 use Rattle.cdc_ledger.proofs.IndexTimes.{holds-open, others-open, TimestampsDiffer-open}
 use Rattle.cdc_ledger.proofs.IndexTriples.{All-triples_from, triples_from-All, IsOf, IsOf-contained}
-use Rattle.cdc_ledger.proofs.Pending.{All-around, All-from_around, Around, Around-both, Around-weaker, IsAmong, IsOther, IsOther-around, IsStored, IsStored-found, stored-among, stores-holds}
+use Rattle.cdc_ledger.proofs.Pending.{All-around, All-from_around, Around, Around-both, Around-weaker, IsAmong, IsOther, IsOther-around, IsStored, IsStored-found, stored-among}
 
 -- accounts, a close and a timestamp leave the set as it is
 pub index_of-later : (h : History) (accounts : List Opened) (t : ℕ) (closed : Bool) → IsSound h → h.last ≤ t

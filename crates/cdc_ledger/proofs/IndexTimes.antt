@@ -14,7 +14,7 @@ use Rattle.cdc_ledger.specs.Kinds.{holds, stores}
 use Rattle.cdc_ledger.specs.Balances.{resolved}
 use Rattle.cdc_ledger.proofs.Elements.{AllByRecursion-both, AllByRecursion-weaker}
 use Rattle.cdc_ledger.proofs.IndexTriples.{triples_from-All}
-use Rattle.cdc_ledger.proofs.Pending.{stores-holds}
+use Rattle.cdc_ledger.proofs.BalanceLaws.{stores-holds}
 
 -- an entry that has a triple holds its amount back
 pub holds-open : (h : History) (e : Entry) → is_open h e ≡ true → holds e.kind ≡ true
