@@ -48,6 +48,7 @@ settles-settled_by h e follows none = by_settling (settles e.kind) refl
     unnamed TwoPhasePosted r x is named none = let wrong : Some x.transfer ≡ None = sym (ap (option_map (λ (y : Entry). y.transfer)) named) ∙ none in cc
     unnamed TwoPhaseVoided r x is named none = let wrong : Some x.transfer ≡ None = sym (ap (option_map (λ (y : Entry). y.transfer)) named) ∙ none in cc
     unnamed TwoPhaseExpired r x is named none = cc
+
     by_settling : (b : Bool) → settles e.kind ≡ b → settles e.kind ≡ false
     by_settling true is =
         let unsettled = follows.settling is in
@@ -92,6 +93,7 @@ IsSettled-settled_by h e p follows some =
     settling TwoPhasePosted r some = refl
     settling TwoPhaseVoided r some = refl
     settling TwoPhaseExpired r some = refl
+
     named : (k : EventKind) (r : Transfer) (x : Entry) → settles k ≡ true → stored h (settled_id k r) ≡ Some x → (k ≡ TwoPhaseExpired → r ≡ x.transfer)
         → settled_in k h r ≡ Some p → x.transfer ≡ p
     named SinglePhase r x is there shown some = cc
@@ -245,8 +247,8 @@ module _ (h : History) (now : ℕ) (t : Triple) (sound : IsSound h) (of : IsOf (
 pub IsNext-least : (h : History) (now : ℕ) (t : Triple) → IsSound h → IsLeast (due_at (index_of h) now) (Some t) → IsNext h now t
 IsNext-least h now t sound least =
     let of_list : IsLeastOf (ready_triples h now) (Some t) =
-        subst (λ xs. IsLeastOf xs (Some t)) (ready_triples-filter h now)
-        (IsLeastOf-set_of (filter (λ u. nat_le u.expires_at now) (open_triples h)) (Some t)
-        (subst (λ s. IsLeast s (Some t)) (due_at-set_of (open_triples h) now) least)) in
+    subst (λ xs. IsLeastOf xs (Some t)) (ready_triples-filter h now)
+    (IsLeastOf-set_of (filter (λ u. nat_le u.expires_at now) (open_triples h)) (Some t)
+    (subst (λ s. IsLeast s (Some t)) (due_at-set_of (open_triples h) now) least)) in
     IsNext-of h now t sound (IsOf-contained (is_ready h now) 0 h.entries t of_list.0)
     (recursion_from_All (λ u. is_le (triple_cmp t u) ≡ true) (ready_triples h now) of_list.1)

@@ -61,9 +61,11 @@ module _ (h : History) (e : Entry) (sound : IsSound h) (follows : Follows h e) (
 
   old_alike : (es : List Entry) → AllByRecursion (λ y. is_open (pushed h e) y ≡ is_open h y) es
   old_alike [] = tt
-  old_alike (y ∷ es) =
-      (is_open-then h e y sound after
-      ∙ ap (λ b. open_by b y) (or_none (resolved h y.transfer h.last) (ends e y) (ends_none y)), old_alike es)
+  old_alike (y ∷ es) = (
+    is_open-then h e y sound after
+        ∙ ap (λ b. open_by b y) (or_none (resolved h y.transfer h.last) (ends e y) (ends_none y)),
+    old_alike es,
+  )
 
   own : is_open (pushed h e) e ≡ opens e
   own = is_open-then h e e sound after
@@ -121,14 +123,14 @@ module _ (h : History) (e x : Entry) (sound : IsSound h) (after : h.last < e.tim
       (Around-weaker (λ y. stores y.kind ≡ true → IsOther x y) IsNamed another it.among.front it.among.back
       (IsOther-around h x it.among sound it.stores))
 
-
   remains : (es : List Entry) → AllByRecursion IsNamed es
       → AllByRecursion (λ y. is_open (pushed h e) y ≡ (is_open h y && not (y.transfer.timestamp == x.transfer.timestamp))) es
   remains [] all = tt
-  remains (y ∷ es) all =
-      (is_open-then h e y sound after
-      ∙ taken_out (holds y.kind) (not (y.transfer.timeout == 0)) (resolved h y.transfer h.last) (ends e y) (y.transfer.timestamp == x.transfer.timestamp) all.0,
-      remains es all.1)
+  remains (y ∷ es) all = (
+    is_open-then h e y sound after
+        ∙ taken_out (holds y.kind) (not (y.transfer.timeout == 0)) (resolved h y.transfer h.last) (ends e y) (y.transfer.timestamp == x.transfer.timestamp) all.0,
+    remains es all.1,
+  )
 
   not_own : is_open (pushed h e) e ≡ false
   not_own = ap (λ b. b && not (e.transfer.timeout == 0) && not (resolved (pushed h e) e.transfer e.timestamp)) (holds-settles e.kind is)
