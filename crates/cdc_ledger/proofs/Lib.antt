@@ -14,12 +14,7 @@ pub mod AcceptedLaws
 pub mod PulseLaws
 pub mod KeptLaws
 pub mod Found
-pub mod Single
-pub mod Refused
 pub mod Kept
-pub mod Stored
-pub mod Answered
-pub mod Pulsed
 pub mod Legal
 pub mod Places
 pub mod DueOrder
@@ -29,3 +24,5 @@ pub mod IndexLaws
 pub mod DueLaws
 pub mod IndexTimes
 pub mod IndexKept
+pub mod Judged
+pub mod Recorded
