@@ -8,7 +8,7 @@ use Rattle.std.proofs.lemmas.List.Elements.{filter-append}
 use Rattle.cdc_expiry.specs.declared.triple.Triple.{Triple}
 use Rattle.cdc_types.specs.declared.events.Entry.{Entry}
 use Rattle.cdc_types.specs.declared.transfers.Transfer.{Transfer}
-use Rattle.cdc_ledger.specs.Balances.{resolves, resolved}
+use Rattle.cdc_ledger.specs.Balances.{resolved}
 use Rattle.cdc_ledger.specs.Changes.{pushed, expiry}
 use Rattle.cdc_ledger.specs.Due.{is_due, is_sooner, in_order_of_end, due}
 use Rattle.cdc_ledger.specs.Filling.{expires_at}
@@ -16,9 +16,10 @@ use Rattle.cdc_ledger.specs.History.{History}
 use Rattle.cdc_ledger.specs.Kinds.{holds, stores}
 use Rattle.cdc_ledger.specs.OpenTriples.{is_open, triples_from, open_triples}
 use Rattle.cdc_ledger.specs.Sound.{IsSound}
+use Rattle.cdc_ledger.proofs.BalanceLaws.{resolved_then, stores-holds}
 use Rattle.cdc_ledger.proofs.DueOrder.{IsSoonest, in_order-soonest, length-in_order}
 use Rattle.cdc_ledger.proofs.IndexTriples.{filter-triples_from, length-triples_from}
-use Rattle.cdc_ledger.proofs.Pending.{Around, Around-weaker, IsAmong, IsOther, IsOther-around, resolved-then, stores-holds}
+use Rattle.cdc_ledger.proofs.Pending.{Around, Around-weaker, IsAmong, IsOther, IsOther-around}
 
 filter_same : (p q : Entry → Bool) (es : List Entry) → AllByRecursion (λ e. p e ≡ q e) es → filter p es ≡ filter q es
 filter_same p q [] agree = refl
@@ -36,7 +37,7 @@ ends_last true true false false = refl
 ends_last true false ended done = refl
 ends_last false timed ended done = refl
 
-is_due-ready : (h : History) (now : ℕ) (e : Entry) → is_due h now e ≡ is_ready h now e
+pub is_due-ready : (h : History) (now : ℕ) (e : Entry) → is_due h now e ≡ is_ready h now e
 is_due-ready h now e =
     ends_last (holds e.kind) (not (e.transfer.timeout == 0)) (nat_le (expires_at e.transfer) now) (resolved h e.transfer h.last)
 
@@ -110,7 +111,7 @@ module _ (h : History) (now : ℕ) (e : Entry) (among : IsAmong h.entries e) whe
     due_by done y = holds y.kind && not (y.transfer.timeout == 0) && nat_le (expires_at y.transfer) now && not done
 
     is_due-then : (y : Entry) → is_due later now y ≡ due_by (resolved h y.transfer h.last || (e.transfer.id == y.transfer.id)) y
-    is_due-then y = ap (λ b. due_by b y) (resolved-then h (expiry e.transfer t) y.transfer sound.past after)
+    is_due-then y = ap (λ b. due_by b y) (resolved_then h (expiry e.transfer t) y.transfer sound.past after)
 
     unchanged : (held timed ended done now : Bool) → (held ≡ true → now ≡ false)
         → (held && timed && ended && not (done || now)) ≡ (held && timed && ended && not done)

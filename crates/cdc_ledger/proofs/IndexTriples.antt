@@ -73,6 +73,19 @@ All-triples_from Q P gives test n (e ∷ es) all =
     parts true x xs all = (λ _. all.0, all.1)
     parts false x xs all = (λ wrong. cc, all)
 
+-- and the other way round
+pub triples_from-All : (P : Entry → Type 0) (Q : Triple → Type 0) → ((n : ℕ) (e : Entry) → P e → Q (triple_at n e))
+    → (test : Entry → Bool) (n : ℕ) (es : List Entry) → AllByRecursion (λ e. test e ≡ true → P e) es
+    → AllByRecursion Q (triples_from test n es)
+triples_from-All P Q gives test n [] all = tt
+triples_from-All P Q gives test n (e ∷ es) all =
+    joined (test e) (λ passes. gives n e (all.0 passes)) (triples_from-All P Q gives test (n + 1) es all.1)
+  where
+    joined : (b : Bool) → (b ≡ true → Q (triple_at n e)) → AllByRecursion Q (triples_from test (n + 1) es)
+        → AllByRecursion Q (if b then triple_at n e ∷ triples_from test (n + 1) es else triples_from test (n + 1) es)
+    joined true own rest = (own refl, rest)
+    joined false own rest = rest
+
 -- the entry of a triple, between those before it and those after it
 pub record IsOf (test : Entry → Bool) (n : ℕ) (es : List Entry) (x : Triple) : Type 0 where
   pub front : List Entry

@@ -28,3 +28,5 @@ pub mod IndexTriples
 pub mod Pending
 pub mod IndexLaws
 pub mod DueLaws
+pub mod IndexTimes
+pub mod IndexKept

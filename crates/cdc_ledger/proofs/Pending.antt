@@ -1,21 +1,16 @@
--- The entries of a sound history: which one stored a transfer, that no two have one id or one timestamp, and what
--- brings a pending transfer to its end.
-use Rattle.std.proofs.Common.{ℕ, ◌<◌, ◌≤◌, Bool, true, false, Option, Some, None, List, [], ◌∷◌, ◌++◌, ◌≡◌, ◌≢◌, refl, ap, ap₂, sym, subst, ◌∙◌, arith, le-leb}
-use Rattle.std.specs.Prelude.{◌==◌, ◌&&◌, ◌||◌, nat_le, find, map, filter, if◌then◌else◌}
-use Rattle.std.specs.List.{AllByRecursion, list_any}
-use Rattle.std.proofs.lemmas.Bool.{and_from, and_parts, and_right, eqb-true, eq-eqb, ne_eqb}
-use Rattle.std.proofs.lemmas.List.Folds.{list_any-append}
+-- The entries of a sound history: where one of them stands among the others, and that no two stored one id or have one
+-- timestamp.
+use Rattle.std.proofs.Common.{ℕ, ◌<◌, ◌≤◌, Bool, true, false, Option, Some, List, [], ◌∷◌, ◌++◌, ◌≡◌, ◌≢◌, refl, ap, sym, subst, ◌∙◌, arith}
+use Rattle.std.specs.Prelude.{◌==◌, ◌&&◌, find, if◌then◌else◌}
+use Rattle.std.specs.List.{AllByRecursion}
+use Rattle.std.proofs.lemmas.Bool.{and_from, and_parts, and_right, both_ways, eqb-true, eqb-false, eq-eqb, ne_eqb}
 use Rattle.cdc_types.specs.declared.events.Entry.{Entry}
-use Rattle.cdc_types.specs.declared.events.EventKind.{EventKind}
-use Rattle.cdc_types.specs.declared.events.EventKind.TheVariants.{SinglePhase, TwoPhasePending, TwoPhasePosted, TwoPhaseVoided, TwoPhaseExpired}
-use Rattle.cdc_types.specs.declared.transfers.Transfer.{Transfer}
-use Rattle.cdc_ledger.specs.Balances.{resolves, resolved}
-use Rattle.cdc_ledger.specs.Changes.{pushed}
 use Rattle.cdc_ledger.specs.Filling.{stored}
 use Rattle.cdc_ledger.specs.History.{History}
-use Rattle.cdc_ledger.specs.Kinds.{holds, stores, settles, settled_id, posts, voids, expires}
-use Rattle.cdc_ledger.specs.Sound.{AreApart, IsSound, RiseFrom, Settles, Stands, stored_ids}
-use Rattle.cdc_ledger.proofs.Elements.{AllByRecursion-both, AllByRecursion-weaker, list_any_same}
+use Rattle.cdc_ledger.specs.Kinds.{stores}
+use Rattle.cdc_ledger.specs.Sound.{AreApart, IsSound, RiseFrom, Stands, stored_ids}
+use Rattle.cdc_ledger.proofs.Elements.{AllByRecursion-both, AllByRecursion-weaker}
+use Rattle.cdc_ledger.proofs.StoredLaws.{apart-cons, is_stored, stored_each}
 
 -- the entry is one of the list, with these before it and those after it
 pub record IsAmong (es : List Entry) (e : Entry) : Type 0 where
@@ -109,91 +104,37 @@ IsStored-found h id e found =
     let both = and_parts (stores e.kind) (e.transfer.id == id) first.passes in
     record { among = first.among; stores = both.0; same_id = eqb-true e.transfer.id id both.1 }
 
-find_first : (test : Entry → Bool) (e : Entry) (front back : List Entry) → AllByRecursion (λ y. test y ≡ false) front → test e ≡ true
-    → find test (front ++ e ∷ back) ≡ Some e
-find_first test e [] back none passes = ap (λ b. if b then Some e else find test back) passes
-find_first test e (x ∷ front) back none passes =
-    ap (λ b. if b then Some x else find test (front ++ e ∷ back)) none.0 ∙ find_first test e front back none.1 passes
-
--- what pends was stored
-pub stores-holds : (k : EventKind) → holds k ≡ true → stores k ≡ true
-stores-holds SinglePhase pending = cc
-stores-holds TwoPhasePending pending = refl
-stores-holds TwoPhasePosted pending = cc
-stores-holds TwoPhaseVoided pending = cc
-stores-holds TwoPhaseExpired pending = cc
-
--- the ids that were stored, one entry at a time
-apart_cons : (e : Entry) (es : List Entry) → AreApart (stored_ids (e ∷ es))
-    → (stores e.kind ≡ true → AllByRecursion (λ n. e.transfer.id ≢ n) (stored_ids es)) × AreApart (stored_ids es)
-apart_cons e es = parts (stores e.kind) (filter (λ x. stores x.kind) es)
-  where
-    parts : (b : Bool) (xs : List Entry) → AreApart (map (λ x. x.transfer.id) (if b then e ∷ xs else xs))
-        → (b ≡ true → AllByRecursion (λ n. e.transfer.id ≢ n) (map (λ x. x.transfer.id) xs)) × AreApart (map (λ x. x.transfer.id) xs)
-    parts true xs apart = (λ _. apart.0, apart.1)
-    parts false xs apart = (λ wrong. cc, apart)
-
-all_of_ids : (P : ℕ → Type 0) (es : List Entry) → AllByRecursion P (stored_ids es)
-    → AllByRecursion (λ y. stores y.kind ≡ true → P y.transfer.id) es
-all_of_ids P [] all = tt
-all_of_ids P (e ∷ es) all =
-    let both = parts (stores e.kind) (filter (λ x. stores x.kind) es) all in
-    (both.0, all_of_ids P es both.1)
-  where
-    parts : (b : Bool) (xs : List Entry) → AllByRecursion P (map (λ x. x.transfer.id) (if b then e ∷ xs else xs))
-        → (b ≡ true → P e.transfer.id) × AllByRecursion P (map (λ x. x.transfer.id) xs)
-    parts true xs all = (λ _. all.0, all.1)
-    parts false xs all = (λ wrong. cc, all)
-
 -- an entry that stored a transfer of another id, if it stored one
-abbrev pub HasOtherId : Entry → Entry → Type 0
-HasOtherId e y = stores y.kind ≡ true → y.transfer.id ≢ e.transfer.id
+abbrev HasOtherId : Entry → Entry → Type 0
+HasOtherId e y = is_stored e.transfer.id y ≡ false
+
+id_turned : (stored : Bool) (m n : ℕ) → (true && (m == n)) ≡ false → (stored && (n == m)) ≡ false
+id_turned stored m n other = and_right stored (n == m) (ne_eqb n m (λ same. eqb-false m n other (sym same)))
 
 other_ids : (e : Entry) (front back : List Entry) → stores e.kind ≡ true → AreApart (stored_ids (front ++ e ∷ back))
     → Around (HasOtherId e) front back
-other_ids e [] back stored apart = record {
-  before = tt;
-  after = turned back (all_of_ids (λ n. e.transfer.id ≢ n) back ((apart_cons e back apart).0 stored));
-}
+other_ids e [] back is apart = record { before = tt; after = (apart-cons e back apart).1 is }
+other_ids e (x ∷ front) back is apart =
+    let both = apart-cons x (front ++ e ∷ back) apart in
+    let rest = other_ids e front back is both.0 in
+    record { before = (turned (stores x.kind) refl both.1, rest.before); after = rest.after }
   where
-    turned : (es : List Entry) → AllByRecursion (λ y. stores y.kind ≡ true → e.transfer.id ≢ y.transfer.id) es → AllByRecursion (HasOtherId e) es
-    turned [] all = tt
-    turned (y ∷ es) all = (λ is same. all.0 is (sym same), turned es all.1)
-other_ids e (x ∷ front) back stored apart =
-    let both = apart_cons x (front ++ e ∷ back) apart in
-    let rest = other_ids e front back stored both.1 in
-    record {
-      before = (
-        λ is. here (λ y. stores y.kind ≡ true → x.transfer.id ≢ y.transfer.id) e front back
-            (all_of_ids (λ n. x.transfer.id ≢ n) (front ++ e ∷ back) (both.0 is)) stored,
-        rest.before,
-      );
-      after = rest.after;
-    }
+    turned : (b : Bool) → stores x.kind ≡ b → (stores x.kind ≡ true → AllByRecursion (HasOtherId x) (front ++ e ∷ back)) → HasOtherId e x
+    turned true stored others =
+        let other : (stores e.kind && (e.transfer.id == x.transfer.id)) ≡ false = here (HasOtherId x) e front back (others stored) in
+        id_turned (stores x.kind) e.transfer.id x.transfer.id (ap (λ b. b && (e.transfer.id == x.transfer.id)) (sym is) ∙ other)
+    turned false stored others = ap (λ b. b && (x.transfer.id == e.transfer.id)) stored
 
 -- no other entry stored a transfer of this id
-pub HasOtherId-around : (h : History) (e : Entry) (among : IsAmong h.entries e) → AreApart (stored_ids h.entries) → stores e.kind ≡ true
+HasOtherId-around : (h : History) (e : Entry) (among : IsAmong h.entries e) → AreApart (stored_ids h.entries) → stores e.kind ≡ true
     → Around (HasOtherId e) among.front among.back
-HasOtherId-around h e among apart stored =
-    other_ids e among.front among.back stored (subst (λ es. AreApart (stored_ids es)) among.split apart)
-
-others_fail : (e : Entry) (es : List Entry) → AllByRecursion (HasOtherId e) es
-    → AllByRecursion (λ y. (stores y.kind && (y.transfer.id == e.transfer.id)) ≡ false) es
-others_fail e [] all = tt
-others_fail e (y ∷ es) all =
-    (fails (stores y.kind) refl, others_fail e es all.1)
-  where
-    fails : (b : Bool) → stores y.kind ≡ b → (b && (y.transfer.id == e.transfer.id)) ≡ false
-    fails true is = ne_eqb y.transfer.id e.transfer.id (all.0 is)
-    fails false is = refl
+HasOtherId-around h e among apart is =
+    other_ids e among.front among.back is (subst (λ es. AreApart (stored_ids es)) among.split apart)
 
 -- each entry that stored a transfer is the one that is found by its id
 pub stored-among : (h : History) (e : Entry) → IsSound h → IsAmong h.entries e → stores e.kind ≡ true → stored h e.transfer.id ≡ Some e
 stored-among h e sound among is =
-    ap (find (λ y. stores y.kind && (y.transfer.id == e.transfer.id))) among.split
-    ∙ find_first (λ y. stores y.kind && (y.transfer.id == e.transfer.id)) e among.front among.back
-    (others_fail e among.front (HasOtherId-around h e among sound.once is).before)
-    (and_from (stores e.kind) (e.transfer.id == e.transfer.id) is (eq-eqb e.transfer.id e.transfer.id refl))
+    All-among (λ y. stores y.kind ≡ true → stored h y.transfer.id ≡ Some y) h.entries e among (stored_each h sound.once) is
 
 all_later : (t : ℕ) (e : Entry) (es : List Entry) → t ≤ e.timestamp → RiseFrom e.timestamp es
     → AllByRecursion (λ y. y.timestamp ≢ t) es
@@ -226,13 +167,14 @@ pub record IsOther (e y : Entry) : Type 0 where
 -- so it is with every other entry of a sound history
 pub IsOther-around : (h : History) (e : Entry) (among : IsAmong h.entries e) → IsSound h → stores e.kind ≡ true
     → Around (λ y. stores y.kind ≡ true → IsOther e y) among.front among.back
-IsOther-around h e among sound is =
+IsOther-around h e among sound stored =
+    let own : e.transfer.timestamp ≡ e.timestamp = (All-among (Stands h) h.entries e among sound.standing).dated stored in
     Around-weaker (λ y. HasOtherId e y × (y.timestamp ≢ e.timestamp) × Stands h y) (λ y. stores y.kind ≡ true → IsOther e y)
-    (λ y known is_stored. record {
-      id = known.0 is_stored;
-      time = λ same. known.1 (sym (known.2.dated is_stored) ∙ (same ∙ (All-among (Stands h) h.entries e among sound.standing).dated is));
+    (λ y known is. record {
+      id = λ same. both_ways (is_stored e.transfer.id y) known.0 (and_from (stores y.kind) (y.transfer.id == e.transfer.id) is (eq-eqb y.transfer.id e.transfer.id same));
+      time = λ same. known.1 (sym (known.2.dated is) ∙ (same ∙ own));
     }) among.front among.back
-    (three among.front among.back (HasOtherId-around h e among sound.once is) (other_times-around h e among sound.rising)
+    (three among.front among.back (HasOtherId-around h e among sound.once stored) (other_times-around h e among sound.rising)
     (All-around (Stands h) h.entries e among sound.standing))
   where
     three : (front back : List Entry) → Around (HasOtherId e) front back → Around (λ y. y.timestamp ≢ e.timestamp) front back → Around (Stands h) front back
@@ -242,75 +184,3 @@ IsOther-around h e among sound is =
         (λ y known. (known.0, known.1.0, known.1.1)) front back
         (Around-both (HasOtherId e) (λ y. (y.timestamp ≢ e.timestamp) × Stands h y) front back ids
         (Around-both (λ y. y.timestamp ≢ e.timestamp) (Stands h) front back times standing))
-
-or_no : (b : Bool) → (b || false) ≡ b
-or_no true = refl
-or_no false = refl
-
-or_no_others : (b : Bool) → (b || false || false) ≡ b
-or_no_others true = refl
-or_no_others false = refl
-
--- what settles a pending transfer resolves the one of its id, and nothing else resolves any
-pub resolves-settling : (e : Entry) (p : Transfer) → settles e.kind ≡ true → resolves p e ≡ (settled_id e.kind e.transfer == p.id)
-resolves-settling e p = by_kind e.kind e.transfer
-  where
-    by_kind : (k : EventKind) (x : Transfer) → settles k ≡ true → (posts k x p || voids k x p || expires k x p) ≡ (settled_id k x == p.id)
-    by_kind SinglePhase x is = cc
-    by_kind TwoPhasePending x is = cc
-    by_kind TwoPhasePosted x is = or_no_others (x.pending_id == p.id)
-    by_kind TwoPhaseVoided x is = or_no (x.pending_id == p.id)
-    by_kind TwoPhaseExpired x is = refl
-
-pub resolves-none : (e : Entry) (p : Transfer) → settles e.kind ≡ false → resolves p e ≡ false
-resolves-none e p = by_kind e.kind e.transfer
-  where
-    by_kind : (k : EventKind) (x : Transfer) → settles k ≡ false → (posts k x p || voids k x p || expires k x p) ≡ false
-    by_kind SinglePhase x is = refl
-    by_kind TwoPhasePending x is = refl
-    by_kind TwoPhasePosted x is = cc
-    by_kind TwoPhaseVoided x is = cc
-    by_kind TwoPhaseExpired x is = cc
-
-any_none : (test : Entry → Bool) (es : List Entry) → AllByRecursion (λ e. test e ≡ false) es → list_any test es ≡ false
-any_none test [] none = refl
-any_none test (e ∷ es) none = ap₂ (λ a b. a || b) none.0 (any_none test es none.1)
-
--- at any moment from the last one on the same is resolved
-pub resolved-later : (h : History) (p : Transfer) (t : ℕ) → AllByRecursion (λ e. e.timestamp ≤ h.last) h.entries → h.last ≤ t
-    → resolved h p t ≡ resolved h p h.last
-resolved-later h p t past later =
-    list_any_same (λ e. nat_le e.timestamp t && resolves p e) (λ e. nat_le e.timestamp h.last && resolves p e) h.entries
-    (AllByRecursion-weaker (λ e. e.timestamp ≤ h.last)
-    (λ e. (nat_le e.timestamp t && resolves p e) ≡ (nat_le e.timestamp h.last && resolves p e))
-    (λ e within. ap (λ b. b && resolves p e) (le-leb e.timestamp t (omega arith) ∙ sym (le-leb e.timestamp h.last within)))
-    h.entries past)
-
--- after one more entry what was resolved stays so, and it may resolve one
-pub resolved-then : (h : History) (e : Entry) (p : Transfer) → AllByRecursion (λ x. x.timestamp ≤ h.last) h.entries → h.last < e.timestamp
-    → resolved (pushed h e) p e.timestamp ≡ (resolved h p h.last || resolves p e)
-resolved-then h e p past after =
-    list_any-append (λ x. nat_le x.timestamp e.timestamp && resolves p x) h.entries (e ∷ [])
-    ∙ ap₂ (λ a b. a || b) (resolved-later h p e.timestamp past (omega arith))
-    (or_no (nat_le e.timestamp e.timestamp && resolves p e)
-    ∙ ap (λ b. b && resolves p e) (le-leb e.timestamp e.timestamp (omega arith)))
-
--- a transfer whose id was never stored is resolved by nothing
-resolves_unknown : (h : History) (p : Transfer) → stored h p.id ≡ None → (e : Entry) → Stands h e → resolves p e ≡ false
-resolves_unknown h p fresh e stands = by_settling (settles e.kind) refl
-  where
-    by_settling : (b : Bool) → settles e.kind ≡ b → resolves p e ≡ false
-    by_settling true is =
-        let settled = stands.settling is in
-        resolves-settling e p is ∙ ne_eqb (settled_id e.kind e.transfer) p.id
-        (λ same. none_some settled.0 (sym fresh ∙ (ap (stored h) (sym same) ∙ settled.1.named)))
-      where
-        none_some : (x : Entry) → None ≡ Some x → ⊥
-        none_some x wrong = cc
-    by_settling false is = resolves-none e p is
-
-pub resolved-fresh : (h : History) (p : Transfer) (t : ℕ) → AllByRecursion (Stands h) h.entries → stored h p.id ≡ None → resolved h p t ≡ false
-resolved-fresh h p t standing fresh =
-    any_none (λ e. nat_le e.timestamp t && resolves p e) h.entries
-    (AllByRecursion-weaker (Stands h) (λ e. (nat_le e.timestamp t && resolves p e) ≡ false)
-    (λ e stands. and_right (nat_le e.timestamp t) (resolves p e) (resolves_unknown h p fresh e stands)) h.entries standing)

@@ -1,7 +1,10 @@
--- What an index of ends has: a triple for each pending transfer with a timeout that nothing brought to its end yet.
+-- What an index of ends has: a triple for each pending transfer with a timeout that nothing brought to its end yet (for
+-- private contracts and the laws).
 use Rattle.std.specs.Prelude.{ℕ, ◌+◌, Bool, ◌==◌, ◌&&◌, not, List, [], ◌∷◌, if◌then◌else◌}
+use Rattle.std.specs.FinSet.{from_list}
 use Rattle.cdc_types.specs.declared.events.Entry.{Entry}
 use Rattle.cdc_expiry.specs.declared.triple.Triple.{Triple}
+use Rattle.cdc_expiry.specs.Triples.{Triples}
 use Rattle.cdc_ledger.specs.History.{History}
 use Rattle.cdc_ledger.specs.Kinds.{holds}
 use Rattle.cdc_ledger.specs.Balances.{resolved}
@@ -25,3 +28,11 @@ triples_from test place (e ∷ es) =
 -- the triples of a history, in the order of its entries
 abbrev pub open_triples : History → List Triple
 open_triples h = triples_from (is_open h) 0 h.entries
+
+-- the set of them, which says nothing of an order
+abbrev pub index_of : History → Triples
+index_of h = from_list (open_triples h)
+
+-- the entry has a triple of its own until something brings its transfer to its end
+abbrev pub opens : Entry → Bool
+opens e = holds e.kind && not (e.transfer.timeout == 0)
