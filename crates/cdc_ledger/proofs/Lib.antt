@@ -11,6 +11,7 @@ pub mod BatchLaws
 pub mod LegalLaws
 pub mod SoundLaws
 pub mod AcceptedLaws
+pub mod OtherLaws
 pub mod PulseLaws
 pub mod KeptLaws
 pub mod Found
