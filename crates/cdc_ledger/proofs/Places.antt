@@ -1,8 +1,8 @@
 -- Places of accounts, and what a change of the two accounts at two places makes of the list.
-use Rattle.std.proofs.Common.{ℕ, ◌+◌, ◌-◌, ◌<◌, ◌≤◌, ◌≡◌, ◌≢◌, Bool, true, false, cond, List, [], ◌∷◌, Option, Some, None, length, map, get_or, set, refl, ap, ap₂, sym, ◌∙◌, subst, arith, ltb-true, ltb-false}
+use Rattle.std.proofs.Common.{ℕ, ◌+◌, ◌-◌, ◌<◌, ◌≤◌, ◌≡◌, ◌≢◌, Bool, true, false, cond, List, [], ◌∷◌, Option, Some, None, length, map, get_or, set, refl, ap, ap₂, sym, ◌∙◌, subst, arith}
 use Rattle.std.specs.Prelude.{◌==◌, nat_lt, find, position, All, unwrap_or, option_map, if◌then◌else◌}
 use Rattle.std.specs.List.{AllByRecursion, AllPairs, position_or_len, slice_get}
-use Rattle.std.proofs.lemmas.Bool.{eqb-true, eq-eqb, ne_eqb, eqb-false, false≢true}
+use Rattle.std.proofs.lemmas.Bool.{ltb-true, ltb-false, eqb-true, eq-eqb, ne_eqb, eqb-false, false≢true}
 use Rattle.std.proofs.lemmas.List.{ext_get_or, length-set, length-map, get_or-map, get_or-set_same, get_or-set_other}
 use Rattle.std.proofs.lemmas.List.Folds.{find_at}
 use Rattle.std.proofs.lemmas.List.Elements.{All-nil, All-cons}
@@ -58,7 +58,7 @@ place-only accounts id place k d unique at inside other =
     (get_or-map (λ (a : Account). a.id) accounts place d 0 (place-inside accounts id place d at)
     ∙ place-id accounts id place d at ∙ sym same ∙ sym (get_or-map (λ (a : Account). a.id) accounts k d 0 inside)) in
     elim (nat_lt k place) as (λ b. nat_lt k place ≡ b → (get_or accounts k d).id ≢ id) [
-      | true ↦ λ e. before (ltb→lt k place e)
+      | true ↦ λ e. before (ltb-true k place e)
       | false ↦ λ e. after (let past : place ≤ k = ltb-false k place e in omega arith)
     ]
     refl

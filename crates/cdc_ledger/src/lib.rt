@@ -3,6 +3,7 @@
 
 mod accounts;
 pub mod errors;
+mod judging;
 pub mod ledger;
 mod movements;
 mod settling;

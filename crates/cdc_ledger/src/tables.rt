@@ -1,31 +1,36 @@
 //! What the ledger keeps, and the steps that it takes.
 
-ghost use Rattle.std.specs.Prelude.{◌≡◌, ℕ, ◌+◌, ◌≤◌, ◌<◌, true, None, option_map, [], length, vec_capacity, OnOk, IfErr};
+ghost use Rattle.std.specs.Prelude.{◌≡◌, ℕ, ◌+◌, ◌≤◌, ◌<◌, true, false, None, Some, option_map, [], length, vec_capacity, Contains, OnOk, IfErr, IsSomeAnd, MatchResult};
+ghost use Rattle.std.specs.FinSet as set;
+ghost use Rattle.std.specs.List.{slice_get};
 ghost use Rattle.std.specs.Option.{option_copied};
 ghost use Rattle.cdc_types.specs.Features.{features};
 ghost use Rattle.cdc_types.specs.Lines.{first_line};
-ghost use Rattle.cdc_ledger.specs.Accounts.{opened_by};
 ghost use Rattle.cdc_ledger.specs.Answers.{Answers};
-ghost use Rattle.cdc_ledger.specs.Changes.{pushed, with_account, timed};
-ghost use Rattle.cdc_ledger.specs.Entries.{single_entry};
+ghost use Rattle.cdc_ledger.specs.Changes.{pushed, with_account, timed, expiry};
+ghost use Rattle.cdc_ledger.specs.Due.{due};
+ghost use Rattle.cdc_ledger.specs.Effects.{settled_by};
 ghost use Rattle.cdc_ledger.specs.Events.{account_now};
 ghost use Rattle.cdc_ledger.specs.Filling.{stored};
+ghost use Rattle.cdc_ledger.specs.Follows.{Follows};
 ghost use Rattle.cdc_ledger.specs.History.{empty_history, opened};
-ghost use Rattle.cdc_ledger.specs.Submit.{accounts_from, after_account, after_transfer, base as first_timestamp, refusal_at, transfers_from};
+ghost use Rattle.cdc_ledger.specs.Kinds as kinds;
+ghost use Rattle.cdc_ledger.specs.Movements.{IsMovement};
+ghost use Rattle.cdc_ledger.specs.OpenTriples.{open_triples};
+ghost use Rattle.cdc_ledger.specs.Sound.{IsSound};
+ghost use Rattle.cdc_ledger.specs.Submit.{accounts_from, after_account, after_transfer, base as first_timestamp, expiries_from, opened_by, refusal_at, transfers_from};
 ghost use Rattle.cdc_ledger.specs.Tables.{IsKept, history_of, room_for_accounts, room_for_entries};
-ghost use Rattle.cdc_ledger.specs.Verdict.{max_timestamp, account_lines, account_verdict, transfer_lines, transfer_verdict};
+ghost use Rattle.cdc_ledger.specs.Verdict.{max_timestamp, account_lines, account_verdict, transfer_verdict};
 
-use crate::accounts::{find_account, find_place, is_same_account, opened_account};
+use crate::accounts::{find_account, is_same_account, opened_account};
 use crate::errors::BatchError;
 use crate::movements::Movement;
-use crate::settling::{end_refusal, field_refusal};
-use crate::sums::refusal_between;
-use crate::transfers::{as_asked, expires_at, filled_from, find_entry, is_same_transfer, kind_of};
+use crate::transfers::{expires_at, find_entry};
 use cdc_expiry::{DueIndex, Triple};
 use cdc_log::EventLog;
 use cdc_types::{
     Account, AccountResult, Batch, BatchResults, Entry, EventKind, Limits, NewAccount, NewTransfer,
-    Transfer, TransferResult,
+    TransferResult,
 };
 use std::alloc::Global;
 
@@ -141,138 +146,49 @@ impl Tables {
         }
     }
 
-    /// The transfer that is stored for the request at this moment.
-    fn filled(&self, request: &NewTransfer, timestamp: u64) -> Transfer {
-        if request.is_plain() {
-            return as_asked(request, timestamp);
-        }
-        match self.entry(request.pending_id) {
-            Some(entry) => filled_from(&entry.transfer, request, timestamp),
-            None => as_asked(request, timestamp),
-        }
-    }
-
-    /// Why a request whose id is another transfer's is refused.
-    fn known_refusal(&self, request: &NewTransfer) -> Option<TransferResult> {
-        let entry = self.entry(request.id)?;
-        if is_same_transfer(&self.filled(request, entry.timestamp), &entry.transfer) {
-            Some(TransferResult::Exists)
-        } else {
-            Some(TransferResult::ExistsWithDifferentFields)
-        }
-    }
-
-    /// What a request for a single-phase or a pending transfer leads to, or the first line that refuses it.
-    fn judge_plain(
-        &self,
-        request: &NewTransfer,
-        timestamp: u64,
-    ) -> Result<Movement, TransferResult> {
-        let accounts = self.accounts.as_slice();
-        let Some(debit) = find_place(accounts, request.debit_account_id) else {
-            return Err(TransferResult::DebitAccountNotFound);
-        };
-        let Some(credit) = find_place(accounts, request.credit_account_id) else {
-            return Err(TransferResult::CreditAccountNotFound);
-        };
-        if let Some(refusal) = refusal_between(
-            &accounts[debit],
-            &accounts[credit],
-            request,
-            timestamp,
-        ) {
-            return Err(refusal);
-        }
-        let entry = Entry {
-            timestamp,
-            kind: kind_of(request),
-            transfer: as_asked(request, timestamp),
-        };
-        Ok(Movement {
-            entry,
-            debit,
-            credit,
-            settled: None,
-        })
-    }
-
-    /// The movement of an entry that posts, voids or ends this pending transfer, whose accounts are there.
-    fn settling(&self, entry: Entry, pending: Transfer) -> Movement {
-        let accounts = self.accounts.as_slice();
-        Movement {
-            entry,
-            debit: find_place(accounts, pending.debit_account_id).unwrap(),
-            credit: find_place(accounts, pending.credit_account_id).unwrap(),
-            settled: Some(pending),
-        }
-    }
-
-    /// What a post or a void leads to, or the first line that refuses it.
-    fn judge_settling(
-        &self,
-        request: &NewTransfer,
-        timestamp: u64,
-    ) -> Result<Movement, TransferResult> {
-        let Some(entry) = self.entry(request.pending_id) else {
-            return Err(TransferResult::PendingTransferNotFound);
-        };
-        if let Some(refusal) = field_refusal(entry, request) {
-            return Err(refusal);
-        }
-        let pending = entry.transfer;
-        if let Some(refusal) = end_refusal(self.entries.as_slice(), &pending, timestamp) {
-            return Err(refusal);
-        }
-        let entry = Entry {
-            timestamp,
-            kind: kind_of(request),
-            transfer: filled_from(&pending, request, timestamp),
-        };
-        Ok(self.settling(entry, pending))
-    }
-
-    /// What a request for a transfer leads to at this moment, or the first line that refuses it.
-    fn judge(&self, request: &NewTransfer, timestamp: u64) -> Result<Movement, TransferResult> {
-        if let Some(refusal) = request.check_shape() {
-            return Err(refusal);
-        }
-        if let Some(refusal) = self.known_refusal(request) {
-            return Err(refusal);
-        }
-        if request.is_plain() {
-            self.judge_plain(request, timestamp)
-        } else {
-            self.judge_settling(request, timestamp)
-        }
-    }
-
     /// Keeps the end that a pending transfer will come to, and forgets that of one that is settled.
-    fn follow_end(&mut self, movement: &Movement) {
-        match movement.settled {
-            Some(pending) => {
-                if pending.timeout != 0 {
-                    let _was_there = self.index.remove(expires_at(&pending), pending.timestamp);
-                }
-            }
-            None => {
-                let transfer = &movement.entry.transfer;
-                if transfer.timeout != 0 {
-                    self.index.add(Triple {
-                        expires_at: expires_at(transfer),
-                        timestamp: transfer.timestamp,
-                        slot: self.entries.len(),
-                    });
-                }
-            }
+    fn follow_end(&mut self, movement: &Movement)
+        requires indexed { self.old.index.triples ≡ set.from_list (open_triples (history_of self.old)) }
+        requires sound { IsSound (history_of self.old) }
+        requires later { self.old.last < movement.now.entry.timestamp }
+        requires within { movement.now.entry.timestamp ≤ max_timestamp }
+        requires follows { Follows (history_of self.old) movement.now.entry }
+        requires settled { movement.now.settled ≡ settled_by (history_of self.old) movement.now.entry }
+        requires room { kinds.settles movement.now.entry.kind ≡ false → 0 < self.old.index.room }
+        ensures same { self.new ≡ record self.old { index = self.new.index } }
+        ensures indexed { self.new.index.triples
+            ≡ set.from_list (open_triples (pushed (history_of self.old) movement.now.entry)) }
+        ensures room { self.old.index.room ≤ self.new.index.room + 1 }
+    {
+        let entry = &movement.entry;
+        if let Some(pending) = movement.settled {
+            let _had_an_end = self.index.remove(expires_at(&pending), pending.timestamp);
+        } else if entry.kind == EventKind::TwoPhasePending && entry.transfer.timeout != 0 {
+            self.index.add(Triple {
+                expires_at: expires_at(&entry.transfer),
+                timestamp: entry.transfer.timestamp,
+                slot: self.entries.len(),
+            });
         }
     }
 
     /// Takes the movement's entry and tells of it. There is room for it.
-    fn record(&mut self, movement: &Movement) {
-        movement.apply(self.accounts.as_mut_slice());
-        let event = movement.event(self.accounts.as_slice());
+    fn record(&mut self, movement: &Movement)
+        requires kept { IsKept self.old }
+        requires later { self.old.last < movement.now.entry.timestamp }
+        requires within { movement.now.entry.timestamp ≤ max_timestamp }
+        requires follows { Follows (history_of self.old) movement.now.entry }
+        requires movement { IsMovement self.old.accounts.items (history_of self.old) movement.now }
+        requires room { 0 < room_for_entries self.old }
+        requires index_room { kinds.settles movement.now.entry.kind ≡ false → 0 < self.old.index.room }
+        ensures history { history_of self.new ≡ pushed (history_of self.old) movement.now.entry }
+        ensures kept { IsKept self.new }
+        ensures room { room_for_entries self.new + 1 ≡ room_for_entries self.old }
+        ensures index_room { self.old.index.room ≤ self.new.index.room + 1 }
+    {
         self.follow_end(movement);
-        self.log.push(event);
+        movement.apply(self.accounts.as_mut_slice());
+        self.log.push(movement.event(self.accounts.as_slice()));
         self.entries.push_reserved(movement.entry);
         self.last = movement.entry.timestamp;
     }
@@ -283,10 +199,12 @@ impl Tables {
         requires later { self.old.last < timestamp }
         requires within { timestamp ≤ max_timestamp }
         requires room { 0 < room_for_entries self.old }
+        requires index_room { 0 < self.old.index.room }
         ensures result { result ≡ transfer_verdict features (history_of self.old) request.now timestamp }
         ensures history { history_of self.new ≡ after_transfer (history_of self.old) request.now timestamp result }
         ensures kept { IsKept self.new }
         ensures room { room_for_entries self.old ≤ room_for_entries self.new + 1 }
+        ensures index_room { self.old.index.room ≤ self.new.index.room + 1 }
     {
         match self.judge(request, timestamp) {
             Err(refusal) => {
@@ -349,6 +267,20 @@ impl Tables {
         Ok(())
     }
 
+    /// Makes room for this many more transfers: their entries, their events and their ends.
+    fn reserve_transfers(&mut self, additional: usize) -> Result<(), BatchError>
+        requires { IsKept self.old }
+        ensures history { history_of self.new ≡ history_of self.old }
+        ensures kept { IsKept self.new }
+        ensures room { OnOk result (additional ≤ room_for_entries self.new) }
+        ensures index_room { OnOk result (additional ≤ self.new.index.room) }
+        ensures memory { IfErr result (λ e. e ≡ BatchError.OutOfMemory) }
+    {
+        self.reserve_entries(additional)?;
+        self.index.reserve(additional)?;
+        Ok(())
+    }
+
     /// Takes requests for accounts, for which there is room, from the moment `base` on.
     fn take_accounts(
         &mut self,
@@ -383,6 +315,7 @@ impl Tables {
         requires later { self.old.last < base }
         requires within { 0 < length requests.now → base + length requests.now ≤ max_timestamp + 1 }
         requires room { length requests.now ≤ room_for_entries self.old }
+        requires index_room { length requests.now ≤ self.old.index.room }
         requires empty { results.items ≡ [] }
         requires results_room { length requests.now ≤ vec_capacity results }
         ensures taken { transfers_from features (history_of self.old) base requests.now
@@ -440,15 +373,24 @@ impl Tables {
             return Err(refusal);
         }
         let results = Vec::with_capacity(alloc, requests.len())?;
-        self.reserve_entries(requests.len())?;
-        self.index.reserve(requests.len())?;
+        self.reserve_transfers(requests.len())?;
         let base = self.base(now);
         Ok(self.take_transfers(base, requests, results))
     }
 
-    /// Brings the pending transfer whose entry stands at this place, and which is due, to its end.
-    fn expire(&mut self, place: usize, timestamp: u64) {
-        let pending = self.entries[place].transfer;
+    /// Brings the pending transfer of this triple of the index to its end.
+    fn expire(&mut self, first: Triple, timestamp: u64)
+        requires kept { IsKept self.old }
+        requires later { self.old.last < timestamp }
+        requires within { timestamp ≤ max_timestamp }
+        requires room { 0 < room_for_entries self.old }
+        requires open { Contains (open_triples (history_of self.old)) first }
+        ensures history { IsSomeAnd (slice_get self.old.entries.items first.slot)
+            (λ x. history_of self.new ≡ pushed (history_of self.old) (expiry x.transfer timestamp)) }
+        ensures kept { IsKept self.new }
+        ensures room { room_for_entries self.new + 1 ≡ room_for_entries self.old }
+    {
+        let pending = self.entries[first.slot].transfer;
         let entry = Entry {
             timestamp,
             kind: EventKind::TwoPhaseExpired,
@@ -460,16 +402,30 @@ impl Tables {
 
     /// Brings this many pending transfers to their end, those whose time is up at the moment `now`, from the moment
     /// `base` on. There is room for all of their entries.
-    fn expire_all(&mut self, now: u64, base: u64, count: usize) {
+    fn expire_all(&mut self, now: u64, base: u64, count: usize)
+        requires kept { IsKept self.old }
+        requires later { self.old.last < base }
+        requires within { 0 < count → base + count ≤ max_timestamp + 1 }
+        requires room { count ≤ room_for_entries self.old }
+        requires count { count ≡ length (due (history_of self.old) now) }
+        ensures history { history_of self.new
+            ≡ expiries_from (history_of self.old) base (due (history_of self.old) now) }
+        ensures kept { IsKept self.new }
+    {
         for place in 0..count {
             if let Some(first) = self.index.due(now) {
-                self.expire(first.slot, base + place as u64);
+                self.expire(first, base + place as u64);
             }
         }
     }
 
     /// Brings the pending transfers whose time is up at the moment `now` to their end, and answers how many they were.
-    pub(crate) fn pulse(&mut self, now: u64) -> Result<u64, BatchError> {
+    pub(crate) fn pulse(&mut self, now: u64) -> Result<u64, BatchError>
+        requires { IsKept self.old }
+        ensures answers { Answers BatchResults.Pulsed (history_of self.old) (Batch.Pulse now) result
+            (history_of self.new) }
+        ensures kept { IsKept self.new }
+    {
         let count = self.index.due_count(now);
         if let Some(refusal) = self.batch_refusal(false, now, count) {
             return Err(refusal);
