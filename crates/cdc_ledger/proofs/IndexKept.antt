@@ -1,10 +1,10 @@
 -- The set that an index keeps, after each change of a history, and what its answers say of what is due.
-use Rattle.std.proofs.Common.{ℕ, suc, ◌+◌, ◌<◌, ◌≤◌, Bool, true, false, Option, Some, None, List, [], ◌∷◌, ◌++◌, ◌≡◌, ◌≢◌, length, refl, ap, ap₂, sym, ◌∙◌, arith, subst}
+use Rattle.std.proofs.Common.{ℕ, suc, ◌+◌, ◌<◌, ◌≤◌, Bool, true, false, Option, Some, None, List, [], ◌∷◌, ◌++◌, ◌≡◌, ◌≢◌, length, refl, ap, ap₂, sym, ◌∙◌, arith, subst, ⊎_elim}
 use Rattle.std.specs.Prelude.{◌==◌, ◌&&◌, ◌||◌, not, nat_lt, nat_le, option_map, filter, slice_index_or, if◌then◌else◌}
 use Rattle.std.specs.FinSet as set
 use Rattle.std.specs.List.{All, AllByRecursion, Contains}
 use Rattle.std.specs.Ordering.{is_le, nat_cmp}
-use Rattle.std.proofs.lemmas.Bool.{and_parts, eq-eqb, ne_eqb}
+use Rattle.std.proofs.lemmas.Bool.{and_parts, cases_eq, eq-eqb, ne_eqb}
 use Rattle.std.proofs.lemmas.Bool.Decides.{nat_tests}
 use Rattle.std.proofs.lemmas.List.{length-append}
 use Rattle.std.proofs.lemmas.List.Elements.{All-from_recursion, recursion_from_All}
@@ -25,13 +25,14 @@ use Rattle.cdc_ledger.specs.Follows.{Follows, SettlesOpen}
 use Rattle.cdc_ledger.specs.History.{Opened, History}
 use Rattle.cdc_ledger.specs.Kinds.{holds, stores, settles, settled_id}
 use Rattle.cdc_ledger.specs.OpenTriples.{index_of, is_open, opens, open_triples, triple_at, triples_from}
-use Rattle.cdc_ledger.specs.Sound.{IsSound, Settles}
+use Rattle.cdc_ledger.specs.Sound.{IsSound, Settles, Stands}
+use Rattle.cdc_ledger.specs.Verdict.{max_timestamp}
 use Rattle.cdc_ledger.proofs.BalanceLaws.{stores-holds}
 use Rattle.cdc_ledger.proofs.DueLaws.{due-first, due-rest, is_due-ready, is_ready, length-due, ready_triples, ready_triples-filter}
 use Rattle.cdc_ledger.proofs.IndexLaws.{open_triples-later, open_triples-other, open_triples-pending, open_triples-settling}
 use Rattle.cdc_ledger.proofs.IndexTimes.{holds-open, others-open, TimestampsDiffer-open}
 use Rattle.cdc_ledger.proofs.IndexTriples.{All-triples_from, triples_from-All, IsOf, IsOf-contained}
-use Rattle.cdc_ledger.proofs.Pending.{All-around, All-from_around, Around, Around-both, Around-weaker, IsAmong, IsOther, IsOther-around, IsStored, IsStored-found, stored-among}
+use Rattle.cdc_ledger.proofs.Pending.{All-among, All-around, All-from_around, Around, Around-both, Around-weaker, IsAmong, IsOther, IsOther-around, IsStored, IsStored-found, stored-among}
 
 -- accounts, a close and a timestamp leave the set as it is
 pub index_of-later : (h : History) (accounts : List Opened) (t : ℕ) (closed : Bool) → IsSound h → h.last ≤ t
@@ -101,6 +102,26 @@ IsSettled-settled_by h e p follows some =
     named TwoPhasePosted r x is there shown some = let same : Some x.transfer ≡ Some p = sym (ap (option_map (λ (y : Entry). y.transfer)) there) ∙ some in cc
     named TwoPhaseVoided r x is there shown some = let same : Some x.transfer ≡ Some p = sym (ap (option_map (λ (y : Entry). y.transfer)) there) ∙ some in cc
     named TwoPhaseExpired r x is there shown some = let same = shown refl in cc
+
+-- the end of a pending transfer is a timestamp, and so it is without a timeout, when it is the moment of its entry
+end_fits : (h : History) (x : Entry) → IsSound h → IsAmong h.entries x → holds x.kind ≡ true → expires_at x.transfer ≤ max_timestamp
+end_fits h x sound among held =
+    ⊎_elim (λ endless. endless_fits endless) (λ timed. stands.timely held timed) (cases_eq x.transfer.timeout 0)
+  where
+    stands : Stands h x
+    stands = All-among (Stands h) h.entries x among sound.standing
+    endless_fits : x.transfer.timeout ≡ 0 → expires_at x.transfer ≤ max_timestamp
+    endless_fits endless =
+        let past : x.timestamp ≤ h.last = All-among (λ y. y.timestamp ≤ h.last) h.entries x among sound.past in
+        let own : x.transfer.timestamp ≡ x.timestamp = stands.dated (stores-holds x.kind held) in
+        let within : h.last ≤ max_timestamp = sound.within in
+        omega arith
+
+pub expires_at-settled : (h : History) (e : Entry) (p : Transfer) → IsSound h → Follows h e → settled_by h e ≡ Some p → expires_at p ≤ max_timestamp
+expires_at-settled h e p sound follows some =
+    let it = IsSettled-settled_by h e p follows some in
+    let at = IsStored-found h (settled_id e.kind e.transfer) it.x it.settled.named in
+    subst (λ (q : Transfer). expires_at q ≤ max_timestamp) it.own (end_fits h it.x sound at.among it.settled.pending)
 
 -- a transfer that was made then has the same end
 abbrev EndsAlike : Entry → Entry → Type 0
