@@ -27,3 +27,4 @@ pub mod IndexTimes
 pub mod IndexKept
 pub mod Judged
 pub mod Recorded
+pub mod Answered
