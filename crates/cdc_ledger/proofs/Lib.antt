@@ -29,3 +29,4 @@ pub mod IndexLaws
 pub mod DueLaws
 pub mod IndexTimes
 pub mod IndexKept
+pub mod IndexNext
