@@ -24,12 +24,12 @@ use Rattle.cdc_ledger.proofs.StoredLaws.{is_stored, stored_has, apart-cons}
 
 -- `balances` reads the entries alone, so a change of accounts, last or closed leaves it by computation
 
-same_balances : (x y z w x' y' z' w' : ℕ) → x ≡ x' → y ≡ y' → z ≡ z' → w ≡ w'
+pub same_balances : (x y z w x' y' z' w' : ℕ) → x ≡ x' → y ≡ y' → z ≡ z' → w ≡ w'
     → ◌≡◌ {A = Balances} (record { debits_pending = x; debits_posted = y; credits_pending = z; credits_posted = w }) (record { debits_pending = x'; debits_posted = y'; credits_pending = z'; credits_posted = w' })
 same_balances x y z w x' y' z' w' a b c d = cc
 
 -- two moments at which the same of the entries count
-seen_alike : (e : Entry) (s t : ℕ) → e.timestamp ≤ s → s ≤ t → nat_le e.timestamp t ≡ nat_le e.timestamp s
+pub seen_alike : (e : Entry) (s t : ℕ) → e.timestamp ≤ s → s ≤ t → nat_le e.timestamp t ≡ nat_le e.timestamp s
 seen_alike e s t within later = le-leb e.timestamp t (omega arith) ∙ sym (le-leb e.timestamp s within)
 
 pub resolved_later : (h : History) (p : Transfer) (s t : ℕ) → IsUpTo s h → s ≤ t → resolved h p t ≡ resolved h p s
@@ -39,7 +39,7 @@ resolved_later h p s t within later =
     (λ e at. ap (λ b. b && resolves p e) (seen_alike e s t at later)) h.entries within)
 
 -- what an entry holds back, resolved or not
-abbrev held_by : Bool → Entry → ℕ
+abbrev pub held_by : Bool → Entry → ℕ
 held_by done e = if holds e.kind && not done then e.transfer.amount else 0
 
 -- a share of what agrees on the entries
@@ -59,7 +59,7 @@ module _ (h : History) (a s t : ℕ) (within : IsUpTo s h) (later : s ≤ t) whe
       (AllByRecursion-weaker (λ e. e.timestamp ≤ s) (λ e. (held h t e ≡ held h s e) × (nat_le e.timestamp t ≡ nat_le e.timestamp s))
       (λ e at. (held_later e, seen_alike e s t at later)) h.entries within)
 
-  moved_agree : (side : Transfer → ℕ) → sum_by (share moved side a t) h.entries ≡ sum_by (share moved side a s) h.entries
+  pub moved_agree : (side : Transfer → ℕ) → sum_by (share moved side a t) h.entries ≡ sum_by (share moved side a s) h.entries
   moved_agree side = share_same moved moved side a s t h.entries
       (AllByRecursion-weaker (λ e. e.timestamp ≤ s) (λ e. (moved e ≡ moved e) × (nat_le e.timestamp t ≡ nat_le e.timestamp s))
       (λ e at. (refl, seen_alike e s t at later)) h.entries within)

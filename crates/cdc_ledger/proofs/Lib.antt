@@ -11,15 +11,11 @@ pub mod BatchLaws
 pub mod LegalLaws
 pub mod SoundLaws
 pub mod AcceptedLaws
+pub mod OtherLaws
 pub mod PulseLaws
 pub mod KeptLaws
 pub mod Found
-pub mod Single
-pub mod Refused
 pub mod Kept
-pub mod Stored
-pub mod Answered
-pub mod Pulsed
 pub mod Legal
 pub mod Places
 pub mod DueOrder
@@ -30,3 +26,5 @@ pub mod DueLaws
 pub mod IndexTimes
 pub mod IndexKept
 pub mod IndexNext
+pub mod Judged
+pub mod Recorded

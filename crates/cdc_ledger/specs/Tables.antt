@@ -1,7 +1,6 @@
 -- What the ledger's tables stand for, and what is kept of them between two calls (for private contracts and the
 -- laws).
 use Rattle.std.specs.Prelude.{ℕ, ◌-◌, ◌≡◌, None, min, map, vec_len, vec_capacity}
-use Rattle.std.specs.FinSet as set
 use Rattle.cdc_types.specs.declared.transfers.NewTransfer.{NewTransfer}
 use Rattle.cdc_types.specs.Features.{features}
 use Rattle.cdc_types.specs.Lines.{first_line}
@@ -11,7 +10,7 @@ use Rattle.cdc_ledger.specs.Accounts.{opened_as}
 use Rattle.cdc_ledger.specs.Events.{accounts_now, events}
 use Rattle.cdc_ledger.specs.History.{History}
 use Rattle.cdc_ledger.specs.Movements.{IsMovement}
-use Rattle.cdc_ledger.specs.OpenTriples.{open_triples}
+use Rattle.cdc_ledger.specs.OpenTriples.{index_of}
 use Rattle.cdc_ledger.specs.Sound.{IsSound}
 use Rattle.cdc_ledger.specs.Submit.{IsLegal, entry_of}
 use Rattle.cdc_ledger.specs.Verdict.{transfer_lines}
@@ -38,7 +37,7 @@ room_for_entries t = min (vec_capacity t.entries - vec_len t.entries) t.log.room
 pub record IsKept (t : Tables) : Type 0 where
   pub balanced : t.accounts.items ≡ accounts_now (history_of t)
   pub logged : t.log.events ≡ events (history_of t)
-  pub indexed : t.index.triples ≡ set.from_list (open_triples (history_of t))
+  pub indexed : t.index.triples ≡ index_of (history_of t)
   pub sound : IsSound (history_of t)
 
 -- the same, and batches and at most one close make the history

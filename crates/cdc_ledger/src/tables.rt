@@ -1,8 +1,6 @@
 //! What the ledger keeps, and the steps that it takes.
 
-ghost use Rattle.std.specs.Prelude.{◌≡◌, ℕ, ◌+◌, ◌≤◌, ◌<◌, true, false, None, Some, option_map, [], length, vec_capacity, Contains, OnOk, IfErr, IsSomeAnd, MatchResult};
-ghost use Rattle.std.specs.FinSet as set;
-ghost use Rattle.std.specs.List.{slice_get};
+ghost use Rattle.std.specs.Prelude.{◌≡◌, ℕ, ◌+◌, ◌≤◌, ◌<◌, true, false, None, Some, option_map, [], length, vec_capacity, OnOk, IfErr};
 ghost use Rattle.std.specs.Option.{option_copied};
 ghost use Rattle.cdc_types.specs.Features.{features};
 ghost use Rattle.cdc_types.specs.Lines.{first_line};
@@ -16,7 +14,7 @@ ghost use Rattle.cdc_ledger.specs.Follows.{Follows};
 ghost use Rattle.cdc_ledger.specs.History.{empty_history, opened};
 ghost use Rattle.cdc_ledger.specs.Kinds as kinds;
 ghost use Rattle.cdc_ledger.specs.Movements.{IsMovement};
-ghost use Rattle.cdc_ledger.specs.OpenTriples.{open_triples};
+ghost use Rattle.cdc_ledger.specs.OpenTriples.{index_of};
 ghost use Rattle.cdc_ledger.specs.Sound.{IsSound};
 ghost use Rattle.cdc_ledger.specs.Submit.{accounts_from, after_account, after_transfer, base as first_timestamp, expiries_from, opened_by, refusal_at, transfers_from};
 ghost use Rattle.cdc_ledger.specs.Tables.{IsKept, history_of, room_for_accounts, room_for_entries};
@@ -30,7 +28,7 @@ use cdc_expiry::{DueIndex, Triple};
 use cdc_log::EventLog;
 use cdc_types::{
     Account, AccountResult, Batch, BatchResults, Entry, EventKind, Limits, NewAccount, NewTransfer,
-    TransferResult,
+    Transfer, TransferResult,
 };
 use std::alloc::Global;
 
@@ -148,7 +146,7 @@ impl Tables {
 
     /// Keeps the end that a pending transfer will come to, and forgets that of one that is settled.
     fn follow_end(&mut self, movement: &Movement)
-        requires indexed { self.old.index.triples ≡ set.from_list (open_triples (history_of self.old)) }
+        requires indexed { self.old.index.triples ≡ index_of (history_of self.old) }
         requires sound { IsSound (history_of self.old) }
         requires later { self.old.last < movement.now.entry.timestamp }
         requires within { movement.now.entry.timestamp ≤ max_timestamp }
@@ -156,8 +154,7 @@ impl Tables {
         requires settled { movement.now.settled ≡ settled_by (history_of self.old) movement.now.entry }
         requires room { kinds.settles movement.now.entry.kind ≡ false → 0 < self.old.index.room }
         ensures same { self.new ≡ record self.old { index = self.new.index } }
-        ensures indexed { self.new.index.triples
-            ≡ set.from_list (open_triples (pushed (history_of self.old) movement.now.entry)) }
+        ensures indexed { self.new.index.triples ≡ index_of (pushed (history_of self.old) movement.now.entry) }
         ensures room { self.old.index.room ≤ self.new.index.room + 1 }
     {
         let entry = &movement.entry;
@@ -378,19 +375,17 @@ impl Tables {
         Ok(self.take_transfers(base, requests, results))
     }
 
-    /// Brings the pending transfer of this triple of the index to its end.
-    fn expire(&mut self, first: Triple, timestamp: u64)
+    /// Brings the pending transfer, which nothing brought to its end yet, to its end. There is room for its entry.
+    fn expire(&mut self, pending: Transfer, timestamp: u64)
         requires kept { IsKept self.old }
         requires later { self.old.last < timestamp }
         requires within { timestamp ≤ max_timestamp }
         requires room { 0 < room_for_entries self.old }
-        requires open { Contains (open_triples (history_of self.old)) first }
-        ensures history { IsSomeAnd (slice_get self.old.entries.items first.slot)
-            (λ x. history_of self.new ≡ pushed (history_of self.old) (expiry x.transfer timestamp)) }
+        requires follows { Follows (history_of self.old) (expiry pending timestamp) }
+        ensures history { history_of self.new ≡ pushed (history_of self.old) (expiry pending timestamp) }
         ensures kept { IsKept self.new }
         ensures room { room_for_entries self.new + 1 ≡ room_for_entries self.old }
     {
-        let pending = self.entries[first.slot].transfer;
         let entry = Entry {
             timestamp,
             kind: EventKind::TwoPhaseExpired,
@@ -413,9 +408,9 @@ impl Tables {
         ensures kept { IsKept self.new }
     {
         for place in 0..count {
-            if let Some(first) = self.index.due(now) {
-                self.expire(first, base + place as u64);
-            }
+            let first = self.index.due(now).unwrap();
+            let pending = self.entries[first.slot].transfer;
+            self.expire(pending, base + place as u64);
         }
     }
 
