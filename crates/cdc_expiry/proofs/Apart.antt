@@ -1,17 +1,18 @@
 -- Lists of triples whose timestamps differ.
 use Rattle.std.proofs.Common.{◌≡◌, ◌≢◌, ℕ, Bool, true, false, cond, inl, inr, List, [], ◌∷◌, ◌++◌, filter, nat_eq, sym, arith}
-use Rattle.std.specs.List.{All, IsDistinct, AllByRecursion}
+use Rattle.std.specs.List.{All, IsDistinct}
 use Rattle.std.specs.List.Sorted.{IsPermutation}
 use Rattle.std.specs.Cmp.{nat_eq_equiv}
-use Rattle.std.proofs.lemmas.Bool.Decides.{Decides-eqb, eqb_tells}
-use Rattle.std.proofs.lemmas.List.Elements.{All-cons, All-filter, All-head, All-nil, All-push, All-tail, All-weaker, All-from_recursion, recursion_from_All}
+use Rattle.std.proofs.lemmas.Bool.Decides.{eqb_tells}
+use Rattle.std.proofs.lemmas.List.Elements.{All-filter, All-head, All-nil, All-push, All-tail, All-weaker, All-from_recursion, recursion_from_All}
 use Rattle.std.proofs.lemmas.Map.Keys.{IsDistinct-cons, IsDistinct-from_apart, IsDistinct-head, IsDistinct-IsPermutation, IsDistinct-tail}
 use borrow.Author.Tests.{eqb-false}
 use Rattle.cdc_expiry.specs.declared.triple.Triple.{Triple}
 use Rattle.cdc_expiry.specs.Triples.{TimestampsDiffer}
 
 -- a filter keeps the timestamps apart
-pub TimestampsDiffer-filter : (p : Triple → Bool) (xs : List Triple) → TimestampsDiffer xs → TimestampsDiffer (filter p xs)
+pub TimestampsDiffer-filter : (p : Triple → Bool) (xs : List Triple) → TimestampsDiffer xs
+    → TimestampsDiffer (filter p xs)
 TimestampsDiffer-filter p [] differ = tt
 TimestampsDiffer-filter p (x ∷ xs) differ =
     elim (p x) as (λ b. TimestampsDiffer (cond b (x ∷ filter p xs) (filter p xs))) [
@@ -54,7 +55,8 @@ from_distinct (x ∷ xs) distinct = (
   from_distinct xs (IsDistinct-tail same_timestamp x xs distinct),
 )
 
-pub TimestampsDiffer-IsPermutation : (xs ys : List Triple) → IsPermutation xs ys → TimestampsDiffer xs → TimestampsDiffer ys
+pub TimestampsDiffer-IsPermutation : (xs ys : List Triple) → IsPermutation xs ys → TimestampsDiffer xs
+    → TimestampsDiffer ys
 TimestampsDiffer-IsPermutation xs ys moved differ =
-    from_distinct ys (IsDistinct-IsPermutation same_timestamp (λ x y. nat_eq_equiv.symm x.timestamp y.timestamp) xs ys moved
-    (to_distinct xs differ))
+    let flips = λ (x y : Triple). nat_eq_equiv.symm x.timestamp y.timestamp in
+    from_distinct ys (IsDistinct-IsPermutation same_timestamp flips xs ys moved (to_distinct xs differ))

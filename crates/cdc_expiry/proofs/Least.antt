@@ -1,7 +1,6 @@
 -- What a run's least item is of the list that the run gave.
-use Rattle.std.proofs.Common.{◌≡◌, ℕ, ◌<◌, Bool, true, false, List, [], ◌∷◌, length, Option, Some, None, option_map, refl, sym, ap, ◌∙◌, subst, arith}
+use Rattle.std.proofs.Common.{◌≡◌, ◌<◌, true, false, List, [], ◌∷◌, length, Option, Some, None, option_map, refl, sym, ap, ◌∙◌, subst, arith}
 use Rattle.std.specs.Iterator.Runs.{Run, AnyItem, AllItems}
-use Rattle.std.specs.List.{All, Contains}
 use Rattle.std.specs.Option.{MatchOption, IfSome, IsSomeAnd}
 use Rattle.std.specs.Ordering.{is_le, is_lt, ordering_reverse}
 use Rattle.std.specs.declared.cmp.Ordering.{Ordering}
@@ -21,11 +20,13 @@ at_or_after : (m x : Triple) → is_lt (triple_cmp x m) ≡ false → is_le (tri
 at_or_after m x later = turned (triple_cmp x m) (triple_cmp m x) (triple_cmp_total.antisymm m x) later
 
 -- what holds of the item that is read
-read_and : (P : Triple → Type 0) (item : Option Triple) (x : Triple) → option_map (λ y. y) item ≡ Some x → IsSomeAnd item P → P x
+read_and : (P : Triple → Type 0) (item : Option Triple) (x : Triple) → option_map (λ y. y) item ≡ Some x
+    → IsSomeAnd item P → P x
 read_and P None x is holds = absurd holds
 read_and P (Some y) x is holds = let same : y ≡ x = cc in subst P same holds
 
-read_if : (P : Triple → Type 0) (item : Option Triple) (x : Triple) → option_map (λ y. y) item ≡ Some x → IfSome item P → P x
+read_if : (P : Triple → Type 0) (item : Option Triple) (x : Triple) → option_map (λ y. y) item ≡ Some x
+    → IfSome item P → P x
 read_if P None x is holds = let never : ⊥ = cc in absurd never
 read_if P (Some y) x is holds = let same : y ≡ x = cc in subst P same holds
 
@@ -34,8 +35,8 @@ no_items [] none = refl
 no_items (x ∷ xs) none = absurd (omega arith)
 
 -- the least item of a run over the list's triples is the list's least
-pub IsLeastOf-run : {S : Type 0} {steps : S → Option Triple → S → Type 0} (p : Run steps) (xs : List Triple) (answer : Option Triple)
-    → p.items ≡ xs
+pub IsLeastOf-run : {S : Type 0} {steps : S → Option Triple → S → Type 0}
+    (p : Run steps) (xs : List Triple) (answer : Option Triple) → p.items ≡ xs
     → MatchOption answer (p.len ≡ 0) (λ m. AnyItem p (λ x. x ≡ m) × AllItems p (λ x. is_lt (triple_cmp x m) ≡ false))
     → IsLeastOf xs answer
 IsLeastOf-run p xs None gave none = no_items xs (sym (ap length gave) ∙ sym p.long ∙ none)

@@ -1,6 +1,6 @@
 -- What an index's contracts say of a set, where the set is known as that of a list.
-use Rattle.std.proofs.Common.{◌≡◌, ◌≢◌, ℕ, Bool, true, false, not, ◌&&◌, ◌==◌, cond, List, [], ◌∷◌, ◌++◌, length, filter, Option, Some, None, refl, sym, ap, ◌∙◌, ◌⊎◌, ◌||◌, ◌+◌, inl, inr, add-one, arith}
-use Rattle.std.specs.Cmp.{both_ways, eq_by_cmp_equiv}
+use Rattle.std.proofs.Common.{◌≡◌, ◌≢◌, ℕ, Bool, true, false, not, ◌&&◌, ◌==◌, cond, List, [], ◌∷◌, ◌++◌, length, filter, Option, Some, None, refl, sym, ap, ◌∙◌, subst, ◌⊎◌, ◌||◌, ◌+◌, inl, inr, add-one, arith}
+use Rattle.std.specs.Cmp.{both_ways, eq_by_cmp_equiv, tied_itself}
 use Rattle.std.specs.FinSet.{contains, empty, from_list, insert, retain, len, same_set, from_list_push, contains-empty, contains-from_list, contains-insert, contains-retain, len-empty, len-insert}
 use Rattle.std.specs.List.{All, Contains}
 use Rattle.std.specs.List.Sorted.{IsPermutation}
@@ -8,8 +8,8 @@ use Rattle.std.specs.Option.{MatchOption}
 use Rattle.std.specs.Ordering.{is_le, eq_by_cmp, ordering_reverse}
 use Rattle.std.specs.declared.cmp.Ordering.{Ordering}
 use Rattle.std.specs.declared.cmp.Ordering.TheVariants.{Less, Equal, Greater}
-use Rattle.std.proofs.lemmas.Bool.Decides.{nat_tests, eqb_tells}
-use Rattle.std.proofs.lemmas.List.Elements.{All-head, All-tail, All-contains, Contains-get_or}
+use Rattle.std.proofs.lemmas.Bool.Decides.{nat_tests}
+use Rattle.std.proofs.lemmas.List.Elements.{All-cons, All-head, All-tail, All-contains, Contains-get_or}
 use Rattle.std.proofs.lemmas.List.Sorted.{Contains-permutation, IsPermutation-sym}
 use Rattle.std.proofs.lemmas.Map.Views.{list_any-from_Contains, Contains-from_any, any-filter_same}
 use Rattle.cdc_expiry.specs.declared.triple.Triple.{Triple}
@@ -36,7 +36,8 @@ empty_lacks s x is_empty there = let absent = contains-empty triple_cmp x in cc
 
 -- lists with the same triples have the same set
 pub set_of-same : (xs ys : List Triple)
-    → ((x : Triple) → Contains xs x → Contains ys x) → ((x : Triple) → Contains ys x → Contains xs x) → set_of xs ≡ set_of ys
+    → ((x : Triple) → Contains xs x → Contains ys x) → ((x : Triple) → Contains ys x → Contains xs x)
+    → set_of xs ≡ set_of ys
 set_of-same xs ys there back =
     same_set triple_cmp_total triple_cmp-IsAntisymmetric (set_of xs) (set_of ys) (λ x. both_ways _ _
     (λ h. contains-set_of ys x (there x (Contains-set_of xs x h)))
@@ -91,7 +92,8 @@ without-set_of xs e t ends =
 not_there : (xs : List Triple) (x : Triple) → All (λ y. y.timestamp ≢ x.timestamp) xs → contains (set_of xs) x ≡ false
 not_there xs x others =
     elim (contains (set_of xs) x) as (λ b. contains (set_of xs) x ≡ b → b ≡ false) [
-      | true ↦ λ there. absurd (All-contains (λ y. y.timestamp ≢ x.timestamp) xs x others (Contains-set_of xs x there) refl)
+      | true ↦ λ there.
+          absurd (All-contains (λ y. y.timestamp ≢ x.timestamp) xs x others (Contains-set_of xs x there) refl)
       | false ↦ λ _. refl
     ] refl
 
@@ -118,7 +120,8 @@ others-set_of xs t new k d within = new _ (contains-set_of xs _ (Contains-get_or
 -- a triple of a set with z is z, or was there before
 pub added_or_there : (s : Triples) (z x : Triple) → contains (insert s z) x ≡ true → (x ≡ z) ⊎ (contains s x ≡ true)
 added_or_there s z x there =
-    elim (eq_by_cmp triple_cmp x z) as (λ b. eq_by_cmp triple_cmp x z ≡ b → (b || contains s x) ≡ true → (x ≡ z) ⊎ (contains s x ≡ true)) [
+    elim (eq_by_cmp triple_cmp x z) as (λ b. eq_by_cmp triple_cmp x z ≡ b → (b || contains s x) ≡ true
+    → (x ≡ z) ⊎ (contains s x ≡ true)) [
       | true ↦ λ tied _. inl (same_triple x z tied)
       | false ↦ λ _ before. inr before
     ] refl (sym (contains-insert triple_cmp_total s z x) ∙ there)
@@ -132,16 +135,20 @@ first_or_rest z x xs there =
 pub TimestampsAreUnique-set_of : (xs : List Triple) → TimestampsDiffer xs → TimestampsAreUnique (set_of xs)
 TimestampsAreUnique-set_of [] differ x y there also same = absurd (empty_lacks (set_of []) x refl there)
 TimestampsAreUnique-set_of (z ∷ xs) differ x y there also same =
+    let later = λ (v : Triple) (there : Contains xs v) (at : v.timestamp ≡ z.timestamp).
+    All-contains (λ v. v.timestamp ≢ z.timestamp) xs v differ.0 there at in
     let timestamp : Triple → ℕ = λ v. v.timestamp in
     elim (first_or_rest z x xs there) [
       | inl x_first ↦ elim (first_or_rest z y xs also) [
         | inl y_first ↦ x_first ∙ sym y_first
-        | inr y_later ↦ absurd (All-contains (λ v. v.timestamp ≢ z.timestamp) xs y differ.0 y_later (sym same ∙ ap timestamp x_first))
+        | inr y_later ↦ absurd (later y y_later (sym same ∙ ap timestamp x_first))
       ]
       | inr x_later ↦ elim (first_or_rest z y xs also) [
-        | inl y_first ↦ absurd (All-contains (λ v. v.timestamp ≢ z.timestamp) xs x differ.0 x_later (same ∙ ap timestamp y_first))
+        | inl y_first ↦ absurd (later x x_later (same ∙ ap timestamp y_first))
         | inr y_later ↦
-            TimestampsAreUnique-set_of xs differ.1 x y (contains-set_of xs x x_later) (contains-set_of xs y y_later) same
+            let x_there = contains-set_of xs x x_later in
+            let y_there = contains-set_of xs y y_later in
+            TimestampsAreUnique-set_of xs differ.1 x y x_there y_there same
       ]
     ]
 
@@ -183,3 +190,17 @@ IsLeast-unique s None (Some y) least also = absurd (empty_lacks s y least also.0
 IsLeast-unique s (Some x) None least also = absurd (empty_lacks s x also least.0)
 IsLeast-unique s (Some x) (Some y) least also =
     ap Some (neither_later x y _ _ refl (triple_cmp_total.antisymm y x) (least.1 y also.0) (also.1 x least.0))
+
+-- where the set is that of a list whose first triple is at or before all others, the answer is the first
+pub least_is_first : (s : Triples) (x : Triple) (xs : List Triple) (answer : Option Triple) → s ≡ set_of (x ∷ xs)
+    → All (λ y. is_le (triple_cmp x y) ≡ true) xs → IsLeast s answer → answer ≡ Some x
+least_is_first s x xs answer is first least =
+    let itself : is_le (triple_cmp x x) ≡ true = ap is_le (tied_itself triple_cmp_total x) in
+    let of_list : IsLeastOf (x ∷ xs) (Some x) =
+    ((0, omega arith, refl), All-cons (λ y. is_le (triple_cmp x y) ≡ true) x xs itself first) in
+    IsLeast-unique s answer (Some x) least
+    (subst (λ u. IsLeast u (Some x)) (sym is) (IsLeast-set_of (x ∷ xs) (Some x) of_list))
+
+-- where the set has no triple, there is no answer
+pub least_of_none : (s : Triples) (answer : Option Triple) → s ≡ set_of [] → IsLeast s answer → answer ≡ None
+least_of_none s answer is least = IsLeast-unique s answer None least is

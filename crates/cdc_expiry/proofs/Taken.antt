@@ -1,7 +1,6 @@
 -- What is left of a list's set where the triple with two numbers is taken out of the list, or isn't there.
-use Rattle.std.proofs.Common.{◌≡◌, ◌≢◌, ℕ, ◌+◌, ◌<◌, ◌≤◌, Bool, true, false, not, cond, nat_lt, List, [], ◌∷◌, length, get_or, filter, Option, Some, None, refl, sym, ap, ◌∙◌, subst, arith}
-use Rattle.std.specs.List.{All, Contains, position, position_or_len, swap_remove}
-use Rattle.std.specs.List.Sorted.{IsPermutation}
+use Rattle.std.proofs.Common.{◌≡◌, ◌≢◌, ℕ, ◌+◌, ◌<◌, ◌≤◌, Bool, true, false, not, cond, nat_lt, List, [], ◌∷◌, length, get_or, filter, Some, None, refl, sym, ap, ◌∙◌, arith}
+use Rattle.std.specs.List.{All, position, position_or_len, swap_remove}
 use Rattle.std.proofs.lemmas.Bool.{true≢false}
 use Rattle.std.proofs.lemmas.Bool.Decides.{nat_tests}
 use Rattle.std.proofs.lemmas.List.Elements.{All-contains, All-cons, All-head, All-nil, All-tail, All-weaker}
@@ -16,7 +15,8 @@ use Rattle.cdc_expiry.proofs.Lists.{set_of, contains-set_of, Contains-set_of, se
 none_before : (p : Triple → Bool) (xs : List Triple) → length xs ≤ position_or_len p xs → All (λ x. p x ≡ false) xs
 none_before p [] past = All-nil (λ x. p x ≡ false)
 none_before p (x ∷ xs) past =
-    elim (p x) as (λ b. p x ≡ b → length (x ∷ xs) ≤ cond (not b) (1 + position_or_len p xs) 0 → All (λ x. p x ≡ false) (x ∷ xs)) [
+    elim (p x) as (λ b. p x ≡ b → length (x ∷ xs) ≤ cond (not b) (1 + position_or_len p xs) 0
+    → All (λ x. p x ≡ false) (x ∷ xs)) [
       | true ↦ λ _ over. absurd (omega arith)
       | false ↦ λ fails over. All-cons (λ x. p x ≡ false) x xs fails (none_before p xs (omega arith))
     ] refl past
@@ -39,7 +39,8 @@ found_at xs i x e t within at has = (x, contains-set_of xs x (i, within, sym at)
 -- where no triple of the list has the numbers, none of the set has them, and the set loses none
 pub not_found : (xs : List Triple) (e t : ℕ) → All (λ x. has_numbers e t x ≡ false) xs → HasNumbers (set_of xs) e t → ⊥
 not_found xs e t none found =
-    true≢false (sym found.2 ∙ All-contains (λ x. has_numbers e t x ≡ false) xs found.0 none (Contains-set_of xs found.0 found.1))
+    let there = Contains-set_of xs found.0 found.1 in
+    true≢false (sym found.2 ∙ All-contains (λ x. has_numbers e t x ≡ false) xs found.0 none there)
 
 keeps_all : (xs : List Triple) (e t : ℕ) → All (λ x. has_numbers e t x ≡ false) xs
     → filter (λ x. not (has_numbers e t x)) xs ≡ xs
@@ -49,12 +50,14 @@ keeps_all (x ∷ xs) e t none =
     let rest = keeps_all xs e t (All-tail (λ x. has_numbers e t x ≡ false) x xs none) in
     λ i. cond (not (here i)) (x ∷ rest i) (rest i)
 
-pub without_none : (xs : List Triple) (e t : ℕ) → All (λ x. has_numbers e t x ≡ false) xs → set_of xs ≡ without (set_of xs) e t
+pub without_none : (xs : List Triple) (e t : ℕ) → All (λ x. has_numbers e t x ≡ false) xs
+    → set_of xs ≡ without (set_of xs) e t
 without_none xs e t none =
     sym (retain-set_of (λ x. not (has_numbers e t x)) xs ∙ ap set_of (keeps_all xs e t none))
 
 -- a triple with another timestamp has other numbers
-other_numbers : (x y : Triple) (e t : ℕ) → has_numbers e t x ≡ true → y.timestamp ≢ x.timestamp → has_numbers e t y ≡ false
+other_numbers : (x y : Triple) (e t : ℕ) → has_numbers e t x ≡ true → y.timestamp ≢ x.timestamp
+    → has_numbers e t y ≡ false
 other_numbers x y e t has other = grind (arith, nat_tests)
 
 without_first : (x : Triple) (xs : List Triple) (e t : ℕ) → has_numbers e t x ≡ true → TimestampsDiffer (x ∷ xs)
@@ -69,8 +72,9 @@ without_first x xs e t has differ =
 pub TimestampsDiffer-taken : (xs : List Triple) (i : ℕ) (x : Triple) → i < length xs → x ≡ get_or xs i x
     → TimestampsDiffer xs → TimestampsDiffer (swap_remove xs i x)
 TimestampsDiffer-taken xs i x within at differ =
-    let both = TimestampsDiffer-IsPermutation xs (x ∷ swap_remove xs i x) (IsPermutation-swap_remove xs i x within at) differ in
-    both.1
+    let moved = IsPermutation-swap_remove xs i x within at in
+    let apart = TimestampsDiffer-IsPermutation xs (x ∷ swap_remove xs i x) moved differ in
+    apart.1
 
 pub without_taken : (xs : List Triple) (i : ℕ) (x : Triple) (e t : ℕ) → i < length xs → x ≡ get_or xs i x
     → has_numbers e t x ≡ true → TimestampsDiffer xs → set_of (swap_remove xs i x) ≡ without (set_of xs) e t

@@ -4,7 +4,7 @@ use Rattle.std.specs.Prelude.{◌==◌, ◌&&◌, ◌||◌, not, nat_lt, nat_le,
 use Rattle.std.specs.List.{AllByRecursion}
 use Rattle.std.proofs.lemmas.Bool.{eq-eqb, ne_eqb}
 use Rattle.std.proofs.lemmas.List.{append-nil, length-map, map-append}
-use Rattle.std.proofs.lemmas.List.Elements.{filter-append}
+use Rattle.std.proofs.lemmas.List.Elements.{filter-append, filter_agree}
 use Rattle.cdc_expiry.specs.declared.triple.Triple.{Triple}
 use Rattle.cdc_types.specs.declared.events.Entry.{Entry}
 use Rattle.cdc_types.specs.declared.transfers.Transfer.{Transfer}
@@ -42,11 +42,7 @@ is_due-ready h now e =
     ends_last (holds e.kind) (not (e.transfer.timeout == 0)) (nat_le (expires_at e.transfer) now) (resolved h e.transfer h.last)
 
 filter-ready : (h : History) (now : ℕ) (es : List Entry) → filter (is_due h now) es ≡ filter (is_ready h now) es
-filter-ready h now es = filter_same (is_due h now) (is_ready h now) es (every es)
-  where
-    every : (es : List Entry) → AllByRecursion (λ e. is_due h now e ≡ is_ready h now e) es
-    every [] = tt
-    every (e ∷ es) = (is_due-ready h now e, every es)
+filter-ready h now es = filter_agree (is_due h now) (is_ready h now) (is_due-ready h now) es
 
 -- the triples whose end has come
 abbrev pub ready_triples : History → ℕ → List Triple

@@ -25,6 +25,7 @@ pub mod IndexLaws
 pub mod DueLaws
 pub mod IndexTimes
 pub mod IndexKept
+pub mod IndexNext
 pub mod Judged
 pub mod Recorded
 pub mod Answered

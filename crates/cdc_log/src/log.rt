@@ -89,7 +89,12 @@ impl EventLog {
     }
 
     /// The first `limit` events with a timestamp above `timestamp`, in order; an error is want of memory for them.
-    pub fn read_after(&self, alloc: Global, timestamp: u64, limit: usize) -> Result<Vec<Event>, AllocError>
+    pub fn read_after(
+        &self,
+        alloc: Global,
+        timestamp: u64,
+        limit: usize,
+    ) -> Result<Vec<Event>, AllocError>
         ensures { IfOk result (λ read. read.items ≡ take limit (events_after timestamp self.now.events)) }
     {
         self.events

@@ -7,7 +7,8 @@ use Rattle.cdc_expiry.proofs.index.DueIndex.add.Goals as goal
 
 pub invariant_of-self : goal.invariant_of-self
 invariant_of-self c =
-    let fresh = subst (λ (i : Index). IsNewTimestamp i.triples c.args.triple.timestamp) (sym c.self.view_is) c.requires.fresh in
+    let IsNew = λ (i : Index). IsNewTimestamp i.triples c.args.triple.timestamp in
+    let fresh = subst IsNew (sym c.self.view_is) c.requires.fresh in
     rw c.push_reserved.ensures.items (TimestampsDiffer-push _ _ c.self.invariant (others-set_of _ _ fresh))
 
 pub returns-clause-triples : goal.returns-clause-triples

@@ -1,6 +1,5 @@
-use Rattle.std.proofs.Common.{subst, sym, List}
+use Rattle.std.proofs.Common.{subst, sym}
 use Rattle.cdc_expiry.specs.Triples.{TimestampsDiffer}
-use Rattle.cdc_expiry.proofs.Lists.{set_of}
 use Rattle.cdc_expiry.proofs.index.DueIndex.new.Goals as goal
 
 pub invariant_of-result : goal.invariant_of-result

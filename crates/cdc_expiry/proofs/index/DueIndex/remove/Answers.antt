@@ -1,4 +1,4 @@
-use Rattle.std.proofs.Common.{◌≡◌, ℕ, ◌<◌, true, false, List, length, get_or, Some, None, refl, sym, ap, ◌∙◌, subst}
+use Rattle.std.proofs.Common.{◌≡◌, ℕ, ◌<◌, true, false, List, length, get_or, Some, refl, sym, ap, ◌∙◌, subst}
 use Rattle.std.specs.List.{All, position}
 use Rattle.std.proofs.lemmas.Bool.{true≢false}
 use Rattle.std.proofs.lemmas.List.Quantifiers.{position-Some}
@@ -23,14 +23,15 @@ place xs ys e t i x found same at =
 taken : (c : goal.After-swap_remove)
     → Place c.self.inside.triples.items c.args.expires_at c.args.timestamp c.in-Some.place c.swap_remove.result
 taken c =
-    place c.self.inside.triples.items c.deref.result.now c.args.expires_at c.args.timestamp c.in-Some.place c.swap_remove.result
-    (sym c.place_of.ensures ∙ c.in-Some.is) c.deref.ensures.value c.swap_remove.ensures.value
+    place c.self.inside.triples.items c.deref.result.now c.args.expires_at c.args.timestamp c.in-Some.place
+    c.swap_remove.result (sym c.place_of.ensures ∙ c.in-Some.is) c.deref.ensures.value c.swap_remove.ensures.value
 
 pub invariant_of-self : goal.invariant_of-self
 invariant_of-self c =
     let p = taken c in
     subst TimestampsDiffer (sym c.swap_remove.ensures.items)
-    (TimestampsDiffer-taken c.self.inside.triples.items c.in-Some.place c.swap_remove.result p.within p.at c.self.invariant)
+    (TimestampsDiffer-taken c.self.inside.triples.items c.in-Some.place c.swap_remove.result p.within p.at
+    c.self.invariant)
 
 pub returns-in-Some-clause-found : goal.returns-in-Some-clause-found
 returns-in-Some-clause-found c =
@@ -46,7 +47,8 @@ returns-in-Some-clause-triples c =
     let e = c.args.expires_at in
     let t = c.args.timestamp in
     ap set_of c.swap_remove.ensures.items
-    ∙ without_taken c.self.inside.triples.items c.in-Some.place c.swap_remove.result e t p.within p.at p.has c.self.invariant
+    ∙ without_taken c.self.inside.triples.items c.in-Some.place c.swap_remove.result e t p.within p.at p.has
+    c.self.invariant
     ∙ ap (λ (i : Index). without i.triples e t) c.self.view_is
 
 -- no triple has the two numbers
