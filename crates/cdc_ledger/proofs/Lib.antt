@@ -26,5 +26,6 @@ pub mod DueLaws
 pub mod IndexTimes
 pub mod IndexKept
 pub mod IndexNext
+pub mod Expiring
 pub mod Judged
 pub mod Recorded
