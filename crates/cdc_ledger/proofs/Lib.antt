@@ -29,3 +29,4 @@ pub mod IndexNext
 pub mod Expiring
 pub mod Judged
 pub mod Recorded
+pub mod Answered

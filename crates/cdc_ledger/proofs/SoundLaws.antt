@@ -138,13 +138,13 @@ one_amount TwoPhaseExpired n = omega arith
 
 -- what joins the sums of an account fits in the place of what leaves them
 module _ (h : History) (e : Entry) (sound : IsSound h) (follows : Follows h e) where
-  abbrev DebitFits : ℕ → Type 0
+  abbrev pub DebitFits : ℕ → Type 0
   DebitFits a = (balances h a h.last).debits_pending + (balances h a h.last).debits_posted + (effect_of h e).held + (effect_of h e).moved ≤ max_128 + (effect_of h e).released
 
-  abbrev CreditFits : ℕ → Type 0
+  abbrev pub CreditFits : ℕ → Type 0
   CreditFits a = (balances h a h.last).credits_pending + (balances h a h.last).credits_posted + (effect_of h e).held + (effect_of h e).moved ≤ max_128 + (effect_of h e).released
 
-  both_fit : (b : Bool) → settles e.kind ≡ b → DebitFits e.transfer.debit_account_id × CreditFits e.transfer.credit_account_id
+  pub both_fit : (b : Bool) → settles e.kind ≡ b → DebitFits e.transfer.debit_account_id × CreditFits e.transfer.credit_account_id
   both_fit true is =
       let of : SettlesOpen h e = follows.settling is in
       let out : (effect_of h e).released ≡ of.pending.transfer.amount = ap amount_of (settled_by_is h e of.pending is of.settles) in

@@ -28,8 +28,8 @@ pub record IsMovement (accounts : List Account) (h : History) (m : Movement) : T
 
 -- one side's sums take the effect: what is released is there, and what is added fits 128 bits
 pub record SideFits (f : Effect) (pending posted : ℕ) : Type 0 where
-  pub held : pending + f.held < 2 ^ 128
-  pub released : f.released ≤ pending + f.held
+  pub released : f.released ≤ pending
+  pub held : pending + f.held < 2 ^ 128 + f.released
   pub moved : posted + f.moved < 2 ^ 128
 
 -- the account that is debited, and the one that is credited, after the effect

@@ -28,7 +28,7 @@ impl Effect {
         ensures { account.new ≡ debited self.now account.old }
     {
         let balances = &mut account.balances;
-        balances.debits_pending = balances.debits_pending + self.held - self.released;
+        balances.debits_pending = balances.debits_pending - self.released + self.held;
         balances.debits_posted += self.moved;
     }
 
@@ -38,7 +38,7 @@ impl Effect {
         ensures { account.new ≡ credited self.now account.old }
     {
         let balances = &mut account.balances;
-        balances.credits_pending = balances.credits_pending + self.held - self.released;
+        balances.credits_pending = balances.credits_pending - self.released + self.held;
         balances.credits_posted += self.moved;
     }
 }

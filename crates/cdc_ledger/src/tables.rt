@@ -1,6 +1,7 @@
 //! What the ledger keeps, and the steps that it takes.
 
 ghost use Rattle.std.specs.Prelude.{◌≡◌, ℕ, ◌+◌, ◌≤◌, ◌<◌, true, false, None, Some, option_map, [], length, vec_capacity, OnOk, IfErr};
+ghost use Rattle.std.specs.List.{AllByRecursion};
 ghost use Rattle.std.specs.Option.{option_copied};
 ghost use Rattle.cdc_types.specs.Features.{features};
 ghost use Rattle.cdc_types.specs.Lines.{first_line};
@@ -10,6 +11,7 @@ ghost use Rattle.cdc_ledger.specs.Due.{due};
 ghost use Rattle.cdc_ledger.specs.Effects.{settled_by};
 ghost use Rattle.cdc_ledger.specs.Events.{account_now};
 ghost use Rattle.cdc_ledger.specs.Filling.{stored};
+ghost use Rattle.cdc_ledger.specs.Fits.{BatchFits, NewAccountFits, NewTransferFits};
 ghost use Rattle.cdc_ledger.specs.Follows.{Follows};
 ghost use Rattle.cdc_ledger.specs.History.{empty_history, opened};
 ghost use Rattle.cdc_ledger.specs.Kinds as kinds;
@@ -122,23 +124,24 @@ impl Tables {
     }
 
     /// Takes a request for an account, for which there is room, at this moment.
-    fn take_account(&mut self, request: &NewAccount, timestamp: u64) -> AccountResult
+    fn take_account(&mut self, request: NewAccount, timestamp: u64) -> AccountResult
         requires kept { IsKept self.old }
         requires later { self.old.last < timestamp }
         requires within { timestamp ≤ max_timestamp }
         requires room { 0 < room_for_accounts self.old }
-        ensures result { result ≡ account_verdict features (history_of self.old) request.now }
-        ensures history { history_of self.new ≡ after_account (history_of self.old) request.now timestamp result }
+        ensures result { result ≡ account_verdict features (history_of self.old) request }
+        ensures history { history_of self.new ≡ after_account (history_of self.old) request timestamp result }
+        ensures fits { NewAccountFits request }
         ensures kept { IsKept self.new }
         ensures room { room_for_accounts self.old ≤ room_for_accounts self.new + 1 }
     {
-        match self.account_refusal(request) {
+        match self.account_refusal(&request) {
             Some(refusal) => {
                 self.take_timestamp(timestamp);
                 refusal
             }
             None => {
-                self.open_account(request, timestamp);
+                self.open_account(&request, timestamp);
                 AccountResult::Accepted
             }
         }
@@ -191,19 +194,20 @@ impl Tables {
     }
 
     /// Takes a request for a transfer, for which there is room, at this moment.
-    fn take_transfer(&mut self, request: &NewTransfer, timestamp: u64) -> TransferResult
+    fn take_transfer(&mut self, request: NewTransfer, timestamp: u64) -> TransferResult
         requires kept { IsKept self.old }
         requires later { self.old.last < timestamp }
         requires within { timestamp ≤ max_timestamp }
         requires room { 0 < room_for_entries self.old }
         requires index_room { 0 < self.old.index.room }
-        ensures result { result ≡ transfer_verdict features (history_of self.old) request.now timestamp }
-        ensures history { history_of self.new ≡ after_transfer (history_of self.old) request.now timestamp result }
+        ensures result { result ≡ transfer_verdict features (history_of self.old) request timestamp }
+        ensures history { history_of self.new ≡ after_transfer (history_of self.old) request timestamp result }
+        ensures fits { NewTransferFits request }
         ensures kept { IsKept self.new }
         ensures room { room_for_entries self.old ≤ room_for_entries self.new + 1 }
         ensures index_room { self.old.index.room ≤ self.new.index.room + 1 }
     {
-        match self.judge(request, timestamp) {
+        match self.judge(&request, timestamp) {
             Err(refusal) => {
                 self.take_timestamp(timestamp);
                 refusal
@@ -293,10 +297,11 @@ impl Tables {
         requires results_room { length requests.now ≤ vec_capacity results }
         ensures taken { accounts_from features (history_of self.old) base requests.now
             ≡ (result.items, history_of self.new) }
+        ensures fit { AllByRecursion NewAccountFits requests.now }
         ensures kept { IsKept self.new }
     {
         for (place, request) in requests.iter().enumerate() {
-            results.push_reserved(self.take_account(request, base + place as u64));
+            results.push_reserved(self.take_account(*request, base + place as u64));
         }
         results
     }
@@ -317,10 +322,11 @@ impl Tables {
         requires results_room { length requests.now ≤ vec_capacity results }
         ensures taken { transfers_from features (history_of self.old) base requests.now
             ≡ (result.items, history_of self.new) }
+        ensures fit { AllByRecursion NewTransferFits requests.now }
         ensures kept { IsKept self.new }
     {
         for (place, request) in requests.iter().enumerate() {
-            results.push_reserved(self.take_transfer(request, base + place as u64));
+            results.push_reserved(self.take_transfer(*request, base + place as u64));
         }
         results
     }
@@ -335,6 +341,7 @@ impl Tables {
         requires { IsKept self.old }
         ensures answers { Answers (λ v. BatchResults.Accounts v.items) (history_of self.old)
             (Batch.Accounts now requests.now) result (history_of self.new) }
+        ensures fit { OnOk result (BatchFits (Batch.Accounts now requests.now)) }
         ensures kept { IsKept self.new }
     {
         if let Some(refusal) = self.batch_refusal(
@@ -360,6 +367,7 @@ impl Tables {
         requires { IsKept self.old }
         ensures answers { Answers (λ v. BatchResults.Transfers v.items) (history_of self.old)
             (Batch.Transfers now requests.now) result (history_of self.new) }
+        ensures fit { OnOk result (BatchFits (Batch.Transfers now requests.now)) }
         ensures kept { IsKept self.new }
     {
         if let Some(refusal) = self.batch_refusal(
