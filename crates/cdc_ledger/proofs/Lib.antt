@@ -26,6 +26,7 @@ pub mod DueLaws
 pub mod IndexTimes
 pub mod IndexKept
 pub mod IndexNext
+pub mod Expiring
 pub mod Judged
 pub mod Recorded
 pub mod Answered
