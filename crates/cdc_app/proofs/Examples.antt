@@ -18,7 +18,7 @@ use Rattle.cdc_app.specs.declared.faults.ScriptFault.{ScriptFault}
 use Rattle.cdc_app.specs.declared.scripts.Script.{Script}
 use Rattle.cdc_app.specs.Book.{book_of}
 use Rattle.cdc_app.specs.Printed.{outcome_of}
-use Rattle.cdc_app.specs.declared.commands.Report.TheVariants.{Book, Messages}
+use Rattle.cdc_app.specs.declared.commands.Report.TheVariants.{Book}
 use Rattle.cdc_app.specs.Report.{batch_line, subscriber_lines}
 use Rattle.cdc_app.specs.Scripts.{script_of}
 
