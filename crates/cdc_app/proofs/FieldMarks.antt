@@ -13,7 +13,8 @@ pub record AreMarks (marks : List Bool) (given : List Key) : Type 0 where
   pub tells : (k : Key) → slice_index_or marks (key_place k) false ≡ is_given k given
 
 -- what is left of a line makes of the fields so far what the whole line makes
-pub record IsRead (kind : ItemKind) (marks : List Bool) (fields : Fields) (rest : List (List ℕ)) (whole : Result Fields FaultKind) : Type 0 where
+pub record IsRead (kind : ItemKind) (marks : List Bool) (fields : Fields) (rest : List (List ℕ))
+    (whole : Result Fields FaultKind) : Type 0 where
   pub given : List Key
   pub marked : AreMarks marks given
   pub same : fields_from kind given fields rest ≡ whole
