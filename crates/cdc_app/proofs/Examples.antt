@@ -18,7 +18,7 @@ use Rattle.cdc_app.specs.declared.faults.ScriptFault.{ScriptFault}
 use Rattle.cdc_app.specs.declared.scripts.Script.{Script}
 use Rattle.cdc_app.specs.Book.{book_of}
 use Rattle.cdc_app.specs.Printed.{outcome_of}
-use Rattle.cdc_app.specs.declared.commands.Report.TheVariants.{Book, Messages}
+use Rattle.cdc_app.specs.declared.commands.Report.TheVariants.{Book}
 use Rattle.cdc_app.specs.Report.{batch_line, subscriber_lines}
 use Rattle.cdc_app.specs.Scripts.{script_of}
 
@@ -32,7 +32,8 @@ abbrev fault : ℕ → FaultKind → Result Script ScriptFault
 fault line kind = Err (record { line = line; kind = kind })
 
 -- a script with a comment, a blank line and a carriage return: two batches, the second one of client 2 and empty
-reads_batches : script_of (codes "# a comment\nsubscriber all\r\naccounts 1000\naccount id=1 ledger=700\n\naccount code=10 ledger=700 id=002\nclient 2\ntransfers 2000\n")
+reads_batches : script_of
+    (codes "# a comment\nsubscriber all\r\naccounts 1000\naccount id=1 ledger=700\n\naccount code=10 ledger=700 id=002\nclient 2\ntransfers 2000\n")
     ≡ Ok (record {
       batches =
           record { client = 1; batch = batch.Accounts 1000 (account 1 0 ∷ account 2 10 ∷ []) }
@@ -54,7 +55,8 @@ refuses_lines : (script_of (codes "subscriber all\naccount x\n") ≡ fault 2 kin
 refuses_lines = (refl, refl, refl)
 
 -- the lines of batches
-prints_batches : (batch_line 2 (Ok (results.Transfers (Accepted ∷ OverflowsDebitsPosted ∷ []))) ≡ codes "batch 2: 0 31\n")
+prints_batches : (batch_line 2 (Ok (results.Transfers (Accepted ∷ OverflowsDebitsPosted ∷ [])))
+    ≡ codes "batch 2: 0 31\n")
     × (batch_line 3 (Ok (results.Accounts [])) ≡ codes "batch 3:\n")
     × (batch_line 4 (Ok (results.Pulsed 0)) ≡ codes "batch 4: pulse 0\n")
     × (batch_line 1 (Err BatchTooLarge) ≡ codes "batch 1 refused: 2 batch_too_large\n")
@@ -102,7 +104,16 @@ event timestamp debit credit = record {
 -- an account of a book
 abbrev entry : ℕ → ℕ → ℕ → BookEntry
 entry id debits credits =
-    record { id = id; balances = record { debits_pending = 0; debits_posted = debits; credits_pending = 0; credits_posted = credits } }
+    record {
+      id = id;
+      balances = record {
+        debits_pending = 0;
+        debits_posted = debits;
+        credits_pending =
+            0;
+        credits_posted = credits;
+      };
+    }
 
 -- 5 go from account 2 to account 1, and then 7 from account 1 to account 3
 abbrev two_events : List Event
@@ -123,7 +134,8 @@ unfolding digits
 prints_subscriber = refl
 
 -- from bytes to bytes: one transfer
-prints_transfer : outcome_of Book (codes "subscriber all\naccounts 1000\naccount id=1 ledger=700 code=10\naccount id=2 ledger=700 code=10\ntransfers 2000\ntransfer id=1 debit_account_id=1 credit_account_id=2 amount=100 ledger=700 code=1\n")
+prints_transfer : outcome_of Book
+    (codes "subscriber all\naccounts 1000\naccount id=1 ledger=700 code=10\naccount id=2 ledger=700 code=10\ntransfers 2000\ntransfer id=1 debit_account_id=1 credit_account_id=2 amount=100 ledger=700 code=1\n")
     ≡ record {
       text = codes "batch 1: 0 0\nbatch 2: 0\nsubscriber 1 applied 1 last 2000 ended yes closed no\naccount 1 0 100 0 0\naccount 2 0 0 0 100\n";
       ending = Done;
@@ -132,6 +144,10 @@ unfolding digits
 prints_transfer = refl
 
 -- from bytes to bytes: a bad script
-prints_fault : outcome_of Book (codes "subscriber all\naccounts x") ≡ record { text = codes "fault: script line 2: bad_number\n"; ending = BadScript (record { line = 2; kind = kind.BadNumber }) }
+prints_fault : outcome_of Book (codes "subscriber all\naccounts x") ≡ record {
+  text =
+      codes "fault: script line 2: bad_number\n";
+  ending = BadScript (record { line = 2; kind = kind.BadNumber });
+}
 unfolding digits
 prints_fault = refl

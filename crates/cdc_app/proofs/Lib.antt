@@ -1,5 +1,6 @@
 mod Examples
 pub mod BookLemmas
+pub mod FieldMarks
 pub mod LineLemmas
 pub mod NumberLemmas
 pub mod ReadLemmas

@@ -4,7 +4,8 @@ use Rattle.std.specs.Io.KnownBytes.{Consumes}
 use Rattle.cdc_app.specs.Refusals.{ConsumesAtMost}
 
 -- two pieces, one after the other, are one
-pub consumes_more : (a b c : Option (List ℕ)) (xs ys : List ℕ) → Consumes a b xs → Consumes b c ys → Consumes a c (xs ++ ys)
+pub consumes_more : (a b c : Option (List ℕ)) (xs ys : List ℕ) → Consumes a b xs → Consumes b c ys
+    → Consumes a c (xs ++ ys)
 consumes_more None b c xs ys h k = tt
 consumes_more (Some as') None c xs ys h k = absurd h
 consumes_more (Some as') (Some bs) None xs ys h k = absurd k

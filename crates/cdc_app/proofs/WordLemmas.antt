@@ -9,14 +9,17 @@ use borrow.Author.Tests.{ltb-true, ltb-false}
 use Rattle.cdc_app.specs.Words.{words}
 
 -- where no byte parts the text, it is one part
-pub unparted : (p : ℕ → Bool) (bytes : List ℕ) → nat_lt (position_or_len p bytes) (length bytes) ≡ false → slice_split p bytes ≡ bytes ∷ []
+pub unparted : (p : ℕ → Bool) (bytes : List ℕ) → nat_lt (position_or_len p bytes) (length bytes) ≡ false
+    → slice_split p bytes ≡ bytes ∷ []
 unparted p bytes h =
     slice_split_none p bytes (λ k d below. fails_before_first p bytes k d (omega (arith, ltb-false _ _ h)))
 
 -- the first part and the others
 split_found : (p : ℕ → Bool) (bytes : List ℕ) (i : ℕ) (t : Bool) → nat_lt (position_or_len p bytes) (length bytes) ≡ t
-    → cond t (Some (position_or_len p bytes)) None ≡ Some i → slice_split p bytes ≡ take i bytes ∷ slice_split p (drop (i + 1) bytes)
-split_found p bytes i true h e = let same : position_or_len p bytes ≡ i = cc in rw (← same) (slice_split_first p bytes 0 (ltb-true _ _ h))
+    → cond t (Some (position_or_len p bytes)) None ≡ Some i
+    → slice_split p bytes ≡ take i bytes ∷ slice_split p (drop (i + 1) bytes)
+split_found p bytes i true h e = let same : position_or_len p bytes ≡ i = cc in
+    rw (← same) (slice_split_first p bytes 0 (ltb-true _ _ h))
 split_found p bytes i false h e = cc
 
 split_missing : (p : ℕ → Bool) (bytes : List ℕ) (t : Bool) → nat_lt (position_or_len p bytes) (length bytes) ≡ t
@@ -34,29 +37,34 @@ pub slice_split_nowhere : (p : ℕ → Bool) (bytes : List ℕ) → position p b
 slice_split_nowhere p bytes h = split_missing p bytes _ refl h
 
 -- a text has a first part
-onto_first_some : (x : ℕ) (parts : List (List ℕ)) → (y : List ℕ) × (more : List (List ℕ)) × (onto_first x parts ≡ y ∷ more)
+onto_first_some : (x : ℕ) (parts : List (List ℕ)) → (y : List ℕ) × (more : List (List ℕ))
+    × (onto_first x parts ≡ y ∷ more)
 onto_first_some x [] = (_, _, refl)
 onto_first_some x (part ∷ parts) = (_, _, refl)
 
 some_part : (p : ℕ → Bool) (bytes : List ℕ) → (y : List ℕ) × (more : List (List ℕ)) × (slice_split p bytes ≡ y ∷ more)
 some_part p [] = (_, _, refl)
 some_part p (x ∷ xs) =
-    elim (p x) as (λ t. (y : List ℕ) × (more : List (List ℕ)) × (cond t ([] ∷ slice_split p xs) (onto_first x (slice_split p xs)) ≡ y ∷ more))
+    elim (p x) as (λ t. (y : List ℕ) × (more : List (List ℕ))
+    × (cond t ([] ∷ slice_split p xs) (onto_first x (slice_split p xs)) ≡ y ∷ more))
     [ true ↦ (_, _, refl) | false ↦ onto_first_some x (slice_split p xs) ]
 
 -- the lines of a text whose parts are these
-pub lines_of_first : (text line after : List ℕ) → slice_split (λ b. b == 10) text ≡ line ∷ slice_split (λ b. b == 10) after
+pub lines_of_first : (text line after : List ℕ)
+    → slice_split (λ b. b == 10) text ≡ line ∷ slice_split (λ b. b == 10) after
     → lines text ≡ strip_carriage_return line ∷ lines after
 lines_of_first text line after h =
     let s = some_part (λ b. b == 10) after in
     rw h (rw s.2 refl)
 
 -- the one line of a text without a line feed
-pub lines_of_one : (text : List ℕ) → slice_split (λ b. b == 10) text ≡ text ∷ [] → (length text == 0) ≡ false → lines text ≡ text ∷ []
+pub lines_of_one : (text : List ℕ) → slice_split (λ b. b == 10) text ≡ text ∷ [] → (length text == 0) ≡ false
+    → lines text ≡ text ∷ []
 lines_of_one text h some = rw (h, some) refl
 
 -- an empty part is no word
-pub words_skip : (line after : List ℕ) → slice_split (λ b. b == 32) line ≡ [] ∷ slice_split (λ b. b == 32) after → words line ≡ words after
+pub words_skip : (line after : List ℕ) → slice_split (λ b. b == 32) line ≡ [] ∷ slice_split (λ b. b == 32) after
+    → words line ≡ words after
 words_skip line after h = rw h refl
 
 -- another part is one

@@ -1,7 +1,7 @@
 -- The fields of an item: words of the form key=value.
-use Rattle.std.specs.Prelude.{ℕ, Bool, true, false, List, [], ◌∷◌, Option, Result, Ok, Err, codes, find, replicate, slice_set, if◌then◌else◌}
+use Rattle.std.specs.Prelude.{ℕ, Bool, ◌==◌, List, [], ◌∷◌, Option, Result, Ok, Err, codes, find, if◌then◌else◌}
 use Rattle.std.specs.Option.{ok_or}
-use Rattle.std.specs.List.{slice_index_or}
+use Rattle.std.specs.List.{list_any}
 use Rattle.std.specs.Str.{bytes_eq}
 use Rattle.cdc_types.specs.declared.accounts.NewAccount.{NewAccount}
 use Rattle.cdc_types.specs.declared.transfers.NewTransfer.{NewTransfer}
@@ -120,18 +120,22 @@ key_place key.Ledger = 9
 key_place key.Code = 10
 key_place key.Flags = 11
 
--- what further words add to the fields; no key may come twice
-abbrev pub fields_from : ItemKind → List Bool → Fields → List (List ℕ) → Result Fields FaultKind
+-- the key is one of these
+abbrev pub is_given : Key → List Key → Bool
+is_given key given = list_any (λ other. key_place other == key_place key) given
+
+-- what further words add to the fields, of which these keys are given already; no key may come twice
+abbrev pub fields_from : ItemKind → List Key → Fields → List (List ℕ) → Result Fields FaultKind
 fields_from kind given fields [] = Ok fields
 fields_from kind given fields (word ∷ rest) = do
   field ← field_of kind word
-  if slice_index_or given (key_place field.0) false then Err KeyTwice
-      else fields_from kind (slice_set given (key_place field.0) true) (with_field fields field.0 field.1) rest
+  if is_given field.0 given then Err KeyTwice
+      else fields_from kind (field.0 ∷ given) (with_field fields field.0 field.1) rest
 
 -- the fields of an item: its line gives one at least, and a field that it doesn't give is 0
 abbrev pub fields_of : ItemKind → List (List ℕ) → Result Fields FaultKind
 fields_of kind [] = Err WrongCount
-fields_of kind (word ∷ rest) = fields_from kind (replicate 12 false) no_fields (word ∷ rest)
+fields_of kind (word ∷ rest) = fields_from kind [] no_fields (word ∷ rest)
 
 -- the account that the fields ask for
 abbrev pub account_of : Fields → NewAccount

@@ -16,5 +16,6 @@ number_value digits = fold (λ value digit. 10 * value + (digit - 48)) 0 digits
 -- the number of a word, which may not be above the greatest
 abbrev pub number_of : ℕ → List ℕ → Result ℕ FaultKind
 number_of greatest word =
-    if is_number word then (if nat_le (number_value word) greatest then Ok (number_value word) else Err NumberOutOfRange)
+    if is_number word then (if nat_le (number_value word) greatest then Ok (number_value word)
+    else Err NumberOutOfRange)
     else Err BadNumber

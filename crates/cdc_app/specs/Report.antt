@@ -53,7 +53,8 @@ subscriber_lines number events = subscriber_text number (length events) (last_ti
 
 -- the line of a bad script
 abbrev pub script_fault_line : ScriptFault → List ℕ
-script_fault_line at = codes "fault: script line" ++ (spaced at.line ++ (codes ": " ++ (kind_name at.kind ++ codes "\n")))
+script_fault_line at = codes "fault: script line"
+    ++ (spaced at.line ++ (codes ": " ++ (kind_name at.kind ++ codes "\n")))
 
 -- the line of a command that gave up
 abbrev pub program_fault_line : ProgramFault → List ℕ

@@ -44,13 +44,15 @@ binding_line (mode ∷ rest) =
 
 -- a subscriber, unless there are as many as there may be
 abbrev pub subscriber_line : ℕ → List (List ℕ) → Result Statement FaultKind
-subscriber_line subscribers rest = if nat_le max_subscribers subscribers then Err TooManySubscribers else binding_line rest
+subscriber_line subscribers rest = if nat_le max_subscribers subscribers then Err TooManySubscribers
+    else binding_line rest
 
 -- the client of the batches that follow
 abbrev pub client_line : List (List ℕ) → Result Statement FaultKind
 client_line rest = do
   number ← number_word rest
-  if (number.0 == 0) || nat_lt max_client number.0 then Err BadClient else ended WrongCount (says.Client number.0) number.1
+  if (number.0 == 0) || nat_lt max_client number.0 then Err BadClient
+      else ended WrongCount (says.Client number.0) number.1
 
 -- a moment alone
 abbrev pub moment_line : List (List ℕ) → Result ℕ FaultKind
@@ -65,7 +67,8 @@ account_line _ rest = Err NoOpenBatch
 
 -- a transfer of the open batch, which has to be one of transfers
 abbrev pub transfer_line : Option ItemKind → List (List ℕ) → Result Statement FaultKind
-transfer_line (Some item.Transfer) rest = fields_of item.Transfer rest >>= λ fields. Ok (says.Transfer (transfer_of fields))
+transfer_line (Some item.Transfer) rest =
+    fields_of item.Transfer rest >>= λ fields. Ok (says.Transfer (transfer_of fields))
 transfer_line _ rest = Err NoOpenBatch
 
 -- the first word decides what the words after it mean

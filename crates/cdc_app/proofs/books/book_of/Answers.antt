@@ -9,10 +9,15 @@ pub loop-place-preserved : goal.loop-place-preserved
 loop-place-preserved c =
     elim c.match-get.branch [
       | in-Some+in_ok-received+in_ok-apply w ↦
-          let found : slice_get c.args.log.now.events c.loop-place.place ≡ Some w.in-Some.event.now = sym w.in-Some.ensures in
-          let applied : w.apply.new.self ≡ book_of (take c.loop-place.place c.args.log.now.events ++ w.in-Some.event.now ∷ []) =
-          rw (← w.in_ok-received.ensures) (w.in_ok-apply.ensures.ok (take c.loop-place.place c.args.log.now.events) c.loop-place.invariant) in
-          w.book-is ∙ applied ∙ ap book_of (sym (take_found c.args.log.now.events c.loop-place.place w.in-Some.event.now found))
+          let found : slice_get c.args.log.now.events c.loop-place.place ≡ Some w.in-Some.event.now =
+          sym w.in-Some.ensures in
+          let applied : w.apply.new.self ≡ book_of (take c.loop-place.place c.args.log.now.events
+          ++ w.in-Some.event.now ∷ []) =
+          rw (← w.in_ok-received.ensures) (w.in_ok-apply.ensures.ok (take c.loop-place.place c.args.log.now.events)
+          c.loop-place.invariant) in
+          w.book-is ∙ applied ∙ ap book_of (sym (take_found c.args.log.now.events c.loop-place.place
+          w.in-Some.event.now found))
       | in_default w ↦
-          absurd (found_within c.args.log.now.events c.loop-place.place (omega (arith, c.len-place-end.ensures)) (sym w.in_default.ensures))
+          absurd (found_within c.args.log.now.events c.loop-place.place (omega (arith, c.len-place-end.ensures))
+          (sym w.in_default.ensures))
     ]

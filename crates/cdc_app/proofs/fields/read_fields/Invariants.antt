@@ -1,14 +1,13 @@
-use Rattle.std.proofs.Common.{◌≡◌, length}
+use Rattle.std.proofs.Common.{length}
 use Rattle.cdc_app.specs.Fields.{fields_from, no_fields}
-use Rattle.std.specs.Prelude.{replicate, false}
+use Rattle.std.specs.Prelude.{[]}
 use Rattle.cdc_app.specs.Words.{words as words_of}
+use Rattle.cdc_app.proofs.FieldMarks.{IsRead}
 use Rattle.cdc_app.proofs.fields.read_fields.Given as goal
 
 abbrev pub invariant-loop-word : goal.invariant-loop-word
-invariant-loop-word l = record {
-  length : length l.given ≡ 12;
-  same : fields_from l.kind l.given l.fields (words_of l.rest) ≡ fields_from l.kind (replicate 12 false) no_fields (words_of l.words);
-}
+invariant-loop-word l =
+    IsRead l.kind l.given l.fields (words_of l.rest) (fields_from l.kind [] no_fields (words_of l.words))
 
 abbrev pub decreases-loop-word : goal.decreases-loop-word
 decreases-loop-word l = length l.rest

@@ -11,9 +11,12 @@ pub loop-place-preserved : goal.loop-place-preserved
 loop-place-preserved c =
     elim c.match-get.branch [
       | in-Some+in_ok-push_message w ↦
-          let found : slice_get c.args.log.now.events c.loop-place.place ≡ Some w.in-Some.event.now = sym w.in-Some.ensures in
-          texts_more message_lines c.args.log.now.events c.loop-place.place w.in-Some.event.now _ _ c.loop-place.invariant found
+          let found : slice_get c.args.log.now.events c.loop-place.place ≡ Some w.in-Some.event.now =
+          sym w.in-Some.ensures in
+          texts_more message_lines c.args.log.now.events c.loop-place.place w.in-Some.event.now _ _
+          c.loop-place.invariant found
           (ap string_bytes w.text-is ∙ w.in_ok-push_message.ensures)
       | in_default w ↦
-          absurd (found_within c.args.log.now.events c.loop-place.place (omega (arith, c.len-place-end.ensures)) (sym w.in_default.ensures))
+          absurd (found_within c.args.log.now.events c.loop-place.place (omega (arith, c.len-place-end.ensures))
+          (sym w.in_default.ensures))
     ]

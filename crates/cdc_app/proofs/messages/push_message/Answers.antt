@@ -14,5 +14,7 @@ returns c =
     let text : string_bytes c.push_str.new.self ≡ string_bytes c.push_headers.new.text ++ body c.args.event.now =
     rw (c.body.ensures.text, c.in_ok-message.ensures) at c.in_ok-push_str.ensures.bytes in
     pieces _ (string_bytes c.push_headers.new.text) _
-    (headers_line (headers_of_event c.args.event.now) (seconds_of c.args.event.now)) (body c.args.event.now ++ codes "\n") line
-    (pieces _ (string_bytes c.push_str.new.self) _ (body c.args.event.now) (codes "\n") text c.in_ok-push_str-2.ensures.bytes)
+    (headers_line (headers_of_event c.args.event.now) (seconds_of c.args.event.now)) (body c.args.event.now
+    ++ codes "\n") line
+    (pieces _ (string_bytes c.push_str.new.self) _ (body c.args.event.now) (codes "\n") text
+    c.in_ok-push_str-2.ensures.bytes)

@@ -7,4 +7,5 @@ use Rattle.cdc_app.proofs.report.push_account_results.Given as goal
 
 abbrev pub invariant-loop-result : goal.invariant-loop-result
 invariant-loop-result l =
-    string_bytes l.text ≡ string_bytes l.initial.text ++ flat_map (λ r. spaced (account_number r)) (take l.result-index l.results)
+    string_bytes l.text ≡ string_bytes l.initial.text
+    ++ flat_map (λ r. spaced (account_number r)) (take l.result-index l.results)

@@ -5,4 +5,5 @@ use Rattle.cdc_app.specs.Report.{account_line}
 use Rattle.cdc_app.proofs.report.push_accounts.Given as goal
 
 abbrev pub invariant-loop-entry : goal.invariant-loop-entry
-invariant-loop-entry l = string_bytes l.text ≡ string_bytes l.initial.text ++ flat_map account_line (take l.entry-index l.book)
+invariant-loop-entry l = string_bytes l.text ≡ string_bytes l.initial.text
+    ++ flat_map account_line (take l.entry-index l.book)
