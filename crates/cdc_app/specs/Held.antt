@@ -4,8 +4,8 @@ use Rattle.cdc_ledger.specs.Balances.{as_of}
 use Rattle.cdc_ledger.specs.Events.{events}
 use Rattle.cdc_ledger.specs.History.{History}
 use Rattle.cdc_log.specs.Log.{last_timestamp_of}
-use Rattle.cdc_app.specs.declared.book.BookEntry.{BookEntry}
-use Rattle.cdc_app.specs.Book.{book_of, accounts_of}
+use Rattle.cdc_subscriber.specs.declared.book.BookEntry.{BookEntry}
+use Rattle.cdc_subscriber.specs.Book.{book_of, accounts_of}
 
 -- an account with the ledger's balances as of the moment t
 abbrev pub entry_as_of : History → ℕ → ℕ → BookEntry

@@ -1,5 +1,5 @@
-pub mod Book
 pub mod Faults
+pub mod Feeds
 pub mod Fields
 pub mod Held
 pub mod Messages

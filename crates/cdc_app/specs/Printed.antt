@@ -17,7 +17,7 @@ use Rattle.cdc_app.specs.declared.faults.ScriptFault.{ScriptFault}
 use Rattle.cdc_app.specs.declared.scripts.ClientBatch.{ClientBatch}
 use Rattle.cdc_app.specs.declared.scripts.Script.{Script}
 use Rattle.cdc_app.specs.Messages.{message_lines}
-use Rattle.cdc_app.specs.Report.{batch_line, subscriber_lines, script_fault_line, program_fault_line}
+use Rattle.cdc_app.specs.Report.{batch_line, script_fault_line, program_fault_line}
 use Rattle.cdc_app.specs.Scripts.{script_of}
 
 -- the ledger's answer, without the history after it
@@ -41,7 +41,7 @@ history_of script = record (history_after empty_history script.batches) { closed
 
 -- what `books` prints: the lines of the batches, and then those of a subscriber that has taken all events and the end
 abbrev pub printed_book : Script → List ℕ
-printed_book script = batch_lines 1 empty_history script.batches ++ subscriber_lines 1 (events (history_of script))
+printed_book script = batch_lines 1 empty_history script.batches
 
 -- what `messages` prints: the lines of each event
 abbrev pub printed_messages : Script → List ℕ

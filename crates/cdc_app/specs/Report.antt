@@ -3,25 +3,17 @@ use Rattle.std.specs.Prelude.{ℕ, List, ◌++◌, length, codes, decimal, Resul
 use Rattle.std.specs.List.{flat_map}
 use Rattle.cdc_types.specs.declared.batches.BatchResults.{BatchResults}
 use Rattle.cdc_types.specs.declared.batches.BatchResults.TheVariants as results
-use Rattle.cdc_types.specs.declared.events.Event.{Event}
 use Rattle.cdc_types.specs.Results.{account_number, transfer_number}
-use Rattle.cdc_log.specs.Log.{last_timestamp_of}
 use Rattle.cdc_ledger.specs.declared.errors.BatchError.{BatchError}
 use Rattle.cdc_ledger.specs.BatchErrors.{batch_error_number, batch_error_name}
-use Rattle.cdc_app.specs.declared.book.BookEntry.{BookEntry}
 use Rattle.cdc_app.specs.declared.faults.ProgramFault.{ProgramFault}
 use Rattle.cdc_app.specs.declared.faults.ProgramFault.TheVariants as fault
 use Rattle.cdc_app.specs.declared.faults.ScriptFault.{ScriptFault}
-use Rattle.cdc_app.specs.Book.{book_of}
 use Rattle.cdc_app.specs.Faults.{kind_name}
 
 -- a number behind a space
 abbrev pub spaced : ℕ → List ℕ
 spaced n = codes " " ++ decimal n
-
--- a number behind a word
-abbrev pub named : List ℕ → ℕ → List ℕ
-named name n = name ++ spaced n
 
 -- what the ledger answered to a batch: a number for each item, or how many transfers a pulse brought to their end
 abbrev pub answer_text : Result BatchResults BatchError → List ℕ
@@ -33,23 +25,6 @@ answer_text (Err e) = codes " refused:" ++ (spaced (batch_error_number e) ++ (co
 -- the line of the batch of this number, from 1
 abbrev pub batch_line : ℕ → Result BatchResults BatchError → List ℕ
 batch_line number answer = codes "batch " ++ (decimal number ++ (answer_text answer ++ codes "\n"))
-
--- the line of an account of a book
-abbrev pub account_line : BookEntry → List ℕ
-account_line entry =
-    codes "account" ++ (spaced entry.id ++ (spaced entry.balances.debits_pending ++ (spaced entry.balances.debits_posted
-    ++ (spaced entry.balances.credits_pending ++ (spaced entry.balances.credits_posted ++ codes "\n")))))
-
--- the lines of the subscriber of this number, from 1, that has taken the end: how many events it has applied, the
--- timestamp of the last one, and its book
-abbrev pub subscriber_text : ℕ → ℕ → ℕ → List BookEntry → List ℕ
-subscriber_text number applied last book =
-    named (codes "subscriber") number ++ (named (codes " applied") applied ++ (named (codes " last") last
-    ++ (codes " ended yes closed no\n" ++ flat_map account_line book)))
-
--- the same for a subscriber that has taken all of these events
-abbrev pub subscriber_lines : ℕ → List Event → List ℕ
-subscriber_lines number events = subscriber_text number (length events) (last_timestamp_of events) (book_of events)
 
 -- the line of a bad script
 abbrev pub script_fault_line : ScriptFault → List ℕ

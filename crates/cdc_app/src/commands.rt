@@ -44,7 +44,6 @@ pub struct Output {
 /// failed.
 pub fn books<R: Read, W: Write>(alloc: Global, reader: &mut R, writer: &mut W) -> Ending
     ensures writes { Writes Report.Book (R.remaining reader.old) (W.contents writer.old) (W.contents writer.new) result }
-    ensures holds { (script : Said) → HoldsBalances (history_of script) }
     ensures bounded { ConsumesAtMost (max_bytes + 1) (R.remaining reader.old) (R.remaining reader.new) }
 {
     print_report(alloc, Report::Book, reader, writer)

@@ -3,13 +3,13 @@
 
 mod advice;
 mod batches;
-mod book;
 mod books;
 mod command_line;
 mod commands;
 mod drafts;
 mod endings;
 mod faults;
+mod feeding;
 mod fields;
 mod messages;
 mod numbers;

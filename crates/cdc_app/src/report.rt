@@ -3,9 +3,8 @@
 ghost use Rattle.std.specs.Prelude.{◌≡◌, ◌++◌, codes, Err, OnOk, string_bytes};
 ghost use Rattle.std.specs.List.{flat_map};
 ghost use Rattle.cdc_types.specs.Results.{account_number, transfer_number};
-ghost use Rattle.cdc_app.specs.Report.{spaced, named, answer_text, batch_line, account_line, subscriber_text, script_fault_line};
+ghost use Rattle.cdc_app.specs.Report.{spaced, answer_text, batch_line, script_fault_line};
 
-use crate::book::BookEntry;
 use crate::faults::ScriptFault;
 use cdc_ledger::BatchError;
 use cdc_types::{AccountResult, BatchResults, TransferResult};
@@ -92,56 +91,6 @@ fn push_refusal(text: &mut String, refusal: BatchError) -> Result<(), AllocError
     push_spaced(text, refusal.number())?;
     text.push_str(" ")?;
     text.push_str(refusal.name())
-}
-
-/// The lines of a subscriber that has taken all of its events and the end: its number from 1, how many events it has
-/// applied, the timestamp of the last one in nanoseconds, and its book.
-pub fn push_subscriber(
-    text: &mut String,
-    number: u64,
-    applied: u64,
-    last: u64,
-    book: &[BookEntry],
-) -> Result<(), AllocError>
-    ensures { OnOk result (string_bytes text.new ≡ string_bytes text.old ++ subscriber_text number applied last book.now) }
-{
-    push_named(text, "subscriber", number)?;
-    push_named(text, " applied", applied)?;
-    push_named(text, " last", last)?;
-    text.push_str(" ended yes closed no\n")?;
-    push_accounts(text, book)?;
-    Ok(())
-}
-
-/// A word, a space and a number.
-fn push_named(text: &mut String, name: &str, number: u64) -> Result<(), AllocError>
-    ensures { OnOk result (string_bytes text.new ≡ string_bytes text.old ++ named name.now number) }
-{
-    text.push_str(name)?;
-    push_spaced(text, number)
-}
-
-/// The lines of the accounts of a book.
-fn push_accounts(text: &mut String, book: &[BookEntry]) -> Result<(), AllocError>
-    ensures { OnOk result (string_bytes text.new ≡ string_bytes text.old ++ flat_map account_line book.now) }
-{
-    for entry in book {
-        push_account(text, entry)?;
-    }
-    Ok(())
-}
-
-/// The line of an account of a book.
-fn push_account(text: &mut String, entry: &BookEntry) -> Result<(), AllocError>
-    ensures { OnOk result (string_bytes text.new ≡ string_bytes text.old ++ account_line entry.now) }
-{
-    text.push_str("account")?;
-    push_spaced(text, entry.id)?;
-    push_spaced(text, entry.balances.debits_pending)?;
-    push_spaced(text, entry.balances.debits_posted)?;
-    push_spaced(text, entry.balances.credits_pending)?;
-    push_spaced(text, entry.balances.credits_posted)?;
-    text.push_str("\n")
 }
 
 /// The line of a fault of a script.

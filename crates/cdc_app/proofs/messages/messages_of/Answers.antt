@@ -2,7 +2,7 @@ use Rattle.std.proofs.Common.{◌≡◌, ◌∙◌, ap, sym, Some, arith}
 use Rattle.std.specs.Prelude.{string_bytes}
 use Rattle.std.specs.List.{slice_get}
 use Rattle.cdc_app.specs.Messages.{message_lines}
-use Rattle.cdc_app.proofs.BookLemmas.{found_within}
+use Rattle.cdc_app.proofs.Places.{found_within}
 use Rattle.cdc_app.proofs.TextLemmas.{texts_more}
 use Rattle.cdc_app.proofs.messages.messages_of.Goals as goal
 use Rattle.cdc_app.proofs.messages.messages_of.Goals.{in-Some+in_ok-push_message, in_default}
