@@ -1,5 +1,5 @@
 -- Laws of the items of events that rise, and of their replays.
-use Rattle.std.proofs.Common.{◌≡◌, ◌≢◌, ℕ, zero, suc, ◌+◌, ◌-◌, ◌<◌, ◌≤◌, true, false, cond, ◌⊎◌, List, [], ◌∷◌, ◌++◌, length, get_or, map, refl, sym, ap, ◌∙◌, subst, inl, inr, arith}
+use Rattle.std.proofs.Common.{◌≡◌, ◌≢◌, ℕ, zero, suc, ◌+◌, ◌-◌, ◌<◌, ◌≤◌, true, false, cond, List, [], ◌∷◌, ◌++◌, length, get_or, map, refl, sym, ap, ◌∙◌, subst, inl, inr, arith}
 use Rattle.std.specs.Prelude.{All, Contains, nat_lt, ◌||◌}
 use Rattle.std.proofs.lemmas.Bool.{cases_Bool, cases_lt}
 use Rattle.std.proofs.lemmas.Bool.Decides.{Decides-ltb}
@@ -31,7 +31,8 @@ IsPrefix-rises w f apart rise replay =
     }
 
 -- where the end mark has come it is all of them
-pub rises-all : (w f : List Item) → HasNoneTwice (f ++ EndMark ∷ []) → TimestampsRise (events_of f) → IsReplay w (f ++ EndMark ∷ [])
+pub rises-all : (w f : List Item) → HasNoneTwice (f ++ EndMark ∷ []) → TimestampsRise (events_of f)
+    → IsReplay w (f ++ EndMark ∷ [])
     → Contains w EndMark → rises (events_of w) ≡ events_of f
 rises-all w f apart rise replay ended =
     let same = events_of-push_end f in
@@ -42,7 +43,8 @@ rises-all w f apart rise replay ended =
 
 -- ---- the first ones of items and of their events
 
-has_same-events : (e : Event) (items : List Item) → has_same same_item (OfEvent e) items ≡ has_same same_event e (events_of items)
+has_same-events : (e : Event) (items : List Item)
+    → has_same same_item (OfEvent e) items ≡ has_same same_event e (events_of items)
 has_same-events e [] = refl
 has_same-events e (OfEvent a ∷ items) = ap (λ t. same_event a e || t) (has_same-events e items)
 has_same-events e (EndMark ∷ items) = has_same-events e items
@@ -58,17 +60,18 @@ firsts_push w EndMark so_far =
     ] in
     stays ∙ so_far ∙ ap (firsts same_event) (sym (events_of-push_end w))
 firsts_push w (OfEvent e) so_far =
-    let agree : has_same same_item (OfEvent e) (firsts same_item w) ≡ has_same same_event e (firsts same_event (events_of w)) =
+    let seen = firsts same_event (events_of w) in
+    let agree : has_same same_item (OfEvent e) (firsts same_item w) ≡ has_same same_event e seen =
     has_same-events e (firsts same_item w) ∙ ap (has_same same_event e) so_far in
     let more : firsts same_event (events_of (w ++ OfEvent e ∷ []))
-    ≡ cond (has_same same_event e (firsts same_event (events_of w))) (firsts same_event (events_of w)) (firsts same_event (events_of w) ++ e ∷ []) =
+    ≡ cond (has_same same_event e seen) seen (seen ++ e ∷ []) =
     ap (firsts same_event) (events_of-push_event w e) ∙ firsts-push same_event (events_of w) e in
     elim (cases_Bool (has_same same_item (OfEvent e) (firsts same_item w))) [
       | inl old ↦
-          let there : has_same same_event e (firsts same_event (events_of w)) ≡ true = sym agree ∙ old in
+          let there : has_same same_event e seen ≡ true = sym agree ∙ old in
           ap events_of (rw old at (firsts-push same_item w (OfEvent e))) ∙ so_far ∙ sym (rw there at more)
       | inr new ↦
-          let missing : has_same same_event e (firsts same_event (events_of w)) ≡ false = sym agree ∙ new in
+          let missing : has_same same_event e seen ≡ false = sym agree ∙ new in
           ap events_of (rw new at (firsts-push same_item w (OfEvent e)))
           ∙ events_of-push_event (firsts same_item w) e
           ∙ ap (λ es. es ++ e ∷ []) so_far
@@ -90,9 +93,13 @@ events_of-firsts w = firsts_from [] w refl
 -- ---- timestamps that rise
 
 pub TimestampsRise-nil : TimestampsRise []
-TimestampsRise-nil = record { above_zero = λ k d below. absurd (omega arith); rising = λ i j d before below. absurd (omega arith) }
+TimestampsRise-nil = record {
+  above_zero = λ k d below. absurd (omega arith);
+  rising = λ i j d before below. absurd (omega arith);
+}
 
-last_is : (t : ℕ) (es : List Event) (k : ℕ) (d : Event) → k + 1 ≡ length es → last_timestamp_from t es ≡ (get_or es k d).timestamp
+last_is : (t : ℕ) (es : List Event) (k : ℕ) (d : Event) → k + 1 ≡ length es
+    → last_timestamp_from t es ≡ (get_or es k d).timestamp
 last_is t [] k d h = absurd (omega arith)
 last_is t (x ∷ []) zero d h = refl
 last_is t (x ∷ []) (suc k) d h = absurd (omega arith)
@@ -109,7 +116,8 @@ below_last es rise k d below =
     ]
 
 -- a later event
-pub TimestampsRise-push : (es : List Event) (e : Event) → TimestampsRise es → last_timestamp es < e.timestamp → TimestampsRise (es ++ e ∷ [])
+pub TimestampsRise-push : (es : List Event) (e : Event) → TimestampsRise es → last_timestamp es < e.timestamp
+    → TimestampsRise (es ++ e ∷ [])
 TimestampsRise-push es e rise later = record {
   above_zero = All-push (λ (x : Event). 0 < x.timestamp) es e rise.above_zero (omega arith);
   rising =
@@ -117,25 +125,33 @@ TimestampsRise-push es e rise later = record {
       (λ k d below. omega (arith, below_last es rise k d below));
 }
 
+-- what one more event makes of those that rise
+TimestampsRise-one_more : (before : List Event) (e : Event) → TimestampsRise (rises before)
+    → TimestampsRise (rises (before ++ e ∷ []))
+TimestampsRise-one_more before e rise =
+    elim (cases_Bool (nat_lt (last_timestamp (rises before)) e.timestamp)) [
+      | inl later ↦
+          let above = (Decides-ltb (last_timestamp (rises before)) e.timestamp).0 later in
+          let joins : rises (before ++ e ∷ []) ≡ rises before ++ e ∷ [] = rw later at (rises-push before e) in
+          rw joins (TimestampsRise-push (rises before) e rise above)
+      | inr late ↦
+          let stays : rises (before ++ e ∷ []) ≡ rises before = rw late at (rises-push before e) in
+          rw stays rise
+    ]
+
 rises_from : (before es : List Event) → TimestampsRise (rises before) → TimestampsRise (rises (before ++ es))
 rises_from before [] rise = rw (append-nil before) rise
 rises_from before (e ∷ es) rise =
     let whole : (before ++ e ∷ []) ++ es ≡ before ++ e ∷ es = append_assoc before (e ∷ []) es in
     let P : List Event → Type 0 = λ all. TimestampsRise (rises all) in
-    subst P whole (rises_from (before ++ e ∷ []) es (one_more (cases_Bool (nat_lt (last_timestamp (rises before)) e.timestamp))))
-  where
-    one_more : (nat_lt (last_timestamp (rises before)) e.timestamp ≡ true) ⊎ (nat_lt (last_timestamp (rises before)) e.timestamp ≡ false)
-        → TimestampsRise (rises (before ++ e ∷ []))
-    one_more (inl later) =
-        let joins : rises (before ++ e ∷ []) ≡ rises before ++ e ∷ [] = rw later at (rises-push before e) in
-        rw joins (TimestampsRise-push (rises before) e rise ((Decides-ltb (last_timestamp (rises before)) e.timestamp).0 later))
-    one_more (inr late) = let stays : rises (before ++ e ∷ []) ≡ rises before = rw late at (rises-push before e) in rw stays rise
+    subst P whole (rises_from (before ++ e ∷ []) es (TimestampsRise-one_more before e rise))
 
 -- the events that rise do rise
 pub TimestampsRise-rises : (es : List Event) → TimestampsRise (rises es)
 TimestampsRise-rises es = rises_from [] es TimestampsRise-nil
 
-rising_from : (before es : List Event) → TimestampsRise (before ++ es) → rises before ≡ before → rises (before ++ es) ≡ before ++ es
+rising_from : (before es : List Event) → TimestampsRise (before ++ es) → rises before ≡ before
+    → rises (before ++ es) ≡ before ++ es
 rising_from before [] rise so_far = rw (append-nil before) so_far
 rising_from before (e ∷ es) rise so_far =
     let whole : (before ++ e ∷ []) ++ es ≡ before ++ e ∷ es = append_assoc before (e ∷ []) es in
@@ -155,7 +171,8 @@ pub events_of-map : (es : List Event) → events_of (map OfEvent es) ≡ es
 events_of-map [] = refl
 events_of-map (e ∷ es) = ap (λ more. e ∷ more) (events_of-map es)
 
-event_at : (es : List Event) (i : ℕ) (d : Item) → i < length es → (e : Event) × (get_or (map OfEvent es) i d ≡ OfEvent e)
+event_at : (es : List Event) (i : ℕ) (d : Item) → i < length es
+    → (e : Event) × (get_or (map OfEvent es) i d ≡ OfEvent e)
 event_at [] i d below = absurd (omega arith)
 event_at (e ∷ es) i d below = (get_or (e ∷ es) i e, get_or-map OfEvent (e ∷ es) i e d below)
 
@@ -171,8 +188,14 @@ HasNoneTwice-events (x ∷ es) rise i j d before below is =
     let times = ap (λ (e : Event). e.timestamp) equal in
     absurd (omega (arith, times, rise.rising i j x before within))
 
+-- none of them is the end mark
+not_the_end : (es : List Event) (k : ℕ) (d : Item) → k < length (map OfEvent es) → get_or (map OfEvent es) k d ≢ EndMark
+not_the_end es k d below is =
+    let found = event_at es k d (omega (arith, length-map es OfEvent)) in
+    let apart : OfEvent found.0 ≡ EndMark = sym found.1 ∙ is in
+    cc
+
 -- nor where the end mark follows
 pub HasNoneTwice-line : (es : List Event) → TimestampsRise es → HasNoneTwice (map OfEvent es ++ EndMark ∷ [])
 HasNoneTwice-line es rise =
-    all_pairs_push (λ (a b : Item). a ≢ b) (map OfEvent es) EndMark (HasNoneTwice-events es rise)
-    (λ k d below is. let found = event_at es k d (omega (arith, length-map es OfEvent)) in let apart : OfEvent found.0 ≡ EndMark = sym found.1 ∙ is in cc)
+    all_pairs_push (λ (a b : Item). a ≢ b) (map OfEvent es) EndMark (HasNoneTwice-events es rise) (not_the_end es)
