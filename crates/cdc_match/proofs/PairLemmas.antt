@@ -37,7 +37,8 @@ each_more read (w ∷ words) found word value h is =
 
 -- the first fault
 each_fault : {A B : Type 0} (read : A → Read B) (words : List A) (found : List B) (word : A) (error : BindError)
-    (others : List A) → each read words ≡ Ok found → read word ≡ Err error → each read (words ++ word ∷ others) ≡ Err error
+    (others : List A) → each read words ≡ Ok found → read word ≡ Err error
+    → each read (words ++ word ∷ others) ≡ Err error
 each_fault read [] found word error others h is = rw is
 each_fault read (w ∷ words) found word error others h is =
     let front = reached (read w) _ found h in

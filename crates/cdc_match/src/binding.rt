@@ -50,9 +50,9 @@ fn pairs_of(alloc: Global, words: &[&str]) -> Result<Vec<Pair>, BindError>
 
 impl Binding {
     /// The binding that words say: `all` or `any`, and then up to ten words `key=value`, each parted at its first
-    /// equals sign. The keys are `event_type`, whose value is the text of a kind of event, `ledger`, whose value is a decimal
-    /// number up to 4294967295, and `transfer_code`, `debit_account_code` and `credit_account_code`, whose values are
-    /// decimal numbers up to 65535. A key may stand twice.
+    /// equals sign. The keys are `event_type`, whose value is the text of a kind of event, `ledger`, whose value is a
+    /// decimal number up to 4294967295, and `transfer_code`, `debit_account_code` and `credit_account_code`, whose
+    /// values are decimal numbers up to 65535. A key may stand twice.
     ///
     /// The first fault from the left is answered, and `OutOfMemory` where there was no memory for the pairs before it.
     pub fn parse(alloc: Global, words: &[&str]) -> Result<Binding, BindError>
