@@ -58,7 +58,7 @@ credited = record {
   timestamp = 1001;
 }
 
-abbrev first_event : Event
+abbrev pub first_event : Event
 first_event = record {
   timestamp = 2000;
   kind = SinglePhase;

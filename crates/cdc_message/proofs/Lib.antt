@@ -5,6 +5,7 @@ pub mod Examples
 pub mod Law
 pub mod LineLaws
 pub mod Parts
+pub mod ReplayExamples
 pub mod ReplayLaws
 pub mod RisesLaws
 pub mod Same

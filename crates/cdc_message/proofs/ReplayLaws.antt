@@ -1,11 +1,11 @@
 -- Laws of replays, whatever the lists hold.
-use Rattle.std.proofs.Common.{◌≡◌, ◌≢◌, ℕ, zero, suc, ◌+◌, ◌<◌, ◌≤◌, Bool, true, false, cond, List, [], ◌∷◌, ◌++◌, length, get_or, take, drop, refl, sym, ap, ◌∙◌, subst, inl, inr, arith, add-one}
-use Rattle.std.specs.Prelude.{Contains, AllPairs, fold, max}
+use Rattle.std.proofs.Common.{◌≡◌, ℕ, zero, suc, ◌+◌, ◌<◌, ◌≤◌, Bool, true, false, cond, List, [], ◌∷◌, ◌++◌, length, get_or, take, drop, refl, sym, ap, ◌∙◌, subst, inl, inr, arith, add-one}
+use Rattle.std.specs.Prelude.{Contains, max}
 use Rattle.std.specs.Bool.{Decides}
 use Rattle.std.proofs.lemmas.Bool.{cases_Bool, cases_lt}
 use Rattle.std.proofs.lemmas.Bool.Decides.{Decides-by_or, not_from_Decides}
 use Rattle.std.proofs.lemmas.List.{take_all, take_at, take-take, take-append-le, take-append-drop, take_more, length-take, length-append, get_or-take, get_or_default, get_or_at}
-use Rattle.std.proofs.lemmas.List.Elements.{Contains-append_left, Contains-get_or, Contains-push, Contains-push_cases, Decides-contains}
+use Rattle.std.proofs.lemmas.List.Elements.{Contains-append_left, Contains-push, Contains-push_cases, Decides-contains}
 use Rattle.std.proofs.lemmas.List.Sums.{fold-append}
 use Rattle.cdc_message.specs.Replays.{HaveSame, IsReplay, IsPrefix, HasNoneTwice, has_same, firsts}
 
@@ -21,11 +21,15 @@ HaveSame-trans p q = record { forth = λ x h. q.forth x (p.forth x h); back = λ
 pub HaveSame-again : {X : Type 0} (xs ys : List X) (x : X) → HaveSame xs ys → Contains xs x → HaveSame (xs ++ x ∷ []) ys
 HaveSame-again xs ys x same there = record {
   forth = λ y h.
-      elim (Contains-push_cases xs x y h) [ inl old ↦ same.forth y old | inr is ↦ subst (Contains ys) is (same.forth x there) ];
+      elim (Contains-push_cases xs x y h) [
+        | inl old ↦ same.forth y old
+        | inr is ↦ subst (Contains ys) is (same.forth x there)
+      ];
   back = λ y h. Contains-append_left xs (x ∷ []) y (same.back y h);
 }
 
-push_forth : {X : Type 0} (xs ys : List X) (x : X) → HaveSame xs ys → (y : X) → Contains (xs ++ x ∷ []) y → Contains (ys ++ x ∷ []) y
+push_forth : {X : Type 0} (xs ys : List X) (x : X) → HaveSame xs ys → (y : X) → Contains (xs ++ x ∷ []) y
+    → Contains (ys ++ x ∷ []) y
 push_forth xs ys x same y h =
     elim (Contains-push_cases xs x y h) [
       | inl old ↦ Contains-append_left ys (x ∷ []) y (same.forth y old)
@@ -64,14 +68,18 @@ IsReplay-all w f replay =
     rw all at (replay.beginnings (length w))
 
 -- one more element, after which the list has what some beginning has
-pub IsReplay-push : {X : Type 0} (w f : List X) (x : X) (m : ℕ) → IsReplay w f → HaveSame (w ++ x ∷ []) (take m f) → IsReplay (w ++ x ∷ []) f
+pub IsReplay-push : {X : Type 0} (w f : List X) (x : X) (m : ℕ) → IsReplay w f → HaveSame (w ++ x ∷ []) (take m f)
+    → IsReplay (w ++ x ∷ []) f
 IsReplay-push w f x m replay same = record {
   beginnings = λ n.
       elim (cases_lt (length w) n) [
         | inl past ↦
-            let all : take n (w ++ x ∷ []) ≡ w ++ x ∷ [] = take_all n (w ++ x ∷ []) (omega (arith, length-append w (x ∷ []))) in
+            let all : take n (w ++ x ∷ []) ≡ w ++ x ∷ [] =
+            take_all n (w ++ x ∷ []) (omega (arith, length-append w (x ∷ []))) in
             (m, rw all same)
-        | inr within ↦ let front : take n (w ++ x ∷ []) ≡ take n w = take-append-le n w (x ∷ []) within in rw front (replay.beginnings n)
+        | inr within ↦
+            let front : take n (w ++ x ∷ []) ≡ take n w = take-append-le n w (x ∷ []) within in
+            rw front (replay.beginnings n)
       ];
 }
 
@@ -82,7 +90,8 @@ IsReplay-again w f x replay there =
     IsReplay-push w f x all.0 replay (HaveSame-again w (take all.0 f) x all.1 there)
 
 -- the element of f that comes next
-pub IsReplay-next : {X : Type 0} (w f : List X) (x : X) (n : ℕ) → IsReplay w f → HaveSame w (take n f) → n < length f → get_or f n x ≡ x
+pub IsReplay-next : {X : Type 0} (w f : List X) (x : X) (n : ℕ) → IsReplay w f → HaveSame w (take n f) → n < length f
+    → get_or f n x ≡ x
     → IsReplay (w ++ x ∷ []) f
 IsReplay-next w f x n replay same below here =
     let more : take (n + 1) f ≡ take n f ++ x ∷ [] = take_more f n x below ∙ ap (λ y. take n f ++ y ∷ []) here in
@@ -96,7 +105,8 @@ IsReplay-take k w f replay = record {
         | inl past ↦
             let all : take n (take k w) ≡ take k w = take_all n (take k w) (omega (arith, length-take k w)) in
             rw all (replay.beginnings k)
-        | inr within ↦ let front : take n (take k w) ≡ take n w = take-take n k w within in rw front (replay.beginnings n)
+        | inr within ↦
+            let front : take n (take k w) ≡ take n w = take-take n k w within in rw front (replay.beginnings n)
       ];
 }
 
@@ -117,13 +127,15 @@ IsReplay-longer w f g replay = record {
 
 -- ---- elements of a beginning
 
-Contains-take : {X : Type 0} (m : ℕ) (f : List X) (x : X) → Contains (take m f) x → (i : ℕ) × (i < m) × (i < length f) × (get_or f i x ≡ x)
+Contains-take : {X : Type 0} (m : ℕ) (f : List X) (x : X) → Contains (take m f) x
+    → (i : ℕ) × (i < m) × (i < length f) × (get_or f i x ≡ x)
 Contains-take m f x (i, below, is) =
     let low : i < m = omega (arith, length-take m f) in
     let within : i < length f = omega (arith, length-take m f) in
     (i, low, within, sym (get_or-take m f i x low) ∙ is)
 
-Contains-from_take : {X : Type 0} (m i : ℕ) (f : List X) (x : X) → i < m → i < length f → get_or f i x ≡ x → Contains (take m f) x
+Contains-from_take : {X : Type 0} (m i : ℕ) (f : List X) (x : X) → i < m → i < length f → get_or f i x ≡ x
+    → Contains (take m f) x
 Contains-from_take m i f x low within is = (i, omega (arith, length-take m f), get_or-take m f i x low ∙ is)
 
 -- what a replay has, f has
@@ -158,7 +170,8 @@ pub record HasBegun {X : Type 0} (same : X → X → Bool) (v f : List X) : Type
   pub elements : HaveSame v (take count f)
 
 -- an element that is new is the one of f that comes next
-pub next_is : {X : Type 0} (v f : List X) (x : X) (m n : ℕ) → HasNoneTwice f → HaveSame v (take m f) → HaveSame (v ++ x ∷ []) (take n f)
+pub next_is : {X : Type 0} (v f : List X) (x : X) (m n : ℕ) → HasNoneTwice f → HaveSame v (take m f)
+    → HaveSame (v ++ x ∷ []) (take n f)
     → (Contains v x → ⊥) → (m < length f) × (get_or f m x ≡ x)
 next_is v f x m n apart before after new =
     let found = Contains-take n f x (after.forth x (Contains-push v x)) in
@@ -182,9 +195,11 @@ next_is v f x m n apart before after new =
 
 module _ {X : Type 0} (same : X → X → Bool) (decides : (a b : X) → Decides (same a b) (a ≡ b)) where
   -- once more what came
-  HasBegun-again : (v f : List X) (x : X) (b : HasBegun same v f) → has_same same x (firsts same v) ≡ true → HasBegun same (v ++ x ∷ []) f
+  HasBegun-again : (v f : List X) (x : X) (b : HasBegun same v f) → has_same same x (firsts same v) ≡ true
+      → HasBegun same (v ++ x ∷ []) f
   HasBegun-again v f x b old =
-      let among : Contains (take b.count f) x = rw b.firsts_are at ((Decides-has_same same decides x (firsts same v)).0 old) in
+      let among : Contains (take b.count f) x =
+      rw b.firsts_are at ((Decides-has_same same decides x (firsts same v)).0 old) in
       record {
         count = b.count;
         within = b.within;
@@ -193,7 +208,8 @@ module _ {X : Type 0} (same : X → X → Bool) (decides : (a b : X) → Decides
       }
 
   -- what is none of the first ones hasn't come
-  pub is_new : (v f : List X) (x : X) (b : HasBegun same v f) → has_same same x (firsts same v) ≡ false → Contains v x → ⊥
+  pub is_new : (v f : List X) (x : X) (b : HasBegun same v f) → has_same same x (firsts same v) ≡ false → Contains v x
+      → ⊥
   is_new v f x b new there =
       let among : Contains (firsts same v) x = rw (b.firsts_are) (b.elements.forth x there) in
       not_from_Decides (has_same same x (firsts same v)) (Decides-has_same same decides x (firsts same v)) new among
@@ -202,7 +218,8 @@ module _ {X : Type 0} (same : X → X → Bool) (decides : (a b : X) → Decides
   HasBegun-next : (v f : List X) (x : X) (b : HasBegun same v f) → has_same same x (firsts same v) ≡ false
       → b.count < length f → get_or f b.count x ≡ x → HasBegun same (v ++ x ∷ []) f
   HasBegun-next v f x b new below here =
-      let more : take (b.count + 1) f ≡ take b.count f ++ x ∷ [] = take_more f b.count x below ∙ ap (λ y. take b.count f ++ y ∷ []) here in
+      let more : take (b.count + 1) f ≡ take b.count f ++ x ∷ [] =
+      take_more f b.count x below ∙ ap (λ y. take b.count f ++ y ∷ []) here in
       record {
         count = b.count + 1;
         within = omega arith;
@@ -210,7 +227,8 @@ module _ {X : Type 0} (same : X → X → Bool) (decides : (a b : X) → Decides
         elements = rw more (HaveSame-push v (take b.count f) x b.elements);
       }
 
-  HasBegun-push : (v f : List X) (x : X) → HasNoneTwice f → HasBegun same v f → (n : ℕ) → HaveSame (v ++ x ∷ []) (take n f)
+  HasBegun-push : (v f : List X) (x : X) → HasNoneTwice f → HasBegun same v f → (n : ℕ)
+      → HaveSame (v ++ x ∷ []) (take n f)
       → HasBegun same (v ++ x ∷ []) f
   HasBegun-push v f x apart b n after =
       elim (cases_Bool (has_same same x (firsts same v))) [
@@ -250,7 +268,8 @@ module _ {X : Type 0} (same : X → X → Bool) (decides : (a b : X) → Decides
 -- ---- elements by their places in f
 
 -- an element of f that stands in what came, or comes next
-pub HaveSame-place : {X : Type 0} (w f : List X) (x : X) (n i : ℕ) → HaveSame w (take n f) → i ≤ n → i < length f → get_or f i x ≡ x
+pub HaveSame-place : {X : Type 0} (w f : List X) (x : X) (n i : ℕ) → HaveSame w (take n f) → i ≤ n → i < length f
+    → get_or f i x ≡ x
     → HaveSame (w ++ x ∷ []) (take (max n (i + 1)) f)
 HaveSame-place w f x n i same near below here =
     elim (cases_lt i n) [
@@ -266,30 +285,47 @@ HaveSame-place w f x n i same near below here =
           rw (count, more) (HaveSame-push w (take n f) x same)
     ]
 
-pub IsReplay-place : {X : Type 0} (w f : List X) (x : X) (n i : ℕ) → IsReplay w f → HaveSame w (take n f) → i ≤ n → i < length f
+pub IsReplay-place : {X : Type 0} (w f : List X) (x : X) (n i : ℕ) → IsReplay w f → HaveSame w (take n f) → i ≤ n
+    → i < length f
     → get_or f i x ≡ x → IsReplay (w ++ x ∷ []) f
 IsReplay-place w f x n i replay same near below here =
     IsReplay-push w f x (max n (i + 1)) replay (HaveSame-place w f x n i same near below here)
 
--- ---- a replay that has come to the end
-
--- the last element of a list without repeats stands at its end alone
-last_place : {X : Type 0} (f : List X) (x : X) (i : ℕ) → HasNoneTwice (f ++ x ∷ []) → i < length (f ++ x ∷ []) → get_or (f ++ x ∷ []) i x ≡ x
-    → i ≡ length f
-last_place f x i apart below here =
-    elim (cases_lt i (length f)) [
-      | inl early ↦
-          let within : length f < length (f ++ x ∷ []) = omega (arith, length-append f (x ∷ [])) in
-          absurd (apart i (length f) x early within (here ∙ sym (get_or_at f x [] x (length f) refl)))
-      | inr past ↦ omega (arith, length-append f (x ∷ []))
+-- no two places of a list without repeats hold one element
+one_place : {X : Type 0} (f : List X) (x : X) (i j : ℕ) → HasNoneTwice f → i < length f → j < length f
+    → get_or f i x ≡ x → get_or f j x ≡ x → i ≡ j
+one_place f x i j apart in_i in_j here there =
+    elim (cases_lt i j) [
+      | inl before ↦ absurd (apart i j x before in_j (here ∙ sym there))
+      | inr reached ↦
+          elim (cases_lt j i) [
+            | inl after ↦ absurd (apart j i x after in_i (there ∙ sym here))
+            | inr same ↦ omega arith
+          ]
     ]
 
+-- a replay that has an element of f has all before it
+pub IsReplay-earlier : {X : Type 0} (w f : List X) (x y : X) (i j : ℕ) → IsReplay w f → HasNoneTwice f → i ≤ j
+    → j < length f
+    → get_or f i x ≡ x → get_or f j y ≡ y → Contains w y → Contains w x
+IsReplay-earlier w f x y i j replay apart before below at_i at_j there =
+    let all = IsReplay-all w f replay in
+    let found = Contains-take all.0 f y (all.1.forth y there) in
+    let place : found.0 ≡ j = one_place f y found.0 j apart found.2 below found.3 at_j in
+    all.1.back x (Contains-from_take all.0 i f x (omega (arith, place, found.1)) (omega arith) at_i)
+
+-- ---- a replay that has come to the end
+
 -- a replay that has the last element has them all
-pub firsts-all : {X : Type 0} (same : X → X → Bool) (decides : (a b : X) → Decides (same a b) (a ≡ b)) (w f : List X) (x : X)
+pub firsts-all : {X : Type 0} (same : X → X → Bool) (decides : (a b : X) → Decides (same a b) (a ≡ b))
+    (w f : List X) (x : X)
     → HasNoneTwice (f ++ x ∷ []) → IsReplay w (f ++ x ∷ []) → Contains w x → firsts same w ≡ f ++ x ∷ []
 firsts-all same decides w f x apart replay there =
     let all : take (length w) w ≡ w = take_all (length w) w (omega arith) in
-    let b : HasBegun same w (f ++ x ∷ []) = rw all at (HasBegun-replay same decides w (f ++ x ∷ []) apart replay (length w)) in
+    let b : HasBegun same w (f ++ x ∷ []) =
+    rw all at (HasBegun-replay same decides w (f ++ x ∷ []) apart replay (length w)) in
     let found = Contains-take b.count (f ++ x ∷ []) x (b.elements.forth x there) in
-    let last : found.0 ≡ length f = last_place f x found.0 apart found.2 found.3 in
+    let within : length f < length (f ++ x ∷ []) = omega (arith, length-append f (x ∷ [])) in
+    let last : found.0 ≡ length f =
+    one_place (f ++ x ∷ []) x found.0 (length f) apart found.2 within found.3 (get_or_at f x [] x (length f) refl) in
     b.firsts_are ∙ take_all b.count (f ++ x ∷ []) (omega (arith, length-append f (x ∷ []), last, found.1))

@@ -1,13 +1,12 @@
 -- Laws of the events that rise: what one more event makes of them, and that they are the first ones of a replay.
-use Rattle.std.proofs.Common.{◌≡◌, ◌≢◌, ◌⊎◌, ℕ, zero, suc, ◌+◌, ◌<◌, ◌≤◌, Bool, true, false, cond, List, [], ◌∷◌, ◌++◌, length, get_or, take, drop, refl, sym, ap, ◌∙◌, subst, inl, inr, arith, add-one}
-use Rattle.std.specs.Prelude.{◌&&◌, All, AllPairs, Contains, nat_lt, fold, max}
+use Rattle.std.proofs.Common.{◌≡◌, ◌⊎◌, ℕ, zero, suc, ◌+◌, ◌<◌, Bool, true, false, cond, List, [], ◌∷◌, ◌++◌, length, get_or, take, drop, refl, sym, ap, ◌∙◌, subst, inl, inr, arith, add-one}
+use Rattle.std.specs.Prelude.{◌&&◌, All, Contains, nat_lt, fold, max}
 use Rattle.std.specs.Bool.{Decides}
 use Rattle.std.specs.List.{list_all}
 use Rattle.std.proofs.lemmas.Bool.{cases_Bool, cases_lt}
-use Rattle.std.proofs.lemmas.Bool.Decides.{Decides-and, Decides-by_and, Decides-ltb, nat_tests, same_from_decides}
+use Rattle.std.proofs.lemmas.Bool.Decides.{Decides-and, Decides-by_and, Decides-ltb, nat_tests}
 use Rattle.std.proofs.lemmas.List.{append-nil, append_assoc, get_or_append_left, get_or_at, length-append, take_all, take-append-drop, take_more}
-use Rattle.std.proofs.lemmas.List.Elements.{All-contains, All-push, Contains-get_or, filter_map-append}
-use Rattle.std.proofs.lemmas.List.Quantifiers.{all_pairs_push}
+use Rattle.std.proofs.lemmas.List.Elements.{All-contains, Contains-get_or, filter_map-append}
 use Rattle.std.proofs.lemmas.List.Sums.{fold-append}
 use Rattle.cdc_types.specs.declared.events.Event.{Event}
 use Rattle.cdc_message.specs.declared.items.Item.{Item}
@@ -19,19 +18,25 @@ use Rattle.cdc_message.proofs.Same.{Decides-same_item}
 
 -- ---- one more event
 
+-- an element in front of both lists, or of none
+behind : (x : Event) (some more end : List Event) (t : Bool) → more ≡ some ++ end
+    → cond t (x ∷ more) more ≡ cond t (x ∷ some) some ++ end
+behind x some more end true is = ap (λ ys. x ∷ ys) is
+behind x some more end false is = is
+
 newest_after-push : (before es : List Event) (e : Event)
     → newest_after before (es ++ e ∷ []) ≡ newest_after before es ++ cond (is_newest (before ++ es) e) (e ∷ []) []
 newest_after-push before [] e = rw (append-nil before) refl
 newest_after-push before (x ∷ es) e =
-    let rest : newest_after (before ++ x ∷ []) (es ++ e ∷ []) ≡ newest_after (before ++ x ∷ []) es ++ cond (is_newest (before ++ x ∷ es) e) (e ∷ []) []
-    = rw append_assoc at (newest_after-push (before ++ x ∷ []) es e) in
-    elim (is_newest before x)
-    as (λ t. cond t (x ∷ newest_after (before ++ x ∷ []) (es ++ e ∷ [])) (newest_after (before ++ x ∷ []) (es ++ e ∷ []))
-    ≡ cond t (x ∷ newest_after (before ++ x ∷ []) es) (newest_after (before ++ x ∷ []) es) ++ cond (is_newest (before ++ x ∷ es) e) (e ∷ []) [])
-    [ true ↦ ap (λ ys. x ∷ ys) rest | false ↦ rest ]
+    let some = newest_after (before ++ x ∷ []) es in
+    let more = newest_after (before ++ x ∷ []) (es ++ e ∷ []) in
+    let end = cond (is_newest (before ++ x ∷ es) e) (e ∷ []) [] in
+    let rest : more ≡ some ++ end = rw append_assoc at (newest_after-push (before ++ x ∷ []) es e) in
+    behind x some more end (is_newest before x) rest
 
 -- an event comes last where it is the newest
-pub rises-is_newest : (es : List Event) (e : Event) → rises (es ++ e ∷ []) ≡ cond (is_newest es e) (rises es ++ e ∷ []) (rises es)
+pub rises-is_newest : (es : List Event) (e : Event)
+    → rises (es ++ e ∷ []) ≡ cond (is_newest es e) (rises es ++ e ∷ []) (rises es)
 rises-is_newest es e =
     newest_after-push [] es e
     ∙ elim (is_newest es e) as (λ t. rises es ++ cond t (e ∷ []) [] ≡ cond t (rises es ++ e ∷ []) (rises es))
@@ -50,7 +55,8 @@ and_assoc false b c = refl
 
 -- an event is later than each of these where it is later than the latest
 newest-latest_from : (t : ℕ) (es : List Event) (e : Event)
-    → (nat_lt t e.timestamp && list_all (λ other. nat_lt other.timestamp e.timestamp) es) ≡ nat_lt (latest_from t es) e.timestamp
+    → (nat_lt t e.timestamp && list_all (λ other. nat_lt other.timestamp e.timestamp) es)
+    ≡ nat_lt (latest_from t es) e.timestamp
 unfolding latest_from
 newest-latest_from t [] e = elim (nat_lt t e.timestamp) as (λ b. (b && true) ≡ b) [ true ↦ refl | false ↦ refl ]
 newest-latest_from t (x ∷ es) e =
@@ -59,7 +65,8 @@ newest-latest_from t (x ∷ es) e =
     ∙ ap (λ b. b && rest) (sym (lt_max t x.timestamp e.timestamp))
     ∙ newest-latest_from (max t x.timestamp) es e
 
-latest_from-push : (t : ℕ) (es : List Event) (e : Event) → latest_from t (es ++ e ∷ []) ≡ max (latest_from t es) e.timestamp
+latest_from-push : (t : ℕ) (es : List Event) (e : Event)
+    → latest_from t (es ++ e ∷ []) ≡ max (latest_from t es) e.timestamp
 unfolding latest_from
 latest_from-push t es e = fold-append (λ latest (x : Event). max latest x.timestamp) t es (e ∷ [])
 
@@ -73,7 +80,8 @@ max_later a b h = grind (arith, nat_tests)
 max_earlier : (a b : ℕ) → nat_lt a b ≡ false → max a b ≡ a
 max_earlier a b h = grind (arith, nat_tests)
 
-is_newest-latest_from : (before : List Event) (e : Event) (t : Bool) → is_newest before e ≡ t → nat_lt (latest_from 0 before) e.timestamp ≡ t
+is_newest-latest_from : (before : List Event) (e : Event) (t : Bool) → is_newest before e ≡ t
+    → nat_lt (latest_from 0 before) e.timestamp ≡ t
 is_newest-latest_from before e t h = sym (newest-latest_from 0 before e) ∙ h
 
 -- the last of those that rise stays the latest of all
@@ -115,21 +123,25 @@ pub rises-push : (es : List Event) (e : Event)
 rises-push es e = rw (is_newest-last es e) at (rises-is_newest es e)
 
 -- the test says what the words say
-pub Decides-is_newest : (es : List Event) (e : Event) → Decides (is_newest es e) ((0 < e.timestamp) × All (λ other. other.timestamp < e.timestamp) es)
+pub Decides-is_newest : (es : List Event) (e : Event)
+    → Decides (is_newest es e) ((0 < e.timestamp) × All (λ other. other.timestamp < e.timestamp) es)
 Decides-is_newest es e =
     Decides-and (nat_lt 0 e.timestamp) (list_all (λ other. nat_lt other.timestamp e.timestamp) es)
     (Decides-ltb 0 e.timestamp)
     (
     Decides-by_and (λ (other : Event). nat_lt other.timestamp e.timestamp) (λ other. other.timestamp < e.timestamp)
-    (list_all (λ other. nat_lt other.timestamp e.timestamp)) (λ other. Decides-ltb other.timestamp e.timestamp) refl (λ _ _. refl) es
+    (list_all (λ other. nat_lt other.timestamp e.timestamp)) (λ other. Decides-ltb other.timestamp e.timestamp)
+    refl (λ _ _. refl) es
     )
 
 -- ---- the events of items
 
-events_of-push : (items : List Item) (item : Item) → events_of (items ++ item ∷ []) ≡ events_of items ++ events_of (item ∷ [])
+events_of-push : (items : List Item) (item : Item)
+    → events_of (items ++ item ∷ []) ≡ events_of items ++ events_of (item ∷ [])
 events_of-push items item = filter_map-append item_event items (item ∷ [])
 
-pub events_of-push_event : (items : List Item) (e : Event) → events_of (items ++ OfEvent e ∷ []) ≡ events_of items ++ e ∷ []
+pub events_of-push_event : (items : List Item) (e : Event)
+    → events_of (items ++ OfEvent e ∷ []) ≡ events_of items ++ e ∷ []
 events_of-push_event items e = events_of-push items (OfEvent e)
 
 pub events_of-push_end : (items : List Item) → events_of (items ++ EndMark ∷ []) ≡ events_of items
@@ -153,7 +165,8 @@ pub event_stands : (items : List Item) (e : Event) → Contains items (OfEvent e
 event_stands [] e h = absurd (omega (arith, h.1))
 event_stands (OfEvent a ∷ items) e h =
     elim (Contains_cases (OfEvent a) items (OfEvent e) h) [
-      | inl is ↦ let same : a ≡ e = cc in subst (Contains (a ∷ events_of items)) same (Contains_here a (events_of items))
+      | inl is ↦
+          let same : a ≡ e = cc in subst (Contains (a ∷ events_of items)) same (Contains_here a (events_of items))
       | inr later ↦ Contains_there a (events_of items) e (event_stands items e later)
     ]
 event_stands (EndMark ∷ items) e h =
@@ -175,7 +188,8 @@ is_newest-old : (es : List Event) (e : Event) → Contains es e → is_newest es
 is_newest-old es e there =
     elim (cases_Bool (is_newest es e)) [
       | inl newest ↦
-          let later = All-contains (λ (other : Event). other.timestamp < e.timestamp) es e ((Decides-is_newest es e).0 newest).1 there in
+          let all = ((Decides-is_newest es e).0 newest).1 in
+          let later = All-contains (λ (other : Event). other.timestamp < e.timestamp) es e all there in
           absurd (omega (arith, later))
       | inr late ↦ late
     ]
@@ -187,15 +201,19 @@ rises_after es e more rise =
     let within : length es < length (es ++ e ∷ more) = omega (arith, length-append es (e ∷ more)) in
     let here = λ (d : Event). get_or_at es e more d (length es) refl in (
       rw (here e) at (rise.above_zero (length es) e within),
-      λ i d below. rw (get_or_append_left es (e ∷ more) d i below, here d) at (rise.rising i (length es) d below within),
+      λ i d below.
+          rw (get_or_append_left es (e ∷ more) d i below, here d) at (rise.rising i (length es) d below within),
     )
 
 -- an event that comes next is later than all that came
-is_newest-next : (v f : List Item) (e : Event) (m : ℕ) → TimestampsRise (events_of f) → HaveSame v (take m f) → m < length f
+is_newest-next : (v f : List Item) (e : Event) (m : ℕ) → TimestampsRise (events_of f) → HaveSame v (take m f)
+    → m < length f
     → get_or f m (OfEvent e) ≡ OfEvent e → is_newest (events_of v) e ≡ true
 is_newest-next v f e m rise same below here =
-    let front : take (m + 1) f ≡ take m f ++ OfEvent e ∷ [] = take_more f m (OfEvent e) below ∙ ap (λ y. take m f ++ y ∷ []) here in
-    let whole : (take m f ++ OfEvent e ∷ []) ++ drop (m + 1) f ≡ f = ap (λ ys. ys ++ drop (m + 1) f) (sym front) ∙ take-append-drop (m + 1) f in
+    let front : take (m + 1) f ≡ take m f ++ OfEvent e ∷ [] =
+    take_more f m (OfEvent e) below ∙ ap (λ y. take m f ++ y ∷ []) here in
+    let whole : (take m f ++ OfEvent e ∷ []) ++ drop (m + 1) f ≡ f =
+    ap (λ ys. ys ++ drop (m + 1) f) (sym front) ∙ take-append-drop (m + 1) f in
     let parts : events_of f ≡ events_of (take m f) ++ e ∷ events_of (drop (m + 1) f) =
     ap events_of (sym whole)
     ∙ events_of-append (take m f ++ OfEvent e ∷ []) (drop (m + 1) f)
@@ -213,7 +231,8 @@ is_newest-next v f e m rise same below here =
 module _ (f : List Item) (apart : HasNoneTwice f) (rise : TimestampsRise (events_of f)) where
   -- what one more item makes of both
   rises-firsts_push : (v : List Item) (x : Item) (n : ℕ) → HasBegun same_item v f → HaveSame (v ++ x ∷ []) (take n f)
-      → events_of (firsts same_item v) ≡ rises (events_of v) → events_of (firsts same_item (v ++ x ∷ [])) ≡ rises (events_of (v ++ x ∷ []))
+      → events_of (firsts same_item v) ≡ rises (events_of v)
+      → events_of (firsts same_item (v ++ x ∷ [])) ≡ rises (events_of (v ++ x ∷ []))
   rises-firsts_push v EndMark n b after so_far =
       elim (cases_Bool (has_same same_item EndMark (firsts same_item v))) [
         | inl old ↦
@@ -221,27 +240,32 @@ module _ (f : List Item) (apart : HasNoneTwice f) (rise : TimestampsRise (events
             ap events_of first ∙ so_far ∙ ap rises (sym (events_of-push_end v))
         | inr new ↦
             let first = rw new at (firsts-push same_item v EndMark) in
-            ap events_of first ∙ events_of-push_end (firsts same_item v) ∙ so_far ∙ ap rises (sym (events_of-push_end v))
+            ap events_of first ∙ events_of-push_end (firsts same_item v) ∙ so_far
+            ∙ ap rises (sym (events_of-push_end v))
       ]
   rises-firsts_push v (OfEvent e) n b after so_far =
-      let one_more : rises (events_of (v ++ OfEvent e ∷ [])) ≡ cond (is_newest (events_of v) e) (rises (events_of v) ++ e ∷ []) (rises (events_of v)) =
+      let one_more : rises (events_of (v ++ OfEvent e ∷ []))
+      ≡ cond (is_newest (events_of v) e) (rises (events_of v) ++ e ∷ []) (rises (events_of v)) =
       ap rises (events_of-push_event v e) ∙ rises-is_newest (events_of v) e in
       elim (cases_Bool (has_same same_item (OfEvent e) (firsts same_item v))) [
         | inl old ↦
             let first = rw old at (firsts-push same_item v (OfEvent e)) in
-            let among : Contains (take b.count f) (OfEvent e) =
-            rw b.firsts_are at ((Decides-has_same same_item Decides-same_item (OfEvent e) (firsts same_item v)).0 old) in
+            let decides = Decides-has_same same_item Decides-same_item (OfEvent e) (firsts same_item v) in
+            let among : Contains (take b.count f) (OfEvent e) = rw b.firsts_are at (decides.0 old) in
             let came = event_stands v e (b.elements.back (OfEvent e) among) in
             let late = is_newest-old (events_of v) e came in
             ap events_of first ∙ so_far ∙ sym (rw late at one_more)
         | inr new ↦
             let first = rw new at (firsts-push same_item v (OfEvent e)) in
-            let next = next_is v f (OfEvent e) b.count n apart b.elements after (is_new same_item Decides-same_item v f (OfEvent e) b new) in
+            let not_yet = is_new same_item Decides-same_item v f (OfEvent e) b new in
+            let next = next_is v f (OfEvent e) b.count n apart b.elements after not_yet in
             let newest = is_newest-next v f e b.count rise b.elements next.0 next.1 in
-            ap events_of first ∙ events_of-push_event (firsts same_item v) e ∙ ap (λ es. es ++ e ∷ []) so_far ∙ sym (rw newest at one_more)
+            ap events_of first ∙ events_of-push_event (firsts same_item v) e ∙ ap (λ es. es ++ e ∷ []) so_far
+            ∙ sym (rw newest at one_more)
       ]
 
-  rises-firsts_take : (w : List Item) → IsReplay w f → (k : ℕ) → events_of (firsts same_item (take k w)) ≡ rises (events_of (take k w))
+  rises-firsts_take : (w : List Item) → IsReplay w f → (k : ℕ)
+      → events_of (firsts same_item (take k w)) ≡ rises (events_of (take k w))
   rises-firsts_take w replay zero = refl
   rises-firsts_take w replay (suc k) =
       let so_far = rises-firsts_take w replay k in

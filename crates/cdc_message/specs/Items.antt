@@ -34,7 +34,8 @@ is_newest before event = nat_lt 0 event.timestamp && list_all (λ other. nat_lt 
 abbrev pub newest_after : List Event → List Event → List Event
 newest_after before [] = []
 newest_after before (event ∷ events) =
-    if is_newest before event then event ∷ newest_after (before ++ event ∷ []) events else newest_after (before ++ event ∷ []) events
+    if is_newest before event then event ∷ newest_after (before ++ event ∷ []) events
+    else newest_after (before ++ event ∷ []) events
 
 -- the events whose timestamp is above 0 and above that of each event before them
 abbrev pub rises : List Event → List Event

@@ -10,6 +10,7 @@ mod items;
 mod kinds;
 mod laws;
 mod message;
+mod packets;
 #[cfg(test)]
 mod tests;
 
@@ -22,3 +23,4 @@ pub use items::{Delivery, Item};
 pub use kinds::{kind_named, kind_text};
 pub use laws::replay_laws;
 pub use message::Message;
+pub use packets::{Answer, Confirm, Packet};

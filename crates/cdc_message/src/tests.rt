@@ -1,6 +1,6 @@
 use crate::{
-    DecodeError, Delivery, Field, FieldName, Item, Message, Part, decode, encode, headers_of,
-    kind_named, kind_text, properties_of, replay_laws,
+    DecodeError, Delivery, Field, FieldName, Item, Message, Packet, Part, decode, encode,
+    headers_of, kind_named, kind_text, properties_of, replay_laws,
 };
 use cdc_types::{Event, EventAccount, EventKind, EventTransfer};
 use std::alloc::{AllocError, Global};
@@ -427,7 +427,7 @@ fn event_of(alloc: Global, item: &Item) -> Result<Option<Event>, DecodeError> {
 }
 
 #[test]
-fn items_and_deliveries_are_copied(rt: HostRuntime) -> Result<(), Fail> {
+fn items_deliveries_and_packets_are_copied(rt: HostRuntime) -> Result<(), Fail> {
     let alloc = rt.alloc();
     replay_laws();
     let events = [
@@ -443,8 +443,21 @@ fn items_and_deliveries_are_copied(rt: HostRuntime) -> Result<(), Fail> {
         let delivery = Delivery { position: 7, item }.try_copy(alloc)?;
         assert_eq!(rt; delivery.position, 7);
         assert_eq!(rt; event_of(alloc, &delivery.item)?, event);
-        assert_eq!(rt; event_of(alloc, &delivery.item.try_copy(alloc)?)?, event);
+        let packet = Packet::Publish {
+            session: 3,
+            tag: 9,
+            item: delivery.item.try_copy(alloc)?,
+        };
+        match packet.try_copy(alloc)? {
+            Packet::Publish { session, tag, item } => {
+                assert_eq!(rt; (session, tag), (3, 9));
+                assert_eq!(rt; event_of(alloc, &item)?, event);
+            }
+            Packet::Connect { session } => assert_eq!(rt; session, 0, "a publish became a connect"),
+        }
     }
+    let connect = Packet::Connect { session: 3 }.try_copy(alloc)?;
+    assert!(rt; matches!(&connect, Packet::Connect { session: 3 }));
     Ok(())
 }
 
