@@ -12,7 +12,6 @@ use Rattle.cdc_subscriber.specs.declared.subscriber.Taking.TheVariants.{Applied,
 use Rattle.cdc_subscriber.specs.Answers.{answer_to}
 use Rattle.cdc_subscriber.specs.Book.{balances_shown, book_of}
 use Rattle.cdc_subscriber.specs.Heard.{Heard, kept_of, next}
-use Rattle.cdc_subscriber.specs.Kept.{Kept}
 use Rattle.cdc_subscriber.specs.Lines.{subscriber_text}
 
 -- an account as an event shows it
