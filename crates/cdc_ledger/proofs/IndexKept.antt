@@ -110,6 +110,7 @@ end_fits h x sound among held =
   where
     stands : Stands h x
     stands = All-among (Stands h) h.entries x among sound.standing
+
     endless_fits : x.transfer.timeout ≡ 0 → expires_at x.transfer ≤ max_timestamp
     endless_fits endless =
         let past : x.timestamp ≤ h.last = All-among (λ y. y.timestamp ≤ h.last) h.entries x among sound.past in

@@ -140,13 +140,13 @@ contains_filtered keep xs x there =
 pub IsNext-least : (h : History) (now : ℕ) (t : Triple) → IsSound h → IsLeast (due_at (index_of h) now) (Some t) → IsNext h now t
 IsNext-least h now t sound least =
     let of_filter : IsLeastOf (filter (λ u. nat_le u.expires_at now) (open_triples h)) (Some t) =
-        IsLeastOf-set_of (filter (λ u. nat_le u.expires_at now) (open_triples h)) (Some t)
-        (subst (λ s. IsLeast s (Some t)) (due_at-set_of (open_triples h) now) least) in
+    IsLeastOf-set_of (filter (λ u. nat_le u.expires_at now) (open_triples h)) (Some t)
+    (subst (λ s. IsLeast s (Some t)) (due_at-set_of (open_triples h) now) least) in
     let of_list : IsLeastOf (ready_triples h now) (Some t) =
-        subst (λ xs. IsLeastOf xs (Some t)) (ready_triples-filter h now) of_filter in
+    subst (λ xs. IsLeastOf xs (Some t)) (ready_triples-filter h now) of_filter in
     let of : IsOf (is_ready h now) 0 h.entries t = IsOf-contained (is_ready h now) 0 h.entries t of_list.0 in
     let first : AllByRecursion (λ u. is_le (triple_cmp t u) ≡ true) (ready_triples h now) =
-        recursion_from_All (λ u. is_le (triple_cmp t u) ≡ true) (ready_triples h now) of_list.1 in
+    recursion_from_All (λ u. is_le (triple_cmp t u) ≡ true) (ready_triples h now) of_list.1 in
     record {
       found = found h now t sound of first;
       contained = contains_filtered (λ u. nat_le u.expires_at now) (open_triples h) t of_filter.0;
