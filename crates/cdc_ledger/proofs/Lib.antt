@@ -27,6 +27,7 @@ pub mod IndexTimes
 pub mod IndexKept
 pub mod IndexNext
 pub mod Expiring
+pub mod Pulsed
 pub mod Judged
 pub mod Recorded
 pub mod Answered
