@@ -94,7 +94,7 @@ enum Step<'a> {
 }
 
 // What a ledger of two accounts does: batches with their answers, and then the events (the timestamp, the kind, the
-// amount and account 1's four balances after it).
+// amount and the debited account's four balances after it).
 #[derive(Clone, Copy)]
 struct Row<'a> {
     flags: u16,
@@ -311,7 +311,7 @@ fn the_ledger_does_what_its_rules_say(rt: HostRuntime) -> Result<(), Fail> {
                 Step::Transfers(5, &[settling(5, 3, 1, 4), transfer(6, 1, 2, 99)], &[0, 0]),
             ],
             events: &[
-                (2000, single, 100, balances(0, 0, 0, 0)),
+                (2000, single, 100, balances(0, 100, 0, 0)),
                 (2002, held, 100, balances(100, 0, 0, 100)),
                 (2004, posted, 1, balances(0, 1, 0, 100)),
                 (2005, single, 99, balances(0, 100, 0, 100)),
