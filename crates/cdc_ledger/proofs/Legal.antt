@@ -18,6 +18,11 @@ use Rattle.cdc_ledger.specs.Submit.{IsLegal}
 use Rattle.cdc_ledger.proofs.LegalLaws.{IsLegal-submit}
 use Rattle.cdc_ledger.proofs.OpenedLaws.{opened_id}
 
+-- what holds anyway holds where the answer isn't a refusal
+pub on_ok : {A E : Type 0} (P : Type 0) (r : Result A E) → P → OnOk r P
+on_ok P (Ok x) holds = holds
+on_ok P (Err e) holds = tt
+
 module _ {A : Type 0} (shown : A → BatchResults) (h g : History) (b : Batch) where
   -- it stays legal, whatever the answer
   pub IsLegal-answered : (r : Result A BatchError) → IsLegal h → OnOk r (BatchFits b) → Answers shown h b r g → IsLegal g
