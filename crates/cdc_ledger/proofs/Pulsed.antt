@@ -30,7 +30,6 @@ never_memory false false true wrong = cc
 never_memory false false false wrong = cc
 
 module _ (h : History) (now count : ℕ) (counted : count ≡ length (due h now)) where
-
   by_refusal : submit h (Pulse now) ≡ answered (refusal_at h false now count) (Pulsed (length (due h now)), expiries_from h (base h now) (due h now))
   by_refusal = ap (λ n. answered (refusal_at h false now n) (Pulsed (length (due h now)), expiries_from h (base h now) (due h now))) (sym counted)
 

@@ -86,21 +86,32 @@ fn balances(
     }
 }
 
-// A batch and its answer: the number of each result, or how many came to their end.
+// A batch of one request, or a pulse, and its answer: the result's number, or how many came to their end.
 #[derive(Clone, Copy)]
-enum Step<'a> {
-    Transfers(u64, &'a [NewTransfer], &'a [u8]),
-    Pulse(u64, u64),
+struct Step {
+    now: u64,
+    request: Option<NewTransfer>,
+    answer: u64,
 }
 
-// What a ledger of two accounts does: batches with their answers, and then the events (the timestamp, the kind, the
-// amount and the debited account's four balances after it).
-#[derive(Clone, Copy)]
-struct Row<'a> {
-    flags: u16,
-    steps: &'a [Step<'a>],
-    events: &'a [(u64, EventKind, u128, Balances)],
+fn at(now: u64, request: NewTransfer, answer: u64) -> Step {
+    Step {
+        now,
+        request: Some(request),
+        answer,
+    }
 }
+
+fn pulse(now: u64, answer: u64) -> Step {
+    Step {
+        now,
+        request: None,
+        answer,
+    }
+}
+
+// An event's timestamp, its kind, the amount, and the debited account's four balances after it.
+type Told = (u64, EventKind, u128, Balances);
 
 // Accounts 1 and 2, opened at 1000 and 1001; the flags are account 1's.
 fn ledger_of_two(alloc: Global, flags: u16) -> Result<Ledger, Fail> {
@@ -109,31 +120,38 @@ fn ledger_of_two(alloc: Global, flags: u16) -> Result<Ledger, Fail> {
     Ok(ledger)
 }
 
-fn play(rt: &impl Abort, alloc: Global, ledger: &mut Ledger, step: &Step) -> Result<(), Fail> {
-    match step {
-        Step::Transfers(now, requests, numbers) => {
-            let items = Items::from_vec(requests.to_vec(alloc)?);
-            let batch = Batch::Transfers { now: *now, items };
-            let BatchResults::Transfers(results) = ledger.submit(alloc, &batch)? else {
-                return Err("no results of transfers".into());
-            };
-            assert_eq!(rt; results.as_slice().len(), numbers.len());
-            for (result, number) in results.as_slice().iter().zip(numbers.iter()) {
-                assert_eq!(rt; result.number(), *number);
-            }
-        }
-        Step::Pulse(now, count) => assert_eq!(rt; ledger.pulse(*now)?, *count),
+fn answer(alloc: Global, ledger: &mut Ledger, step: &Step) -> Result<u64, Fail> {
+    let Some(request) = step.request else {
+        return Ok(ledger.pulse(step.now)?);
+    };
+    let items = Items::from_vec(vec![in alloc; request]?);
+    let batch = Batch::Transfers {
+        now: step.now,
+        items,
+    };
+    match ledger.submit(alloc, &batch)? {
+        BatchResults::Transfers(results) => match results.as_slice() {
+            [only] => Ok(u64::from(only.number())),
+            _ => Err("not one result".into()),
+        },
+        _ => Err("no results of transfers".into()),
     }
-    Ok(())
 }
 
-fn check(rt: &impl Abort, alloc: Global, row: &Row) -> Result<(), Fail> {
-    let mut ledger = ledger_of_two(alloc, row.flags)?;
-    for step in row.steps {
-        play(rt, alloc, &mut ledger, step)?;
+// The steps one after the other on a ledger of two accounts have these answers, and these are its events.
+fn row(
+    rt: &impl Abort,
+    alloc: Global,
+    flags: u16,
+    steps: &[Step],
+    events: &[Told],
+) -> Result<(), Fail> {
+    let mut ledger = ledger_of_two(alloc, flags)?;
+    for step in steps {
+        assert_eq!(rt; answer(alloc, &mut ledger, step)?, step.answer);
     }
-    assert_eq!(rt; ledger.log().len(), row.events.len());
-    for (place, expected) in row.events.iter().enumerate() {
+    assert_eq!(rt; ledger.log().len(), events.len());
+    for (place, expected) in events.iter().enumerate() {
         let event = ledger.log().get(place).ok_or("an event is missing")?;
         let debit = event.debit_account;
         let sums = balances(
@@ -150,207 +168,237 @@ fn check(rt: &impl Abort, alloc: Global, row: &Row) -> Result<(), Fail> {
     Ok(())
 }
 
+const SINGLE: EventKind = EventKind::SinglePhase;
+
+const PENDING: EventKind = EventKind::TwoPhasePending;
+
+const POSTED: EventKind = EventKind::TwoPhasePosted;
+
+const VOIDED: EventKind = EventKind::TwoPhaseVoided;
+
+const EXPIRED: EventKind = EventKind::TwoPhaseExpired;
+
 #[test]
-fn the_ledger_does_what_its_rules_say(rt: HostRuntime) -> Result<(), Fail> {
-    let (single, held) = (EventKind::SinglePhase, EventKind::TwoPhasePending);
-    let (posted, voided) = (EventKind::TwoPhasePosted, EventKind::TwoPhaseVoided);
-    let expired = EventKind::TwoPhaseExpired;
-    let rows = [
-        // two transfers
-        Row {
-            flags: 0,
-            steps: &[Step::Transfers(2000, &[transfer(1, 1, 2, 5), transfer(2, 1, 2, 7)], &[0, 0])],
-            events: &[
-                (2000, single, 5, balances(0, 5, 0, 0)),
-                (2001, single, 7, balances(0, 12, 0, 0)),
-            ],
-        },
-        // a part is posted, and the rest is released
-        Row {
-            flags: 0,
-            steps: &[
-                Step::Transfers(2000, &[pending(10, 100, 0)], &[0]),
-                Step::Transfers(3000, &[settling(11, 10, 40, 4)], &[0]),
-            ],
-            events: &[
-                (2000, held, 100, balances(100, 0, 0, 0)),
-                (3000, posted, 40, balances(0, 40, 0, 0)),
-            ],
-        },
-        // no more than the whole is posted, which the greatest number stands for
-        Row {
-            flags: 0,
-            steps: &[
-                Step::Transfers(2000, &[pending(10, 100, 0)], &[0]),
-                Step::Transfers(3000, &[settling(12, 10, 101, 4)], &[24]),
-                Step::Transfers(4000, &[settling(11, 10, MAX, 4)], &[0]),
-            ],
-            events: &[
-                (2000, held, 100, balances(100, 0, 0, 0)),
-                (4000, posted, 100, balances(0, 100, 0, 0)),
-            ],
-        },
-        // a void, and a second one
-        Row {
-            flags: 0,
-            steps: &[
-                Step::Transfers(2000, &[pending(10, 100, 0)], &[0]),
-                Step::Transfers(3000, &[settling(11, 10, 0, 8)], &[0]),
-                Step::Transfers(4000, &[settling(12, 10, 0, 8)], &[27]),
-            ],
-            events: &[
-                (2000, held, 100, balances(100, 0, 0, 0)),
-                (3000, voided, 100, balances(0, 0, 0, 0)),
-            ],
-        },
-        // a post a nanosecond before the end
-        Row {
-            flags: 0,
-            steps: &[
-                Step::Transfers(2000, &[pending(10, 100, 1)], &[0]),
-                Step::Transfers(1_000_001_999, &[settling(11, 10, MAX, 4)], &[0]),
-            ],
-            events: &[
-                (2000, held, 100, balances(100, 0, 0, 0)),
-                (1_000_001_999, posted, 100, balances(0, 100, 0, 0)),
-            ],
-        },
-        // a post at the end, and then the expiry
-        Row {
-            flags: 0,
-            steps: &[
-                Step::Transfers(2000, &[pending(10, 100, 1)], &[0]),
-                Step::Transfers(1_000_002_000, &[settling(11, 10, MAX, 4)], &[28]),
-                Step::Pulse(1_000_003_000, 1),
-            ],
-            events: &[
-                (2000, held, 100, balances(100, 0, 0, 0)),
-                (1_000_003_000, expired, 100, balances(0, 0, 0, 0)),
-            ],
-        },
-        // those that end first expire first
-        Row {
-            flags: 0,
-            steps: &[
-                Step::Transfers(2000, &[pending(10, 1, 2), pending(11, 2, 1)], &[0, 0]),
-                Step::Pulse(3_000_000_000, 2),
-            ],
-            events: &[
-                (2000, held, 1, balances(1, 0, 0, 0)),
-                (2001, held, 2, balances(3, 0, 0, 0)),
-                (3_000_000_000, expired, 2, balances(1, 0, 0, 0)),
-                (3_000_000_001, expired, 1, balances(0, 0, 0, 0)),
-            ],
-        },
-        // repeated requests
-        Row {
-            flags: 0,
-            steps: &[
-                Step::Transfers(
-                    2000,
-                    &[
-                        transfer(1, 1, 2, 100),
-                        transfer(1, 1, 2, 100),
-                        transfer(1, 1, 2, 101),
-                    ],
-                    &[0, 13, 12],
-                ),
-                Step::Transfers(
-                    3000,
-                    &[
-                        pending(10, 100, 0),
-                        settling(11, 10, MAX, 4),
-                        settling(11, 10, MAX, 4),
-                        settling(11, 10, 100, 4),
-                        settling(11, 10, 99, 4),
-                    ],
-                    &[0, 0, 13, 13, 12],
-                ),
-            ],
-            events: &[
-                (2000, single, 100, balances(0, 100, 0, 0)),
-                (3000, held, 100, balances(100, 100, 0, 0)),
-                (3001, posted, 100, balances(0, 200, 0, 0)),
-            ],
-        },
-        // sums that don't fit
-        Row {
-            flags: 0,
-            steps: &[Step::Transfers(
-                2000,
-                &[transfer(1, 1, 2, MAX), transfer(2, 1, 2, 1)],
-                &[0, 31],
-            )],
-            events: &[(2000, single, MAX, balances(0, MAX, 0, 0))],
-        },
-        Row {
-            flags: 0,
-            steps: &[Step::Transfers(2000, &[pending(1, MAX, 0), transfer(2, 1, 2, 1)], &[0, 33])],
-            events: &[(2000, held, MAX, balances(MAX, 0, 0, 0))],
-        },
-        // an end that is past the greatest timestamp
-        Row {
-            flags: 0,
-            steps: &[Step::Transfers(9_000_000_000_000_000_000, &[pending(1, 1, u32::MAX)], &[35])],
-            events: &[],
-        },
-        // a limit on debits, which counts what is pending
-        Row {
-            flags: 2,
-            steps: &[
-                Step::Transfers(
-                    2000,
-                    &[
-                        transfer(1, 2, 1, 100),
-                        transfer(2, 1, 2, 101),
-                        pending(3, 100, 0),
-                        transfer(4, 1, 2, 1),
-                    ],
-                    &[0, 36, 0, 36],
-                ),
-                Step::Transfers(5, &[settling(5, 3, 1, 4), transfer(6, 1, 2, 99)], &[0, 0]),
-            ],
-            events: &[
-                (2000, single, 100, balances(0, 100, 0, 0)),
-                (2002, held, 100, balances(100, 0, 0, 100)),
-                (2004, posted, 1, balances(0, 1, 0, 100)),
-                (2005, single, 99, balances(0, 100, 0, 100)),
-            ],
-        },
-        // the refusals of a request's own fields
-        Row {
-            flags: 0,
-            steps: &[Step::Transfers(
-                2000,
-                &[
-                    bare(0, 0, 0, 0, 0),
-                    bare(MAX, 0, 0, 0, 0),
-                    bare(1, 0, 0, 0, 6),
-                    bare(1, 9, 0, 0, 0),
-                    bare(1, 0, 0, 0, 4),
-                    bare(1, 1, 0, 0, 4),
-                    bare(1, 0, 1, 0, 0),
-                    bare(1, 0, 0, 0, 0),
-                    bare(1, 0, 0, 700, 0),
-                    transfer(1, 1, 1, 1),
-                    transfer(1, 3, 2, 1),
-                    transfer(1, 1, 3, 1),
-                    NewTransfer {
-                        ledger: 701,
-                        ..transfer(1, 1, 2, 1)
-                    },
-                    bare(1, 0, 0, 0, 16),
-                    bare(1, 9, 0, 0, 4),
-                ],
-                &[2, 3, 4, 5, 6, 7, 8, 9, 10, 11, 14, 15, 17, 1, 18],
-            )],
-            events: &[],
-        },
-    ];
-    for row in &rows {
-        check(&rt, rt.alloc(), row)?;
-    }
-    Ok(())
+fn pending_transfers_are_posted_and_voided(rt: HostRuntime) -> Result<(), Fail> {
+    let alloc = rt.alloc();
+    // two transfers
+    row(
+        &rt,
+        alloc,
+        0,
+        &[
+            at(2000, transfer(1, 1, 2, 5), 0),
+            at(2000, transfer(2, 1, 2, 7), 0),
+        ],
+        &[
+            (2000, SINGLE, 5, balances(0, 5, 0, 0)),
+            (2001, SINGLE, 7, balances(0, 12, 0, 0)),
+        ],
+    )?;
+    // a part is posted, and the rest is released
+    row(
+        &rt,
+        alloc,
+        0,
+        &[
+            at(2000, pending(10, 100, 0), 0),
+            at(3000, settling(11, 10, 40, 4), 0),
+        ],
+        &[
+            (2000, PENDING, 100, balances(100, 0, 0, 0)),
+            (3000, POSTED, 40, balances(0, 40, 0, 0)),
+        ],
+    )?;
+    // no more than the whole is posted, which the greatest number stands for
+    row(
+        &rt,
+        alloc,
+        0,
+        &[
+            at(2000, pending(10, 100, 0), 0),
+            at(3000, settling(12, 10, 101, 4), 24),
+            at(4000, settling(11, 10, MAX, 4), 0),
+        ],
+        &[
+            (2000, PENDING, 100, balances(100, 0, 0, 0)),
+            (4000, POSTED, 100, balances(0, 100, 0, 0)),
+        ],
+    )?;
+    // a void, and a second one
+    row(
+        &rt,
+        alloc,
+        0,
+        &[
+            at(2000, pending(10, 100, 0), 0),
+            at(3000, settling(11, 10, 0, 8), 0),
+            at(4000, settling(12, 10, 0, 8), 27),
+        ],
+        &[
+            (2000, PENDING, 100, balances(100, 0, 0, 0)),
+            (3000, VOIDED, 100, balances(0, 0, 0, 0)),
+        ],
+    )
+}
+
+#[test]
+fn pending_transfers_come_to_their_end(rt: HostRuntime) -> Result<(), Fail> {
+    let alloc = rt.alloc();
+    // a post a nanosecond before the end
+    row(
+        &rt,
+        alloc,
+        0,
+        &[
+            at(2000, pending(10, 100, 1), 0),
+            at(1_000_001_999, settling(11, 10, MAX, 4), 0),
+        ],
+        &[
+            (2000, PENDING, 100, balances(100, 0, 0, 0)),
+            (1_000_001_999, POSTED, 100, balances(0, 100, 0, 0)),
+        ],
+    )?;
+    // a post at the end, and then the expiry
+    row(
+        &rt,
+        alloc,
+        0,
+        &[
+            at(2000, pending(10, 100, 1), 0),
+            at(1_000_002_000, settling(11, 10, MAX, 4), 28),
+            pulse(1_000_003_000, 1),
+        ],
+        &[
+            (2000, PENDING, 100, balances(100, 0, 0, 0)),
+            (1_000_003_000, EXPIRED, 100, balances(0, 0, 0, 0)),
+        ],
+    )?;
+    // those that end first expire first
+    row(
+        &rt,
+        alloc,
+        0,
+        &[
+            at(2000, pending(10, 1, 2), 0),
+            at(2000, pending(11, 2, 1), 0),
+            pulse(3_000_000_000, 2),
+        ],
+        &[
+            (2000, PENDING, 1, balances(1, 0, 0, 0)),
+            (2001, PENDING, 2, balances(3, 0, 0, 0)),
+            (3_000_000_000, EXPIRED, 2, balances(1, 0, 0, 0)),
+            (3_000_000_001, EXPIRED, 1, balances(0, 0, 0, 0)),
+        ],
+    )?;
+    // an end that is past the greatest timestamp
+    row(
+        &rt,
+        alloc,
+        0,
+        &[at(9_000_000_000_000_000_000, pending(1, 1, u32::MAX), 35)],
+        &[],
+    )
+}
+
+#[test]
+fn what_is_asked_for_again_exists(rt: HostRuntime) -> Result<(), Fail> {
+    let alloc = rt.alloc();
+    row(
+        &rt,
+        alloc,
+        0,
+        &[
+            at(2000, transfer(1, 1, 2, 100), 0),
+            at(2000, transfer(1, 1, 2, 100), 13),
+            at(2000, transfer(1, 1, 2, 101), 12),
+            at(3000, pending(10, 100, 0), 0),
+            at(3000, settling(11, 10, MAX, 4), 0),
+            at(3000, settling(11, 10, MAX, 4), 13),
+            at(3000, settling(11, 10, 100, 4), 13),
+            at(3000, settling(11, 10, 99, 4), 12),
+        ],
+        &[
+            (2000, SINGLE, 100, balances(0, 100, 0, 0)),
+            (3000, PENDING, 100, balances(100, 100, 0, 0)),
+            (3001, POSTED, 100, balances(0, 200, 0, 0)),
+        ],
+    )
+}
+
+#[test]
+fn sums_fit_and_keep_to_limits(rt: HostRuntime) -> Result<(), Fail> {
+    let alloc = rt.alloc();
+    row(
+        &rt,
+        alloc,
+        0,
+        &[
+            at(2000, transfer(1, 1, 2, MAX), 0),
+            at(2000, transfer(2, 1, 2, 1), 31),
+        ],
+        &[(2000, SINGLE, MAX, balances(0, MAX, 0, 0))],
+    )?;
+    row(
+        &rt,
+        alloc,
+        0,
+        &[
+            at(2000, pending(1, MAX, 0), 0),
+            at(2000, transfer(2, 1, 2, 1), 33),
+        ],
+        &[(2000, PENDING, MAX, balances(MAX, 0, 0, 0))],
+    )?;
+    // a limit on debits, which counts what is pending
+    row(
+        &rt,
+        alloc,
+        2,
+        &[
+            at(2000, transfer(1, 2, 1, 100), 0),
+            at(2000, transfer(2, 1, 2, 101), 36),
+            at(2000, pending(3, 100, 0), 0),
+            at(2000, transfer(4, 1, 2, 1), 36),
+            at(5, settling(5, 3, 1, 4), 0),
+            at(5, transfer(6, 1, 2, 99), 0),
+        ],
+        &[
+            (2000, SINGLE, 100, balances(0, 100, 0, 0)),
+            (2002, PENDING, 100, balances(100, 0, 0, 100)),
+            (2004, POSTED, 1, balances(0, 1, 0, 100)),
+            (2005, SINGLE, 99, balances(0, 100, 0, 100)),
+        ],
+    )
+}
+
+#[test]
+fn requests_are_refused_by_the_first_line(rt: HostRuntime) -> Result<(), Fail> {
+    let other_ledger = NewTransfer {
+        ledger: 701,
+        ..transfer(1, 1, 2, 1)
+    };
+    row(
+        &rt,
+        rt.alloc(),
+        0,
+        &[
+            at(2000, bare(0, 0, 0, 0, 0), 2),
+            at(2000, bare(MAX, 0, 0, 0, 0), 3),
+            at(2000, bare(1, 0, 0, 0, 6), 4),
+            at(2000, bare(1, 9, 0, 0, 0), 5),
+            at(2000, bare(1, 0, 0, 0, 4), 6),
+            at(2000, bare(1, 1, 0, 0, 4), 7),
+            at(2000, bare(1, 0, 1, 0, 0), 8),
+            at(2000, bare(1, 0, 0, 0, 0), 9),
+            at(2000, bare(1, 0, 0, 700, 0), 10),
+            at(2000, transfer(1, 1, 1, 1), 11),
+            at(2000, transfer(1, 3, 2, 1), 14),
+            at(2000, transfer(1, 1, 3, 1), 15),
+            at(2000, other_ledger, 17),
+            at(2000, bare(1, 0, 0, 0, 16), 1),
+            at(2000, bare(1, 9, 0, 0, 4), 18),
+        ],
+        &[],
+    )
 }
 
 #[test]
@@ -386,10 +434,10 @@ fn readers_find_what_was_stored(rt: HostRuntime) -> Result<(), Fail> {
 #[test]
 fn a_pulse_is_of_any_size(rt: HostRuntime) -> Result<(), Fail> {
     let mut ledger = ledger_of_two(rt.alloc(), 0)?;
-    for batch in 0..2 {
+    for batch in 0..2u32 {
         let mut requests = Vec::with_capacity(rt.alloc(), 1000)?;
-        for place in 0..1000 {
-            requests.push(pending(1 + 1000 * batch + place, 1, 1))?;
+        for place in 0..1000u32 {
+            requests.push(pending(u128::from(1 + 1000 * batch + place), 1, 1))?;
         }
         let results = ledger.create_transfers(rt.alloc(), 2000, requests.as_slice())?;
         assert!(rt;
