@@ -43,11 +43,14 @@ index_of-later h accounts t closed sound later = ap set.from_list (open_triples-
 settles-settled_by : (h : History) (e : Entry) → Follows h e → settled_by h e ≡ None → settles e.kind ≡ false
 settles-settled_by h e follows none = by_settling (settles e.kind) refl
   where
-    unnamed : (k : EventKind) (r : Transfer) (x : Entry) → settles k ≡ true → stored h (settled_id k r) ≡ Some x → settled_in k h r ≡ None → ⊥
+    unnamed : (k : EventKind) (r : Transfer) (x : Entry) → settles k ≡ true → stored h (settled_id k r) ≡ Some x
+        → settled_in k h r ≡ None → ⊥
     unnamed SinglePhase r x is named none = cc
     unnamed TwoPhasePending r x is named none = cc
-    unnamed TwoPhasePosted r x is named none = let wrong : Some x.transfer ≡ None = sym (ap (option_map (λ (y : Entry). y.transfer)) named) ∙ none in cc
-    unnamed TwoPhaseVoided r x is named none = let wrong : Some x.transfer ≡ None = sym (ap (option_map (λ (y : Entry). y.transfer)) named) ∙ none in cc
+    unnamed TwoPhasePosted r x is named none = let wrong : Some x.transfer ≡ None = sym
+        (ap (option_map (λ (y : Entry). y.transfer)) named) ∙ none in cc
+    unnamed TwoPhaseVoided r x is named none = let wrong : Some x.transfer ≡ None = sym
+        (ap (option_map (λ (y : Entry). y.transfer)) named) ∙ none in cc
     unnamed TwoPhaseExpired r x is named none = cc
 
     by_settling : (b : Bool) → settles e.kind ≡ b → settles e.kind ≡ false
@@ -57,14 +60,17 @@ settles-settled_by h e follows none = by_settling (settles e.kind) refl
     by_settling false is = is
 
 -- a single-phase or a pending one: it has a triple where it has a timeout
-module _ (h : History) (e : Entry) (sound : IsSound h) (follows : Follows h e) (after : h.last < e.timestamp) (none : settled_by h e ≡ None) where
-  pub index_of-pending : opens e ≡ true → index_of (pushed h e) ≡ set.insert (index_of h) (triple_at (length h.entries) e)
+module _ (h : History) (e : Entry) (sound : IsSound h) (follows : Follows h e) (after : h.last < e.timestamp)
+    (none : settled_by h e ≡ None) where
+  pub index_of-pending : opens e ≡ true
+      → index_of (pushed h e) ≡ set.insert (index_of h) (triple_at (length h.entries) e)
   index_of-pending is =
       ap set.from_list (open_triples-pending h e sound follows after (settles-settled_by h e follows none) is)
       ∙ set_of-push (open_triples h) (triple_at (length h.entries) e)
 
   pub index_of-unpending : opens e ≡ false → index_of (pushed h e) ≡ index_of h
-  index_of-unpending isnt = ap set.from_list (open_triples-other h e sound follows after (settles-settled_by h e follows none) isnt)
+  index_of-unpending isnt = ap set.from_list (open_triples-other h e sound follows after
+      (settles-settled_by h e follows none) isnt)
 
 -- its timestamp is new to the set
 pub IsNewTimestamp-index_of : (h : History) (t : ℕ) → IsSound h → h.last < t → IsNewTimestamp (index_of h) t
@@ -77,7 +83,8 @@ record IsSettled (h : History) (e : Entry) (p : Transfer) : Type 0 where
   settled : Settles h e x
   own : x.transfer ≡ p
 
-IsSettled-settled_by : (h : History) (e : Entry) (p : Transfer) → Follows h e → settled_by h e ≡ Some p → IsSettled h e p
+IsSettled-settled_by : (h : History) (e : Entry) (p : Transfer) → Follows h e → settled_by h e ≡ Some p
+    → IsSettled h e p
 IsSettled-settled_by h e p follows some =
     let is : settles e.kind ≡ true = settling e.kind e.transfer some in
     let unsettled = follows.settling is in
@@ -95,16 +102,20 @@ IsSettled-settled_by h e p follows some =
     settling TwoPhaseVoided r some = refl
     settling TwoPhaseExpired r some = refl
 
-    named : (k : EventKind) (r : Transfer) (x : Entry) → settles k ≡ true → stored h (settled_id k r) ≡ Some x → (k ≡ TwoPhaseExpired → r ≡ x.transfer)
+    named : (k : EventKind) (r : Transfer) (x : Entry) → settles k ≡ true → stored h (settled_id k r) ≡ Some x
+        → (k ≡ TwoPhaseExpired → r ≡ x.transfer)
         → settled_in k h r ≡ Some p → x.transfer ≡ p
     named SinglePhase r x is there shown some = cc
     named TwoPhasePending r x is there shown some = cc
-    named TwoPhasePosted r x is there shown some = let same : Some x.transfer ≡ Some p = sym (ap (option_map (λ (y : Entry). y.transfer)) there) ∙ some in cc
-    named TwoPhaseVoided r x is there shown some = let same : Some x.transfer ≡ Some p = sym (ap (option_map (λ (y : Entry). y.transfer)) there) ∙ some in cc
+    named TwoPhasePosted r x is there shown some = let same : Some x.transfer ≡ Some p = sym
+        (ap (option_map (λ (y : Entry). y.transfer)) there) ∙ some in cc
+    named TwoPhaseVoided r x is there shown some = let same : Some x.transfer ≡ Some p = sym
+        (ap (option_map (λ (y : Entry). y.transfer)) there) ∙ some in cc
     named TwoPhaseExpired r x is there shown some = let same = shown refl in cc
 
 -- the end of a pending transfer is a timestamp, and so it is without a timeout, when it is the moment of its entry
-end_fits : (h : History) (x : Entry) → IsSound h → IsAmong h.entries x → holds x.kind ≡ true → expires_at x.transfer ≤ max_timestamp
+end_fits : (h : History) (x : Entry) → IsSound h → IsAmong h.entries x → holds x.kind ≡ true
+    → expires_at x.transfer ≤ max_timestamp
 end_fits h x sound among held =
     ⊎_elim (λ endless. endless_fits endless) (λ timed. stands.timely held timed) (cases_eq x.transfer.timeout 0)
   where
@@ -117,7 +128,8 @@ end_fits h x sound among held =
         let within : h.last ≤ max_timestamp = sound.within in
         omega arith
 
-pub expires_at-settled : (h : History) (e : Entry) (p : Transfer) → IsSound h → Follows h e → settled_by h e ≡ Some p → expires_at p ≤ max_timestamp
+pub expires_at-settled : (h : History) (e : Entry) (p : Transfer) → IsSound h → Follows h e → settled_by h e ≡ Some p
+    → expires_at p ≤ max_timestamp
 expires_at-settled h e p sound follows some =
     let it = IsSettled-settled_by h e p follows some in
     let at = IsStored-found h (settled_id e.kind e.transfer) it.x it.settled.named in
@@ -132,19 +144,25 @@ ends_alike : (h : History) (x : Entry) → IsSound h → IsAmong h.entries x →
     → All (λ t. t.timestamp ≡ x.transfer.timestamp → t.expires_at ≡ expires_at x.transfer) (open_triples h)
 ends_alike h x sound among is =
     All-from_recursion (λ t. t.timestamp ≡ x.transfer.timestamp → t.expires_at ≡ expires_at x.transfer) (open_triples h)
-    (triples_from-All (EndsAlike x) (λ t. t.timestamp ≡ x.transfer.timestamp → t.expires_at ≡ expires_at x.transfer) (λ n y alike. alike) (is_open h) 0 h.entries
+    (triples_from-All (EndsAlike x) (λ t. t.timestamp ≡ x.transfer.timestamp → t.expires_at ≡ expires_at x.transfer)
+    (λ n y alike. alike) (is_open h) 0 h.entries
     (All-from_around (λ y. is_open h y ≡ true → EndsAlike x y) h.entries x among (λ has same. refl)
     (Around-weaker (λ y. stores y.kind ≡ true → IsOther x y) (λ y. is_open h y ≡ true → EndsAlike x y)
-    (λ y other has same. absurd ((other (stores-holds y.kind (holds-open h y has))).time same)) among.front among.back (IsOther-around h x among sound is))))
+    (λ y other has same. absurd ((other (stores-holds y.kind (holds-open h y has))).time same)) among.front among.back
+    (IsOther-around h x among sound is))))
 
 -- no triple has the timestamp of an entry that has none
 no_own : (h : History) (x : Entry) → IsSound h → IsAmong h.entries x → stores x.kind ≡ true → (is_open h x ≡ true → ⊥)
     → AllByRecursion (λ t. not (t.timestamp == x.transfer.timestamp) ≡ true) (open_triples h)
 no_own h x sound among is closed =
-    triples_from-All (λ y. not (y.transfer.timestamp == x.transfer.timestamp) ≡ true) (λ t. not (t.timestamp == x.transfer.timestamp) ≡ true) (λ n y apart. apart) (is_open h) 0 h.entries
-    (All-from_around (λ y. is_open h y ≡ true → not (y.transfer.timestamp == x.transfer.timestamp) ≡ true) h.entries x among (λ has. absurd (closed has))
-    (Around-weaker (λ y. stores y.kind ≡ true → IsOther x y) (λ y. is_open h y ≡ true → not (y.transfer.timestamp == x.transfer.timestamp) ≡ true)
-    (λ y other has. ap not (ne_eqb y.transfer.timestamp x.transfer.timestamp (other (stores-holds y.kind (holds-open h y has))).time))
+    triples_from-All (λ y. not (y.transfer.timestamp == x.transfer.timestamp) ≡ true)
+    (λ t. not (t.timestamp == x.transfer.timestamp) ≡ true) (λ n y apart. apart) (is_open h) 0 h.entries
+    (All-from_around (λ y. is_open h y ≡ true → not (y.transfer.timestamp == x.transfer.timestamp) ≡ true) h.entries x
+    among (λ has. absurd (closed has))
+    (Around-weaker (λ y. stores y.kind ≡ true → IsOther x y)
+    (λ y. is_open h y ≡ true → not (y.transfer.timestamp == x.transfer.timestamp) ≡ true)
+    (λ y other has. ap not (ne_eqb y.transfer.timestamp x.transfer.timestamp
+    (other (stores-holds y.kind (holds-open h y has))).time))
     among.front among.back (IsOther-around h x among sound is)))
 
 filter_all : (keep : Triple → Bool) (xs : List Triple) → AllByRecursion (λ t. keep t ≡ true) xs → filter keep xs ≡ xs
@@ -157,17 +175,20 @@ endless_closed true done false is has = cc
 endless_closed false done zero is has = cc
 
 -- a post, a void or an expiry takes out the triple of the pending transfer that it settles
-pub index_of-settled : (h : History) (e : Entry) (p : Transfer) → IsSound h → Follows h e → h.last < e.timestamp → settled_by h e ≡ Some p
+pub index_of-settled : (h : History) (e : Entry) (p : Transfer) → IsSound h → Follows h e → h.last < e.timestamp
+    → settled_by h e ≡ Some p
     → index_of (pushed h e) ≡ without (index_of h) (expires_at p) p.timestamp
 index_of-settled h e p sound follows after some =
     let it = IsSettled-settled_by h e p follows some in
     let at = IsStored-found h (settled_id e.kind e.transfer) it.x it.settled.named in
     ap set.from_list (open_triples-settling h e it.x sound after it.is it.settled)
-    ∙ (sym (without-set_of (open_triples h) (expires_at it.x.transfer) it.x.transfer.timestamp (ends_alike h it.x sound at.among at.stores))
+    ∙ (sym (without-set_of (open_triples h) (expires_at it.x.transfer) it.x.transfer.timestamp
+    (ends_alike h it.x sound at.among at.stores))
     ∙ ap (λ (q : Transfer). without (index_of h) (expires_at q) q.timestamp) it.own)
 
 -- one without a timeout has none
-pub index_of-endless : (h : History) (e : Entry) (p : Transfer) → IsSound h → Follows h e → h.last < e.timestamp → settled_by h e ≡ Some p
+pub index_of-endless : (h : History) (e : Entry) (p : Transfer) → IsSound h → Follows h e → h.last < e.timestamp
+    → settled_by h e ≡ Some p
     → p.timeout ≡ 0 → index_of (pushed h e) ≡ index_of h
 index_of-endless h e p sound follows after some endless =
     let it = IsSettled-settled_by h e p follows some in
@@ -187,7 +208,8 @@ due_count-index_of h now sound =
 pub due-none : (h : History) (now : ℕ) → IsLeast (due_at (index_of h) now) None → due h now ≡ []
 due-none h now least =
     none_long (due h now) (length-due h now ∙ ap length
-    (IsLeastOf-set_of (filter (λ t. nat_le t.expires_at now) (open_triples h)) None (subst (λ s. IsLeast s None) (due_at-set_of (open_triples h) now) least)))
+    (IsLeastOf-set_of (filter (λ t. nat_le t.expires_at now) (open_triples h)) None
+    (subst (λ s. IsLeast s None) (due_at-set_of (open_triples h) now) least)))
   where
     none_long : (xs : List Transfer) → length xs ≡ 0 → xs ≡ []
     none_long [] long = refl

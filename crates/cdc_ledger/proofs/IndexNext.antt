@@ -86,7 +86,9 @@ pub record IsNext (h : History) (now : ℕ) (t : Triple) : Type 0 where
   pub first : (moment : ℕ) → h.last < moment
       → due h now ≡ found.entry.transfer ∷ due (pushed h (expiry found.entry.transfer moment)) now
 
-sooner_numbers : (a b s t m n : ℕ) → is_le (triple_cmp (record { expires_at = a; timestamp = s; slot = m }) (record { expires_at = b; timestamp = t; slot = n })) ≡ true
+sooner_numbers : (a b s t m n : ℕ)
+    → is_le (triple_cmp (record { expires_at = a; timestamp = s; slot = m })
+        (record { expires_at = b; timestamp = t; slot = n })) ≡ true
     → t ≢ s → (nat_lt a b || ((a == b) && nat_lt s t)) ≡ true
 sooner_numbers a b s t m n le apart = grind (arith, nat_tests)
 
@@ -105,7 +107,8 @@ module _ (h : History) (now : ℕ) (t : Triple) (sound : IsSound h) (of : IsOf (
   sooner : AllByRecursion (λ y. is_ready h now y ≡ true → IsSooner y) h.entries
   sooner =
       All-triples_from (λ u. is_le (triple_cmp t u) ≡ true) IsSooner
-      (λ n y le. sooner_numbers (expires_at of.entry.transfer) (expires_at y.transfer) of.entry.transfer.timestamp y.transfer.timestamp (0 + length of.front) n
+      (λ n y le. sooner_numbers (expires_at of.entry.transfer) (expires_at y.transfer) of.entry.transfer.timestamp
+      y.transfer.timestamp (0 + length of.front) n
       (subst (λ u. is_le (triple_cmp u (triple_at n y)) ≡ true) of.made le)) (is_ready h now) 0 h.entries least
 
   stores_it : stores of.entry.kind ≡ true
@@ -119,25 +122,31 @@ module _ (h : History) (now : ℕ) (t : Triple) (sound : IsSound h) (of : IsOf (
       let ready : is_ready h now y ≡ true = sym (is_due-ready h now y) ∙ ends in
       let has = (and_parts (is_open h y) (nat_le (expires_at y.transfer) now) ready).0 in
       known.0 ready (known.1 (stores-holds y.kind (holds-open h y has))).time) of.front of.back
-      (Around-both (λ y. is_ready h now y ≡ true → IsSooner y) (λ y. stores y.kind ≡ true → IsOther of.entry y) of.front of.back
-      (All-around (λ y. is_ready h now y ≡ true → IsSooner y) h.entries of.entry among sooner) (IsOther-around h of.entry among sound stores_it))
+      (Around-both (λ y. is_ready h now y ≡ true → IsSooner y) (λ y. stores y.kind ≡ true → IsOther of.entry y)
+      of.front of.back
+      (All-around (λ y. is_ready h now y ≡ true → IsSooner y) h.entries of.entry among sooner)
+      (IsOther-around h of.entry among sound stores_it))
 
   -- with the others after it
   abbrev found : IsOpenAt h t
-  found = IsOpenAt-of h t sound (record { front = of.front; entry = of.entry; back = of.back; split = of.split; passes = is; made = of.made })
+  found = IsOpenAt-of h t sound (record { front = of.front; entry = of.entry; back = of.back; split = of.split;
+      passes = is; made = of.made })
 
-  due-found : (moment : ℕ) → h.last < moment → due h now ≡ found.entry.transfer ∷ due (pushed h (expiry found.entry.transfer moment)) now
+  due-found : (moment : ℕ) → h.last < moment
+      → due h now ≡ found.entry.transfer ∷ due (pushed h (expiry found.entry.transfer moment)) now
   unfolding IsOpenAt-of
   due-found moment later =
       due-first h now of.entry among (is_due-ready h now of.entry ∙ of.passes) others_later
-      ∙ ap (λ more. of.entry.transfer ∷ more) (sym (due-rest h now of.entry among sound (holds-open h of.entry is) moment later))
+      ∙ ap (λ more. of.entry.transfer ∷ more) (sym (due-rest h now of.entry among sound (holds-open h of.entry is)
+      moment later))
 
 contains_filtered : (keep : Triple → Bool) (xs : List Triple) (x : Triple) → Contains (filter keep xs) x → Contains xs x
 contains_filtered keep xs x there =
     All-contains (Contains xs) (filter keep xs) x (All-filter keep (Contains xs) xs (All-contains_itself xs)) there
 
 -- the index's answer is the one that expires next
-pub IsNext-least : (h : History) (now : ℕ) (t : Triple) → IsSound h → IsLeast (due_at (index_of h) now) (Some t) → IsNext h now t
+pub IsNext-least : (h : History) (now : ℕ) (t : Triple) → IsSound h → IsLeast (due_at (index_of h) now) (Some t)
+    → IsNext h now t
 IsNext-least h now t sound least =
     let of_filter : IsLeastOf (filter (λ u. nat_le u.expires_at now) (open_triples h)) (Some t) =
         IsLeastOf-set_of (filter (λ u. nat_le u.expires_at now) (open_triples h)) (Some t)
