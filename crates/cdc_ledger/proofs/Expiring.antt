@@ -1,5 +1,5 @@
 -- A pulse on its way: some of what was due expired, and what is due now is the rest.
-use Rattle.std.proofs.Common.{ℕ, ◌+◌, ◌<◌, ◌≤◌, Bool, true, Option, Some, None, List, [], ◌∷◌, ◌≡◌, length, refl, ap, ap₂, sym, subst, ◌∙◌, arith}
+use Rattle.std.proofs.Common.{ℕ, ◌+◌, ◌<◌, ◌≤◌, Option, Some, None, List, [], ◌∷◌, ◌≡◌, length, refl, ap, sym, subst, ◌∙◌, arith}
 use Rattle.std.specs.Option.{IsSome}
 use Rattle.cdc_types.specs.declared.transfers.Transfer.{Transfer}
 use Rattle.cdc_expiry.specs.declared.triple.Triple.{Triple}
@@ -13,7 +13,7 @@ use Rattle.cdc_ledger.specs.Sound.{IsSound}
 use Rattle.cdc_ledger.specs.Submit.{expiries_from}
 use Rattle.cdc_ledger.proofs.AcceptedLaws.{Follows-expiry}
 use Rattle.cdc_ledger.proofs.IndexKept.{due-none}
-use Rattle.cdc_ledger.proofs.IndexNext.{IsNext, IsNext-least, IsOpenAt}
+use Rattle.cdc_ledger.proofs.IndexNext.{IsNext, IsNext-least}
 
 -- this many of those that were due at the moment now in the history h expired, from the moment base on, which made g
 pub record GoesOn (h : History) (base now count done : ℕ) (g : History) : Type 0 where

@@ -1,38 +1,32 @@
 -- The set that an index keeps, after each change of a history, and what its answers say of what is due.
-use Rattle.std.proofs.Common.{ℕ, suc, ◌+◌, ◌<◌, ◌≤◌, Bool, true, false, Option, Some, None, List, [], ◌∷◌, ◌++◌, ◌≡◌, ◌≢◌, length, refl, ap, ap₂, sym, ◌∙◌, arith, subst, ⊎_elim}
-use Rattle.std.specs.Prelude.{◌==◌, ◌&&◌, ◌||◌, not, nat_lt, nat_le, option_map, filter, slice_index_or, if◌then◌else◌}
+use Rattle.std.proofs.Common.{ℕ, ◌<◌, ◌≤◌, Bool, true, false, Some, None, List, [], ◌∷◌, ◌≡◌, length, refl, ap, ap₂, sym, ◌∙◌, arith, subst, ⊎_elim}
+use Rattle.std.specs.Prelude.{◌==◌, ◌&&◌, not, nat_le, filter, if◌then◌else◌}
 use Rattle.std.specs.FinSet as set
-use Rattle.std.specs.List.{All, AllByRecursion, Contains}
-use Rattle.std.specs.Ordering.{is_le, nat_cmp}
-use Rattle.std.proofs.lemmas.Bool.{and_parts, cases_eq, eq-eqb, ne_eqb}
-use Rattle.std.proofs.lemmas.Bool.Decides.{nat_tests}
-use Rattle.std.proofs.lemmas.List.{length-append}
-use Rattle.std.proofs.lemmas.List.Elements.{All-from_recursion, recursion_from_All}
-use Rattle.std.proofs.Math.Seq.{get_or-append_seam}
+use Rattle.std.specs.List.{All, AllByRecursion}
+use Rattle.std.proofs.lemmas.Bool.{cases_eq, eq-eqb, ne_eqb}
+use Rattle.std.proofs.lemmas.List.Elements.{All-from_recursion}
 use Rattle.cdc_types.specs.declared.events.Entry.{Entry}
-use Rattle.cdc_types.specs.declared.events.EventKind.{EventKind}
-use Rattle.cdc_types.specs.declared.events.EventKind.TheVariants.{SinglePhase, TwoPhasePending, TwoPhasePosted, TwoPhaseVoided, TwoPhaseExpired}
 use Rattle.cdc_types.specs.declared.transfers.Transfer.{Transfer}
 use Rattle.cdc_expiry.specs.declared.triple.Triple.{Triple}
-use Rattle.cdc_expiry.specs.Triples.{triple_cmp, due_at, IsLeast, IsNewTimestamp, without}
-use Rattle.cdc_expiry.proofs.Lists.{set_of-push, without-set_of, due_at-set_of, due_count-set_of, IsNewTimestamp-set_of, IsLeastOf, IsLeastOf-set_of}
+use Rattle.cdc_expiry.specs.Triples.{due_at, IsLeast, IsNewTimestamp, without}
+use Rattle.cdc_expiry.proofs.Lists.{set_of-push, without-set_of, due_at-set_of, due_count-set_of, IsNewTimestamp-set_of, IsLeastOf-set_of}
 use Rattle.cdc_ledger.specs.Balances.{resolved}
-use Rattle.cdc_ledger.specs.Changes.{pushed, expiry}
-use Rattle.cdc_ledger.specs.Due.{is_due, is_sooner, due}
-use Rattle.cdc_ledger.specs.Effects.{settled_by, settled_in}
+use Rattle.cdc_ledger.specs.Changes.{pushed}
+use Rattle.cdc_ledger.specs.Due.{due}
+use Rattle.cdc_ledger.specs.Effects.{settled_by}
 use Rattle.cdc_ledger.specs.Filling.{stored, expires_at}
-use Rattle.cdc_ledger.specs.Follows.{Follows, SettlesOpen}
+use Rattle.cdc_ledger.specs.Follows.{Follows}
 use Rattle.cdc_ledger.specs.History.{Opened, History}
 use Rattle.cdc_ledger.specs.Kinds.{holds, stores, settles, settled_id}
-use Rattle.cdc_ledger.specs.OpenTriples.{index_of, is_open, opens, open_triples, triple_at, triples_from}
+use Rattle.cdc_ledger.specs.OpenTriples.{index_of, is_open, opens, open_triples, triple_at}
 use Rattle.cdc_ledger.specs.Sound.{IsSound, Settles, Stands}
 use Rattle.cdc_ledger.specs.Verdict.{max_timestamp}
-use Rattle.cdc_ledger.proofs.BalanceLaws.{stores-holds}
-use Rattle.cdc_ledger.proofs.DueLaws.{due-first, due-rest, is_due-ready, is_ready, length-due, ready_triples, ready_triples-filter}
+use Rattle.cdc_ledger.proofs.BalanceLaws.{settled_by_is, settled_by_none, stores-holds}
+use Rattle.cdc_ledger.proofs.DueLaws.{length-due}
 use Rattle.cdc_ledger.proofs.IndexLaws.{open_triples-later, open_triples-other, open_triples-pending, open_triples-settling}
 use Rattle.cdc_ledger.proofs.IndexTimes.{holds-open, others-open, TimestampsDiffer-open}
-use Rattle.cdc_ledger.proofs.IndexTriples.{All-triples_from, triples_from-All, IsOf, IsOf-contained}
-use Rattle.cdc_ledger.proofs.Pending.{All-among, All-around, All-from_around, Around, Around-both, Around-weaker, IsAmong, IsOther, IsOther-around, IsStored, IsStored-found, stored-among}
+use Rattle.cdc_ledger.proofs.IndexTriples.{triples_from-All}
+use Rattle.cdc_ledger.proofs.Pending.{All-among, All-from_around, Around-weaker, IsAmong, IsOther, IsOther-around, IsStored-found}
 
 -- accounts, a close and a timestamp leave the set as it is
 pub index_of-later : (h : History) (accounts : List Opened) (t : ℕ) (closed : Bool) → IsSound h → h.last ≤ t
@@ -43,20 +37,9 @@ index_of-later h accounts t closed sound later = ap set.from_list (open_triples-
 settles-settled_by : (h : History) (e : Entry) → Follows h e → settled_by h e ≡ None → settles e.kind ≡ false
 settles-settled_by h e follows none = by_settling (settles e.kind) refl
   where
-    unnamed : (k : EventKind) (r : Transfer) (x : Entry) → settles k ≡ true → stored h (settled_id k r) ≡ Some x
-        → settled_in k h r ≡ None → ⊥
-    unnamed SinglePhase r x is named none = cc
-    unnamed TwoPhasePending r x is named none = cc
-    unnamed TwoPhasePosted r x is named none = let wrong : Some x.transfer ≡ None = sym
-        (ap (option_map (λ (y : Entry). y.transfer)) named) ∙ none in cc
-    unnamed TwoPhaseVoided r x is named none = let wrong : Some x.transfer ≡ None = sym
-        (ap (option_map (λ (y : Entry). y.transfer)) named) ∙ none in cc
-    unnamed TwoPhaseExpired r x is named none = cc
-
     by_settling : (b : Bool) → settles e.kind ≡ b → settles e.kind ≡ false
     by_settling true is =
-        let unsettled = follows.settling is in
-        absurd (unnamed e.kind e.transfer unsettled.pending is unsettled.settles.named none)
+        let named = settled_by_is h e (follows.settling is).pending is (follows.settling is).settles in cc
     by_settling false is = is
 
 -- a single-phase or a pending one: it has a triple where it has a timeout
@@ -85,33 +68,15 @@ record IsSettled (h : History) (e : Entry) (p : Transfer) : Type 0 where
 
 IsSettled-settled_by : (h : History) (e : Entry) (p : Transfer) → Follows h e → settled_by h e ≡ Some p
     → IsSettled h e p
-IsSettled-settled_by h e p follows some =
-    let is : settles e.kind ≡ true = settling e.kind e.transfer some in
-    let unsettled = follows.settling is in
-    record {
-      is = is;
-      x = unsettled.pending;
-      settled = unsettled.settles;
-      own = named e.kind e.transfer unsettled.pending is unsettled.settles.named unsettled.settles.shown some;
-    }
+IsSettled-settled_by h e p follows some = by_settling (settles e.kind) refl
   where
-    settling : (k : EventKind) (r : Transfer) → settled_in k h r ≡ Some p → settles k ≡ true
-    settling SinglePhase r some = cc
-    settling TwoPhasePending r some = cc
-    settling TwoPhasePosted r some = refl
-    settling TwoPhaseVoided r some = refl
-    settling TwoPhaseExpired r some = refl
-
-    named : (k : EventKind) (r : Transfer) (x : Entry) → settles k ≡ true → stored h (settled_id k r) ≡ Some x
-        → (k ≡ TwoPhaseExpired → r ≡ x.transfer)
-        → settled_in k h r ≡ Some p → x.transfer ≡ p
-    named SinglePhase r x is there shown some = cc
-    named TwoPhasePending r x is there shown some = cc
-    named TwoPhasePosted r x is there shown some = let same : Some x.transfer ≡ Some p = sym
-        (ap (option_map (λ (y : Entry). y.transfer)) there) ∙ some in cc
-    named TwoPhaseVoided r x is there shown some = let same : Some x.transfer ≡ Some p = sym
-        (ap (option_map (λ (y : Entry). y.transfer)) there) ∙ some in cc
-    named TwoPhaseExpired r x is there shown some = let same = shown refl in cc
+    by_settling : (b : Bool) → settles e.kind ≡ b → IsSettled h e p
+    by_settling true is =
+        let unsettled = follows.settling is in
+        let named : settled_by h e ≡ Some unsettled.pending.transfer =
+            settled_by_is h e unsettled.pending is unsettled.settles in
+        record { is = is; x = unsettled.pending; settled = unsettled.settles; own = cc }
+    by_settling false isnt = let none : settled_by h e ≡ None = settled_by_none h e isnt in cc
 
 -- the end of a pending transfer is a timestamp, and so it is without a timeout, when it is the moment of its entry
 end_fits : (h : History) (x : Entry) → IsSound h → IsAmong h.entries x → holds x.kind ≡ true

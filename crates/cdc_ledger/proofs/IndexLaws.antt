@@ -1,22 +1,17 @@
 -- The triples of a history after each of its changes.
-use Rattle.std.proofs.Common.{ℕ, ◌+◌, ◌<◌, ◌≤◌, Bool, true, false, Option, Some, None, List, [], ◌∷◌, ◌++◌, ◌≡◌, ◌≢◌, length, refl, ap, ap₂, sym, ◌∙◌, arith}
+use Rattle.std.proofs.Common.{ℕ, ◌+◌, ◌<◌, ◌≤◌, Bool, true, false, List, [], ◌∷◌, ◌++◌, ◌≡◌, length, refl, ap, ap₂, sym, ◌∙◌, arith}
 use Rattle.std.specs.Prelude.{◌==◌, ◌&&◌, ◌||◌, not, filter, if◌then◌else◌}
 use Rattle.std.specs.List.{AllByRecursion}
 use Rattle.std.proofs.lemmas.Bool.{and_from, and_right, eq-eqb, ne_eqb}
 use Rattle.std.proofs.lemmas.List.{append-nil}
-use Rattle.cdc_expiry.specs.declared.triple.Triple.{Triple}
 use Rattle.cdc_types.specs.declared.events.Entry.{Entry}
-use Rattle.cdc_types.specs.declared.events.EventKind.{EventKind}
-use Rattle.cdc_types.specs.declared.events.EventKind.TheVariants.{SinglePhase, TwoPhasePending, TwoPhasePosted, TwoPhaseVoided, TwoPhaseExpired}
-use Rattle.cdc_types.specs.declared.transfers.Transfer.{Transfer}
 use Rattle.cdc_ledger.specs.Balances.{resolved}
 use Rattle.cdc_ledger.specs.Changes.{pushed}
-use Rattle.cdc_ledger.specs.Filling.{stored, expires_at}
-use Rattle.cdc_ledger.specs.Follows.{Follows, SettlesOpen}
+use Rattle.cdc_ledger.specs.Follows.{Follows}
 use Rattle.cdc_ledger.specs.History.{Opened, History}
 use Rattle.cdc_ledger.specs.Kinds.{holds, stores, settles, settled_id}
-use Rattle.cdc_ledger.specs.OpenTriples.{is_open, opens, triple_at, triples_from, open_triples}
-use Rattle.cdc_ledger.specs.Sound.{IsSound, Settles, Stands}
+use Rattle.cdc_ledger.specs.OpenTriples.{is_open, opens, triple_at, open_triples}
+use Rattle.cdc_ledger.specs.Sound.{IsSound, Settles}
 use Rattle.cdc_ledger.proofs.IndexTriples.{triples_from-push, triples_from-same, filter-triples_from}
 use Rattle.cdc_ledger.proofs.BalanceLaws.{holds-settles, resolved_later, resolved_none, resolved_then, stores-holds}
 use Rattle.cdc_ledger.proofs.Pending.{All-from_around, Around-weaker, IsOther, IsOther-around, IsStored, IsStored-found}

@@ -1,38 +1,30 @@
 -- Which entry the index's answers name, and that it is the one whose pending transfer comes to its end first.
-use Rattle.std.proofs.Common.{ℕ, suc, ◌+◌, ◌<◌, ◌≤◌, Bool, true, false, Option, Some, None, List, [], ◌∷◌, ◌++◌, ◌≡◌, ◌≢◌, length, refl, ap, ap₂, sym, ◌∙◌, arith, subst, ⊎_elim}
-use Rattle.std.specs.Prelude.{◌==◌, ◌&&◌, ◌||◌, not, nat_lt, nat_le, option_map, filter, slice_get, slice_index_or, if◌then◌else◌}
-use Rattle.std.specs.FinSet as set
-use Rattle.std.specs.List.{All, AllByRecursion, Contains}
-use Rattle.std.specs.Ordering.{is_le, nat_cmp}
-use Rattle.std.proofs.lemmas.Bool.{and_parts, cases_eq, eq-eqb, ne_eqb}
+use Rattle.std.proofs.Common.{ℕ, ◌+◌, ◌<◌, Bool, true, false, Some, List, [], ◌∷◌, ◌++◌, ◌≡◌, ◌≢◌, length, refl, ap, ap₂, sym, ◌∙◌, arith, subst}
+use Rattle.std.specs.Prelude.{◌==◌, ◌&&◌, ◌||◌, not, nat_lt, nat_le, filter, slice_get, slice_index_or}
+use Rattle.std.specs.List.{AllByRecursion, Contains}
+use Rattle.std.specs.Ordering.{is_le}
+use Rattle.std.proofs.lemmas.Bool.{and_parts}
 use Rattle.std.proofs.lemmas.Bool.Decides.{nat_tests}
 use Rattle.std.proofs.lemmas.List.{length-append}
 use Rattle.std.proofs.lemmas.List.Elements.{All-contains, All-contains_itself, All-filter, recursion_from_All}
 use Rattle.std.proofs.Math.Seq.{get_or-append_seam}
 use Rattle.cdc_types.specs.declared.events.Entry.{Entry}
-use Rattle.cdc_types.specs.declared.events.EventKind.{EventKind}
-use Rattle.cdc_types.specs.declared.events.EventKind.TheVariants.{SinglePhase, TwoPhasePending, TwoPhasePosted, TwoPhaseVoided, TwoPhaseExpired}
-use Rattle.cdc_types.specs.declared.transfers.Transfer.{Transfer}
 use Rattle.cdc_expiry.specs.declared.triple.Triple.{Triple}
-use Rattle.cdc_expiry.specs.Triples.{triple_cmp, due_at, IsLeast, IsNewTimestamp, without}
-use Rattle.cdc_expiry.proofs.Lists.{set_of-push, without-set_of, due_at-set_of, due_count-set_of, IsNewTimestamp-set_of, IsLeastOf, IsLeastOf-set_of}
+use Rattle.cdc_expiry.specs.Triples.{triple_cmp, due_at, IsLeast}
+use Rattle.cdc_expiry.proofs.Lists.{due_at-set_of, IsLeastOf, IsLeastOf-set_of}
 use Rattle.cdc_ledger.specs.Balances.{resolved}
 use Rattle.cdc_ledger.specs.Changes.{pushed, expiry}
 use Rattle.cdc_ledger.specs.Due.{is_due, is_sooner, due}
-use Rattle.cdc_ledger.specs.Effects.{settled_by, settled_in}
 use Rattle.cdc_ledger.specs.Filling.{stored, expires_at}
-use Rattle.cdc_ledger.specs.Follows.{Follows, SettlesOpen}
-use Rattle.cdc_ledger.specs.History.{Opened, History}
-use Rattle.cdc_ledger.specs.Kinds.{holds, stores, settles, settled_id}
-use Rattle.cdc_ledger.specs.OpenTriples.{index_of, is_open, opens, open_triples, triple_at, triples_from}
-use Rattle.cdc_ledger.specs.Sound.{IsSound, Settles, Stands}
-use Rattle.cdc_ledger.specs.Verdict.{max_timestamp}
+use Rattle.cdc_ledger.specs.History.{History}
+use Rattle.cdc_ledger.specs.Kinds.{holds, stores}
+use Rattle.cdc_ledger.specs.OpenTriples.{index_of, is_open, open_triples, triple_at}
+use Rattle.cdc_ledger.specs.Sound.{IsSound}
 use Rattle.cdc_ledger.proofs.BalanceLaws.{stores-holds}
-use Rattle.cdc_ledger.proofs.DueLaws.{due-first, due-rest, is_due-ready, is_ready, length-due, ready_triples, ready_triples-filter}
-use Rattle.cdc_ledger.proofs.IndexLaws.{open_triples-later, open_triples-other, open_triples-pending, open_triples-settling}
-use Rattle.cdc_ledger.proofs.IndexTimes.{holds-open, others-open, TimestampsDiffer-open}
-use Rattle.cdc_ledger.proofs.IndexTriples.{All-triples_from, triples_from-All, IsOf, IsOf-contained}
-use Rattle.cdc_ledger.proofs.Pending.{All-among, All-around, All-from_around, Around, Around-both, Around-weaker, IsAmong, IsOther, IsOther-around, IsStored, IsStored-found, stored-among}
+use Rattle.cdc_ledger.proofs.DueLaws.{due-first, due-rest, is_due-ready, is_ready, ready_triples, ready_triples-filter}
+use Rattle.cdc_ledger.proofs.IndexTimes.{holds-open}
+use Rattle.cdc_ledger.proofs.IndexTriples.{All-triples_from, IsOf, IsOf-contained}
+use Rattle.cdc_ledger.proofs.Pending.{All-around, Around, Around-both, Around-weaker, IsAmong, IsOther, IsOther-around, stored-among}
 
 -- an entry of the history that holds its amount back still, at the place that the triple names
 pub record IsOpenAt (h : History) (t : Triple) : Type 0 where

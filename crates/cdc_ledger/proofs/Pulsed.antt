@@ -1,8 +1,7 @@
 -- What a pulse answers: a refusal, how many expired, or that memory ran out.
-use Rattle.std.proofs.Common.{ℕ, Bool, true, false, Option, Some, None, Result, Ok, Err, List, [], ◌∷◌, ◌≡◌, length, refl, ap, ap₂, sym, subst, ◌∙◌}
+use Rattle.std.proofs.Common.{ℕ, Bool, true, false, Some, None, Result, Ok, Err, [], ◌∷◌, ◌≡◌, length, refl, ap, ap₂, sym, subst, ◌∙◌}
 use Rattle.std.specs.Result.{IsErrAnd, IsOk}
 use Rattle.cdc_types.specs.declared.batches.Batch.TheVariants.{Pulse}
-use Rattle.cdc_types.specs.declared.batches.BatchResults.{BatchResults}
 use Rattle.cdc_types.specs.declared.batches.BatchResults.TheVariants.{Pulsed}
 use Rattle.cdc_types.specs.Lines.{first_line}
 use Rattle.cdc_expiry.specs.Triples.{Triples, due_at}

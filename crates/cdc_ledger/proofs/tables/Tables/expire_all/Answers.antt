@@ -1,4 +1,4 @@
-use Rattle.std.proofs.Common.{◌≡◌, ℕ, ◌+◌, ◌<◌, ◌≤◌, Option, Some, None, length, vec_len, refl, ap, sym, subst, ◌∙◌, arith}
+use Rattle.std.proofs.Common.{◌≡◌, ◌+◌, Some, ap, sym, subst, ◌∙◌, arith}
 use Rattle.cdc_types.specs.declared.events.Entry.{Entry}
 use Rattle.cdc_ledger.specs.Changes.{pushed, expiry}
 use Rattle.cdc_ledger.specs.Follows.{Follows}

@@ -1,4 +1,4 @@
-use Rattle.std.proofs.Common.{◌≡◌, ℕ, ◌<◌, ◌≤◌, Bool, true, false, Option, Some, None, length, vec_len, refl, ap, ap₂, sym, subst, ◌∙◌, arith}
+use Rattle.std.proofs.Common.{◌≡◌, ℕ, ◌<◌, true, false, Some, None, length, vec_len, refl, ap, ap₂, sym, subst, ◌∙◌, arith}
 use denote.Enum.Bare.{sameb}
 use Rattle.std.specs.FinSet as set
 use Rattle.std.specs.Prelude.{◌==◌, not}
@@ -8,12 +8,10 @@ use Rattle.cdc_expiry.specs.declared.triple.Triple.{Triple}
 use Rattle.cdc_types.specs.contracts.events.EventKind.{the_type}
 use Rattle.cdc_types.specs.declared.events.EventKind.{EventKind}
 use Rattle.cdc_types.specs.declared.events.EventKind.TheVariants.{SinglePhase, TwoPhasePending, TwoPhasePosted, TwoPhaseVoided, TwoPhaseExpired}
-use Rattle.cdc_types.specs.declared.transfers.Transfer.{Transfer}
-use Rattle.cdc_ledger.specs.Changes.{pushed}
 use Rattle.cdc_ledger.specs.Effects.{settled_by}
 use Rattle.cdc_ledger.specs.Filling.{expires_at}
 use Rattle.cdc_ledger.specs.Kinds.{holds}
-use Rattle.cdc_ledger.specs.OpenTriples.{index_of, opens}
+use Rattle.cdc_ledger.specs.OpenTriples.{opens}
 use Rattle.cdc_ledger.specs.Tables.{history_of}
 use Rattle.cdc_ledger.proofs.BalanceLaws.{stores-holds}
 use Rattle.cdc_ledger.proofs.IndexKept.{expires_at-settled, index_of-pending, index_of-settled, index_of-unpending, IsNewTimestamp-index_of}

@@ -1,10 +1,9 @@
-use Rattle.std.proofs.Common.{◌≡◌, ℕ, Option, Some, None, Result, Ok, Err, length, refl, ap, ap₂, sym, subst, ◌∙◌}
+use Rattle.std.proofs.Common.{◌≡◌, length, ap, sym, subst, ◌∙◌}
 use Rattle.std.specs.Result.{IfErr, IsErrAnd}
-use Rattle.cdc_ledger.specs.declared.errors.BatchError.{BatchError}
 use Rattle.cdc_ledger.specs.declared.errors.BatchError.TheVariants.{OutOfMemory}
 use Rattle.cdc_ledger.specs.Due.{due}
 use Rattle.cdc_ledger.specs.History.{History}
-use Rattle.cdc_ledger.specs.Submit.{base, expiries_from, refusal_at}
+use Rattle.cdc_ledger.specs.Submit.{base, expiries_from}
 use Rattle.cdc_ledger.specs.Tables.{history_of}
 use Rattle.cdc_ledger.proofs.Pulsed.{due_count-kept, pulse-refused, pulse-taken, pulse-unmade}
 use Rattle.cdc_ledger.proofs.tables.Tables.pulse.Goals as goal
