@@ -18,6 +18,7 @@ use Rattle.cdc_ledger.specs.Verdict.{max_timestamp}
 use Rattle.cdc_ledger.proofs.AcceptedLaws.{Follows-expiry}
 use Rattle.cdc_ledger.proofs.BalanceLaws.{resolved_then, stores-holds}
 use Rattle.cdc_ledger.proofs.Changes.{pushed}
+use Rattle.cdc_ledger.proofs.DueOrder.{All-placed, All-in_order}
 use Rattle.cdc_ledger.proofs.Elements.{AllByRecursion-weaker, AllByRecursion-both}
 use Rattle.cdc_ledger.proofs.SoundLaws.{IsSound-pushed}
 use Rattle.cdc_ledger.proofs.StoredLaws.{is_stored, apart-cons, stored_each, stored-pushed_kept}
@@ -37,29 +38,17 @@ HaveOwnIds (p ∷ ps) = AllByRecursion (λ q. p.id ≢ q.id) ps × HaveOwnIds ps
 
 -- the order of their ends leaves what holds of each, and of each two
 
-placed_all : (P : Transfer → Type 0) (p : Transfer) (qs : List Transfer) → P p → AllByRecursion P qs → AllByRecursion P (placed p qs)
-placed_all P p [] here all = (here, tt)
-placed_all P p (q ∷ qs) here all = either (is_sooner q p) (placed_all P p qs here all.1)
-  where
-    either : (b : Bool) → AllByRecursion P (placed p qs) → AllByRecursion P (if b then q ∷ placed p qs else p ∷ q ∷ qs)
-    either true more = (all.0, more)
-    either false more = (here, all)
-
-in_order_all : (P : Transfer → Type 0) (ps : List Transfer) → AllByRecursion P ps → AllByRecursion P (in_order_of_end ps)
-in_order_all P [] all = tt
-in_order_all P (p ∷ ps) all = placed_all P p (in_order_of_end ps) all.0 (in_order_all P ps all.1)
-
 placed_ids : (p : Transfer) (qs : List Transfer) → AllByRecursion (λ q. p.id ≢ q.id) qs → HaveOwnIds qs → HaveOwnIds (placed p qs)
 placed_ids p [] other own = (tt, tt)
 placed_ids p (q ∷ qs) other own = either (is_sooner q p) (placed_ids p qs other.1 own.1)
   where
     either : (b : Bool) → HaveOwnIds (placed p qs) → HaveOwnIds (if b then q ∷ placed p qs else p ∷ q ∷ qs)
-    either true more = (placed_all (λ x. q.id ≢ x.id) p qs (λ same. other.0 (sym same)) own.0, more)
+    either true more = (All-placed (λ x. q.id ≢ x.id) p qs (λ same. other.0 (sym same)) own.0, more)
     either false more = (other, own)
 
 in_order_ids : (ps : List Transfer) → HaveOwnIds ps → HaveOwnIds (in_order_of_end ps)
 in_order_ids [] own = tt
-in_order_ids (p ∷ ps) own = placed_ids p (in_order_of_end ps) (in_order_all (λ q. p.id ≢ q.id) ps own.0) (in_order_ids ps own.1)
+in_order_ids (p ∷ ps) own = placed_ids p (in_order_of_end ps) (All-in_order (λ q. p.id ≢ q.id) ps own.0) (in_order_ids ps own.1)
 
 -- the transfers of the entries that pass a test
 module _ (test : Entry → Bool) where
@@ -99,7 +88,7 @@ due_parts h now e is =
 
 -- the transfers that are due are open, each with its own id
 pub due_open : (h : History) (now : ℕ) → IsSound h → AllByRecursion (IsOpen h) (due h now)
-due_open h now sound = in_order_all (IsOpen h) (map (λ e. e.transfer) (filter (is_due h now) h.entries))
+due_open h now sound = All-in_order (IsOpen h) (map (λ e. e.transfer) (filter (is_due h now) h.entries))
     (passing_all (is_due h now) (IsOpen h) h.entries
     (AllByRecursion-weaker (λ e. stores e.kind ≡ true → stored h e.transfer.id ≡ Some e) (λ e. is_due h now e ≡ true → IsOpen h e.transfer)
     (λ e found is. let parts : DueParts h e = due_parts h now e is in
