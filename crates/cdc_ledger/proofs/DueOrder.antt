@@ -1,4 +1,4 @@
--- Transfers in the order of their ends: the soonest of all stands first, and the others follow as they would without it.
+-- Transfers in the order of their ends: the soonest of all stands first, and the others follow as they would alone.
 use Rattle.std.proofs.Common.{ℕ, suc, Bool, true, false, List, [], ◌∷◌, ◌++◌, ◌≡◌, length, refl, ap, ◌∙◌, arith}
 use Rattle.std.specs.Prelude.{◌==◌, ◌&&◌, ◌||◌, nat_lt, if◌then◌else◌}
 use Rattle.std.specs.List.{AllByRecursion}
