@@ -1,6 +1,6 @@
 -- The transfers that are due: how many there are, which is the first, and that the others are due once it expired.
-use Rattle.std.proofs.Common.{ℕ, ◌+◌, ◌<◌, ◌≤◌, Bool, true, false, List, [], ◌∷◌, ◌++◌, ◌≡◌, ◌≢◌, length, map, refl, ap, ap₂, sym, ◌∙◌, arith}
-use Rattle.std.specs.Prelude.{◌==◌, ◌&&◌, ◌||◌, not, nat_lt, nat_le, filter, if◌then◌else◌}
+use Rattle.std.proofs.Common.{ℕ, ◌<◌, Bool, true, false, List, [], ◌∷◌, ◌++◌, ◌≡◌, length, map, refl, ap, ap₂, sym, ◌∙◌}
+use Rattle.std.specs.Prelude.{◌==◌, ◌&&◌, ◌||◌, not, nat_le, filter, if◌then◌else◌}
 use Rattle.std.specs.List.{AllByRecursion}
 use Rattle.std.proofs.lemmas.Bool.{eq-eqb, ne_eqb}
 use Rattle.std.proofs.lemmas.List.{append-nil, length-map, map-append}
@@ -29,7 +29,8 @@ filter_same p q (e ∷ es) agree = ap₂ (λ b more. if b then e ∷ more else m
 abbrev pub is_ready : History → ℕ → Entry → Bool
 is_ready h now e = is_open h e && nat_le (expires_at e.transfer) now
 
-ends_last : (held timed ended done : Bool) → (held && timed && ended && not done) ≡ ((held && timed && not done) && ended)
+ends_last : (held timed ended done : Bool)
+    → (held && timed && ended && not done) ≡ ((held && timed && not done) && ended)
 ends_last true true true true = refl
 ends_last true true true false = refl
 ends_last true true false true = refl
@@ -39,7 +40,8 @@ ends_last false timed ended done = refl
 
 pub is_due-ready : (h : History) (now : ℕ) (e : Entry) → is_due h now e ≡ is_ready h now e
 is_due-ready h now e =
-    ends_last (holds e.kind) (not (e.transfer.timeout == 0)) (nat_le (expires_at e.transfer) now) (resolved h e.transfer h.last)
+    ends_last (holds e.kind) (not (e.transfer.timeout == 0)) (nat_le (expires_at e.transfer) now)
+    (resolved h e.transfer h.last)
 
 filter-ready : (h : History) (now : ℕ) (es : List Entry) → filter (is_due h now) es ≡ filter (is_ready h now) es
 filter-ready h now es = filter_agree (is_due h now) (is_ready h now) (is_due-ready h now) es
@@ -48,12 +50,15 @@ filter-ready h now es = filter_agree (is_due h now) (is_ready h now) (is_due-rea
 abbrev pub ready_triples : History → ℕ → List Triple
 ready_triples h now = triples_from (is_ready h now) 0 h.entries
 
-pub ready_triples-filter : (h : History) (now : ℕ) → filter (λ t. nat_le t.expires_at now) (open_triples h) ≡ ready_triples h now
+pub ready_triples-filter : (h : History) (now : ℕ)
+    → filter (λ t. nat_le t.expires_at now) (open_triples h) ≡ ready_triples h now
 ready_triples-filter h now =
-    filter-triples_from (λ t. nat_le t.expires_at now) (is_open h) (λ e. nat_le (expires_at e.transfer) now) (λ n e. refl) 0 h.entries
+    filter-triples_from (λ t. nat_le t.expires_at now) (is_open h) (λ e. nat_le (expires_at e.transfer) now)
+    (λ n e. refl) 0 h.entries
 
 -- as many transfers are due as there are triples whose end has come
-pub length-due : (h : History) (now : ℕ) → length (due h now) ≡ length (filter (λ t. nat_le t.expires_at now) (open_triples h))
+pub length-due : (h : History) (now : ℕ)
+    → length (due h now) ≡ length (filter (λ t. nat_le t.expires_at now) (open_triples h))
 length-due h now =
     length-in_order (map (λ e. e.transfer) (filter (is_due h now) h.entries))
     ∙ (length-map (filter (is_due h now) h.entries) (λ e. e.transfer)
@@ -65,9 +70,11 @@ length-due h now =
 abbrev passing : (Entry → Bool) → List Entry → List Transfer
 passing test es = map (λ e. e.transfer) (filter test es)
 
-passing-append : (test : Entry → Bool) (xs ys : List Entry) → passing test (xs ++ ys) ≡ passing test xs ++ passing test ys
+passing-append : (test : Entry → Bool) (xs ys : List Entry)
+    → passing test (xs ++ ys) ≡ passing test xs ++ passing test ys
 passing-append test xs ys =
-    ap (map (λ e. e.transfer)) (filter-append test xs ys) ∙ map-append (λ e. e.transfer) (filter test xs) (filter test ys)
+    ap (map (λ e. e.transfer)) (filter-append test xs ys)
+    ∙ map-append (λ e. e.transfer) (filter test xs) (filter test ys)
 
 passing-same : (p q : Entry → Bool) (es : List Entry) → AllByRecursion (λ e. p e ≡ q e) es → passing p es ≡ passing q es
 passing-same p q es agree = ap (map (λ e. e.transfer)) (filter_same p q es agree)
@@ -88,12 +95,14 @@ module _ (h : History) (now : ℕ) (e : Entry) (among : IsAmong h.entries e) whe
   abbrev pub others : List Transfer
   others = in_order_of_end (passing (is_due h now) among.front ++ passing (is_due h now) among.back)
 
-  pub due-first : is_due h now e ≡ true → Around (λ y. is_due h now y ≡ true → is_sooner e.transfer y.transfer ≡ true) among.front among.back
+  pub due-first : is_due h now e ≡ true
+      → Around (λ y. is_due h now y ≡ true → is_sooner e.transfer y.transfer ≡ true) among.front among.back
       → due h now ≡ e.transfer ∷ others
   due-first ends sooner =
       ap (λ es. in_order_of_end (passing (is_due h now) es)) among.split
       ∙ (ap in_order_of_end (passing-append (is_due h now) among.front (e ∷ among.back)
-      ∙ ap (λ b. passing (is_due h now) among.front ++ map (λ y. y.transfer) (if b then e ∷ filter (is_due h now) among.back else filter (is_due h now) among.back)) ends)
+      ∙ ap (λ b. passing (is_due h now) among.front ++ map (λ y. y.transfer)
+      (if b then e ∷ filter (is_due h now) among.back else filter (is_due h now) among.back)) ends)
       ∙ in_order-soonest e.transfer (passing (is_due h now) among.front) (passing (is_due h now) among.back)
       (soonest_passing e.transfer (is_due h now) among.front sooner.before)
       (soonest_passing e.transfer (is_due h now) among.back sooner.after))
@@ -106,7 +115,8 @@ module _ (h : History) (now : ℕ) (e : Entry) (among : IsAmong h.entries e) whe
     abbrev due_by : Bool → Entry → Bool
     due_by done y = holds y.kind && not (y.transfer.timeout == 0) && nat_le (expires_at y.transfer) now && not done
 
-    is_due-then : (y : Entry) → is_due later now y ≡ due_by (resolved h y.transfer h.last || (e.transfer.id == y.transfer.id)) y
+    is_due-then : (y : Entry)
+        → is_due later now y ≡ due_by (resolved h y.transfer h.last || (e.transfer.id == y.transfer.id)) y
     is_due-then y = ap (λ b. due_by b y) (resolved_then h (expiry e.transfer t) y.transfer sound.past after)
 
     unchanged : (held timed ended done now : Bool) → (held ≡ true → now ≡ false)
@@ -118,7 +128,8 @@ module _ (h : History) (now : ℕ) (e : Entry) (among : IsAmong h.entries e) whe
     still : (y : Entry) → (stores y.kind ≡ true → IsOther e y) → is_due later now y ≡ is_due h now y
     still y other =
         is_due-then y
-        ∙ unchanged (holds y.kind) (not (y.transfer.timeout == 0)) (nat_le (expires_at y.transfer) now) (resolved h y.transfer h.last) (e.transfer.id == y.transfer.id)
+        ∙ unchanged (holds y.kind) (not (y.transfer.timeout == 0)) (nat_le (expires_at y.transfer) now)
+        (resolved h y.transfer h.last) (e.transfer.id == y.transfer.id)
         (λ is. ne_eqb e.transfer.id y.transfer.id (λ same. (other (stores-holds y.kind is)).id (sym same)))
 
     all_still : Around (λ y. is_due later now y ≡ is_due h now y) among.front among.back
@@ -135,7 +146,8 @@ module _ (h : History) (now : ℕ) (e : Entry) (among : IsAmong h.entries e) whe
     itself_over : is_due later now e ≡ false
     itself_over =
         is_due-then e
-        ∙ over (holds e.kind) (not (e.transfer.timeout == 0)) (nat_le (expires_at e.transfer) now) (resolved h e.transfer h.last) (e.transfer.id == e.transfer.id)
+        ∙ over (holds e.kind) (not (e.transfer.timeout == 0)) (nat_le (expires_at e.transfer) now)
+        (resolved h e.transfer h.last) (e.transfer.id == e.transfer.id)
         (eq-eqb e.transfer.id e.transfer.id refl)
 
     pub due-rest : due (pushed h (expiry e.transfer t)) now ≡ others
@@ -145,6 +157,7 @@ module _ (h : History) (now : ℕ) (e : Entry) (among : IsAmong h.entries e) whe
         ∙ (append-nil (passing (is_due later now) h.entries)
         ∙ (ap (passing (is_due later now)) among.split
         ∙ (passing-append (is_due later now) among.front (e ∷ among.back)
-        ∙ (ap (λ b. passing (is_due later now) among.front ++ map (λ y. y.transfer) (if b then e ∷ filter (is_due later now) among.back else filter (is_due later now) among.back)) itself_over
+        ∙ (ap (λ b. passing (is_due later now) among.front ++ map (λ y. y.transfer)
+        (if b then e ∷ filter (is_due later now) among.back else filter (is_due later now) among.back)) itself_over
         ∙ ap₂ (λ xs ys. xs ++ ys) (passing-same (is_due later now) (is_due h now) among.front all_still.before)
         (passing-same (is_due later now) (is_due h now) among.back all_still.after))))))

@@ -1,22 +1,17 @@
 -- The triples of a history after each of its changes.
-use Rattle.std.proofs.Common.{ℕ, ◌+◌, ◌<◌, ◌≤◌, Bool, true, false, Option, Some, None, List, [], ◌∷◌, ◌++◌, ◌≡◌, ◌≢◌, length, refl, ap, ap₂, sym, ◌∙◌, arith}
+use Rattle.std.proofs.Common.{ℕ, ◌+◌, ◌<◌, ◌≤◌, Bool, true, false, List, [], ◌∷◌, ◌++◌, ◌≡◌, length, refl, ap, ap₂, sym, ◌∙◌, arith}
 use Rattle.std.specs.Prelude.{◌==◌, ◌&&◌, ◌||◌, not, filter, if◌then◌else◌}
 use Rattle.std.specs.List.{AllByRecursion}
 use Rattle.std.proofs.lemmas.Bool.{and_from, and_right, eq-eqb, ne_eqb}
 use Rattle.std.proofs.lemmas.List.{append-nil}
-use Rattle.cdc_expiry.specs.declared.triple.Triple.{Triple}
 use Rattle.cdc_types.specs.declared.events.Entry.{Entry}
-use Rattle.cdc_types.specs.declared.events.EventKind.{EventKind}
-use Rattle.cdc_types.specs.declared.events.EventKind.TheVariants.{SinglePhase, TwoPhasePending, TwoPhasePosted, TwoPhaseVoided, TwoPhaseExpired}
-use Rattle.cdc_types.specs.declared.transfers.Transfer.{Transfer}
 use Rattle.cdc_ledger.specs.Balances.{resolved}
 use Rattle.cdc_ledger.specs.Changes.{pushed}
-use Rattle.cdc_ledger.specs.Filling.{stored, expires_at}
-use Rattle.cdc_ledger.specs.Follows.{Follows, SettlesOpen}
+use Rattle.cdc_ledger.specs.Follows.{Follows}
 use Rattle.cdc_ledger.specs.History.{Opened, History}
 use Rattle.cdc_ledger.specs.Kinds.{holds, stores, settles, settled_id}
-use Rattle.cdc_ledger.specs.OpenTriples.{is_open, opens, triple_at, triples_from, open_triples}
-use Rattle.cdc_ledger.specs.Sound.{IsSound, Settles, Stands}
+use Rattle.cdc_ledger.specs.OpenTriples.{is_open, opens, triple_at, open_triples}
+use Rattle.cdc_ledger.specs.Sound.{IsSound, Settles}
 use Rattle.cdc_ledger.proofs.IndexTriples.{triples_from-push, triples_from-same, filter-triples_from}
 use Rattle.cdc_ledger.proofs.BalanceLaws.{holds-settles, resolved_later, resolved_none, resolved_then, stores-holds}
 use Rattle.cdc_ledger.proofs.Pending.{All-from_around, Around-weaker, IsOther, IsOther-around, IsStored, IsStored-found}
@@ -29,11 +24,13 @@ open_by done e = holds e.kind && not (e.transfer.timeout == 0) && not done
 pub open_triples-later : (h : History) (accounts : List Opened) (t : ℕ) (closed : Bool) → IsSound h → h.last ≤ t
     → open_triples (record { accounts = accounts; entries = h.entries; last = t; closed = closed }) ≡ open_triples h
 open_triples-later h accounts t closed sound later =
-    triples_from-same (is_open (record { accounts = accounts; entries = h.entries; last = t; closed = closed })) (is_open h) 0 h.entries
+    triples_from-same (is_open (record { accounts = accounts; entries = h.entries; last = t; closed = closed }))
+        (is_open h) 0 h.entries
     (every h.entries)
   where
     every : (es : List Entry)
-        → AllByRecursion (λ e. is_open (record { accounts = accounts; entries = h.entries; last = t; closed = closed }) e ≡ is_open h e) es
+        → AllByRecursion (λ e. is_open (record { accounts = accounts; entries = h.entries; last = t; closed =
+            closed }) e ≡ is_open h e) es
     every [] = tt
     every (e ∷ es) = (ap (λ b. open_by b e) (resolved_later h e.transfer h.last t sound.past later), every es)
 
@@ -55,7 +52,8 @@ new_open true true done fresh = ap not (fresh refl)
 new_open true false done fresh = refl
 new_open false timed done fresh = refl
 
-module _ (h : History) (e : Entry) (sound : IsSound h) (follows : Follows h e) (after : h.last < e.timestamp) (unsettling : settles e.kind ≡ false) where
+module _ (h : History) (e : Entry) (sound : IsSound h) (follows : Follows h e) (after : h.last < e.timestamp)
+    (unsettling : settles e.kind ≡ false) where
   ends_none : (y : Entry) → ends e y ≡ false
   ends_none y = ap (λ b. b && (settled_id e.kind e.transfer == y.transfer.id)) unsettling
 
@@ -74,19 +72,23 @@ module _ (h : History) (e : Entry) (sound : IsSound h) (follows : Follows h e) (
       ∙ resolved_none h e.transfer h.last sound.standing (follows.fresh (stores-holds e.kind held)))
 
   -- a pending transfer with a timeout has its triple last, and nothing else that settles none has one
-  pub open_triples-unsettling : open_triples (pushed h e) ≡ open_triples h ++ (if opens e then triple_at (length h.entries) e ∷ [] else [])
+  pub open_triples-unsettling : open_triples (pushed h e)
+      ≡ open_triples h ++ (if opens e then triple_at (length h.entries) e ∷ [] else [])
   open_triples-unsettling =
       triples_from-push (is_open (pushed h e)) 0 h.entries e
       ∙ ap₂ (λ old b. old ++ (if b then triple_at (0 + length h.entries) e ∷ [] else []))
       (triples_from-same (is_open (pushed h e)) (is_open h) 0 h.entries (old_alike h.entries)) own
       ∙ ap (λ n. open_triples h ++ (if opens e then triple_at n e ∷ [] else [])) (omega arith)
 
-  pub open_triples-pending : opens e ≡ true → open_triples (pushed h e) ≡ open_triples h ++ triple_at (length h.entries) e ∷ []
-  open_triples-pending is = open_triples-unsettling ∙ ap (λ b. open_triples h ++ (if b then triple_at (length h.entries) e ∷ [] else [])) is
+  pub open_triples-pending : opens e ≡ true
+      → open_triples (pushed h e) ≡ open_triples h ++ triple_at (length h.entries) e ∷ []
+  open_triples-pending is = open_triples-unsettling
+      ∙ ap (λ b. open_triples h ++ (if b then triple_at (length h.entries) e ∷ [] else [])) is
 
   pub open_triples-other : opens e ≡ false → open_triples (pushed h e) ≡ open_triples h
   open_triples-other isnt =
-      open_triples-unsettling ∙ (ap (λ b. open_triples h ++ (if b then triple_at (length h.entries) e ∷ [] else [])) isnt ∙ append-nil (open_triples h))
+      open_triples-unsettling ∙ (ap (λ b. open_triples h ++ (if b then triple_at (length h.entries) e ∷ [] else []))
+      isnt ∙ append-nil (open_triples h))
 
 -- resolved now and not before: the one that this entry names
 taken_out : (held timed done now same : Bool) → (held ≡ true → now ≡ same)
@@ -96,7 +98,8 @@ taken_out true true false now same alike = ap not (alike refl)
 taken_out true false done now same alike = refl
 taken_out false timed done now same alike = refl
 
-module _ (h : History) (e x : Entry) (sound : IsSound h) (after : h.last < e.timestamp) (is : settles e.kind ≡ true) (settled : Settles h e x) where
+module _ (h : History) (e x : Entry) (sound : IsSound h) (after : h.last < e.timestamp) (is : settles e.kind ≡ true)
+    (settled : Settles h e x) where
   -- the pending transfer that is settled
   it : IsStored h (settled_id e.kind e.transfer) x
   it = IsStored-found h (settled_id e.kind e.transfer) x settled.named
@@ -124,22 +127,28 @@ module _ (h : History) (e x : Entry) (sound : IsSound h) (after : h.last < e.tim
       (IsOther-around h x it.among sound it.stores))
 
   remains : (es : List Entry) → AllByRecursion IsNamed es
-      → AllByRecursion (λ y. is_open (pushed h e) y ≡ (is_open h y && not (y.transfer.timestamp == x.transfer.timestamp))) es
+      → AllByRecursion (λ y. is_open (pushed h e) y ≡
+      (is_open h y && not (y.transfer.timestamp == x.transfer.timestamp))) es
   remains [] all = tt
   remains (y ∷ es) all = (
     is_open-then h e y sound after
-        ∙ taken_out (holds y.kind) (not (y.transfer.timeout == 0)) (resolved h y.transfer h.last) (ends e y) (y.transfer.timestamp == x.transfer.timestamp) all.0,
+        ∙ taken_out (holds y.kind) (not (y.transfer.timeout == 0)) (resolved h y.transfer h.last) (ends e y)
+        (y.transfer.timestamp == x.transfer.timestamp) all.0,
     remains es all.1,
   )
 
   not_own : is_open (pushed h e) e ≡ false
-  not_own = ap (λ b. b && not (e.transfer.timeout == 0) && not (resolved (pushed h e) e.transfer e.timestamp)) (holds-settles e.kind is)
+  not_own = ap (λ b. b && not (e.transfer.timeout == 0) && not (resolved (pushed h e) e.transfer e.timestamp))
+      (holds-settles e.kind is)
 
   -- the one that is settled is taken out
-  pub open_triples-settling : open_triples (pushed h e) ≡ filter (λ t. not (t.timestamp == x.transfer.timestamp)) (open_triples h)
+  pub open_triples-settling : open_triples (pushed h e)
+      ≡ filter (λ t. not (t.timestamp == x.transfer.timestamp)) (open_triples h)
   open_triples-settling =
       triples_from-push (is_open (pushed h e)) 0 h.entries e
       ∙ (ap₂ (λ old b. old ++ (if b then triple_at (0 + length h.entries) e ∷ [] else []))
-      (triples_from-same (is_open (pushed h e)) (λ y. is_open h y && not (y.transfer.timestamp == x.transfer.timestamp)) 0 h.entries (remains h.entries named)
-      ∙ sym (filter-triples_from (λ t. not (t.timestamp == x.transfer.timestamp)) (is_open h) (λ y. not (y.transfer.timestamp == x.transfer.timestamp)) (λ n y. refl) 0 h.entries)) not_own
+      (triples_from-same (is_open (pushed h e)) (λ y. is_open h y && not
+      (y.transfer.timestamp == x.transfer.timestamp)) 0 h.entries (remains h.entries named)
+      ∙ sym (filter-triples_from (λ t. not (t.timestamp == x.transfer.timestamp)) (is_open h)
+      (λ y. not (y.transfer.timestamp == x.transfer.timestamp)) (λ n y. refl) 0 h.entries)) not_own
       ∙ append-nil (filter (λ t. not (t.timestamp == x.transfer.timestamp)) (open_triples h)))

@@ -1,38 +1,30 @@
 -- Which entry the index's answers name, and that it is the one whose pending transfer comes to its end first.
-use Rattle.std.proofs.Common.{ℕ, suc, ◌+◌, ◌<◌, ◌≤◌, Bool, true, false, Option, Some, None, List, [], ◌∷◌, ◌++◌, ◌≡◌, ◌≢◌, length, refl, ap, ap₂, sym, ◌∙◌, arith, subst, ⊎_elim}
-use Rattle.std.specs.Prelude.{◌==◌, ◌&&◌, ◌||◌, not, nat_lt, nat_le, option_map, filter, slice_get, slice_index_or, if◌then◌else◌}
-use Rattle.std.specs.FinSet as set
-use Rattle.std.specs.List.{All, AllByRecursion, Contains}
-use Rattle.std.specs.Ordering.{is_le, nat_cmp}
-use Rattle.std.proofs.lemmas.Bool.{and_parts, cases_eq, eq-eqb, ne_eqb}
+use Rattle.std.proofs.Common.{ℕ, ◌+◌, ◌<◌, Bool, true, false, Some, List, [], ◌∷◌, ◌++◌, ◌≡◌, ◌≢◌, length, refl, ap, ap₂, sym, ◌∙◌, arith, subst}
+use Rattle.std.specs.Prelude.{◌==◌, ◌&&◌, ◌||◌, not, nat_lt, nat_le, filter, slice_get, slice_index_or}
+use Rattle.std.specs.List.{AllByRecursion, Contains}
+use Rattle.std.specs.Ordering.{is_le}
+use Rattle.std.proofs.lemmas.Bool.{and_parts}
 use Rattle.std.proofs.lemmas.Bool.Decides.{nat_tests}
 use Rattle.std.proofs.lemmas.List.{length-append}
 use Rattle.std.proofs.lemmas.List.Elements.{All-contains, All-contains_itself, All-filter, recursion_from_All}
 use Rattle.std.proofs.Math.Seq.{get_or-append_seam}
 use Rattle.cdc_types.specs.declared.events.Entry.{Entry}
-use Rattle.cdc_types.specs.declared.events.EventKind.{EventKind}
-use Rattle.cdc_types.specs.declared.events.EventKind.TheVariants.{SinglePhase, TwoPhasePending, TwoPhasePosted, TwoPhaseVoided, TwoPhaseExpired}
-use Rattle.cdc_types.specs.declared.transfers.Transfer.{Transfer}
 use Rattle.cdc_expiry.specs.declared.triple.Triple.{Triple}
-use Rattle.cdc_expiry.specs.Triples.{triple_cmp, due_at, IsLeast, IsNewTimestamp, without}
-use Rattle.cdc_expiry.proofs.Lists.{set_of-push, without-set_of, due_at-set_of, due_count-set_of, IsNewTimestamp-set_of, IsLeastOf, IsLeastOf-set_of}
+use Rattle.cdc_expiry.specs.Triples.{triple_cmp, due_at, IsLeast}
+use Rattle.cdc_expiry.proofs.Lists.{due_at-set_of, IsLeastOf, IsLeastOf-set_of}
 use Rattle.cdc_ledger.specs.Balances.{resolved}
 use Rattle.cdc_ledger.specs.Changes.{pushed, expiry}
 use Rattle.cdc_ledger.specs.Due.{is_due, is_sooner, due}
-use Rattle.cdc_ledger.specs.Effects.{settled_by, settled_in}
 use Rattle.cdc_ledger.specs.Filling.{stored, expires_at}
-use Rattle.cdc_ledger.specs.Follows.{Follows, SettlesOpen}
-use Rattle.cdc_ledger.specs.History.{Opened, History}
-use Rattle.cdc_ledger.specs.Kinds.{holds, stores, settles, settled_id}
-use Rattle.cdc_ledger.specs.OpenTriples.{index_of, is_open, opens, open_triples, triple_at, triples_from}
-use Rattle.cdc_ledger.specs.Sound.{IsSound, Settles, Stands}
-use Rattle.cdc_ledger.specs.Verdict.{max_timestamp}
+use Rattle.cdc_ledger.specs.History.{History}
+use Rattle.cdc_ledger.specs.Kinds.{holds, stores}
+use Rattle.cdc_ledger.specs.OpenTriples.{index_of, is_open, open_triples, triple_at}
+use Rattle.cdc_ledger.specs.Sound.{IsSound}
 use Rattle.cdc_ledger.proofs.BalanceLaws.{stores-holds}
-use Rattle.cdc_ledger.proofs.DueLaws.{due-first, due-rest, is_due-ready, is_ready, length-due, ready_triples, ready_triples-filter}
-use Rattle.cdc_ledger.proofs.IndexLaws.{open_triples-later, open_triples-other, open_triples-pending, open_triples-settling}
-use Rattle.cdc_ledger.proofs.IndexTimes.{holds-open, others-open, TimestampsDiffer-open}
-use Rattle.cdc_ledger.proofs.IndexTriples.{All-triples_from, triples_from-All, IsOf, IsOf-contained}
-use Rattle.cdc_ledger.proofs.Pending.{All-among, All-around, All-from_around, Around, Around-both, Around-weaker, IsAmong, IsOther, IsOther-around, IsStored, IsStored-found, stored-among}
+use Rattle.cdc_ledger.proofs.DueLaws.{due-first, due-rest, is_due-ready, is_ready, ready_triples, ready_triples-filter}
+use Rattle.cdc_ledger.proofs.IndexTimes.{holds-open}
+use Rattle.cdc_ledger.proofs.IndexTriples.{All-triples_from, IsOf, IsOf-contained}
+use Rattle.cdc_ledger.proofs.Pending.{All-around, Around, Around-both, Around-weaker, IsAmong, IsOther, IsOther-around, stored-among}
 
 -- an entry of the history that holds its amount back still, at the place that the triple names
 pub record IsOpenAt (h : History) (t : Triple) : Type 0 where
@@ -86,7 +78,9 @@ pub record IsNext (h : History) (now : ℕ) (t : Triple) : Type 0 where
   pub first : (moment : ℕ) → h.last < moment
       → due h now ≡ found.entry.transfer ∷ due (pushed h (expiry found.entry.transfer moment)) now
 
-sooner_numbers : (a b s t m n : ℕ) → is_le (triple_cmp (record { expires_at = a; timestamp = s; slot = m }) (record { expires_at = b; timestamp = t; slot = n })) ≡ true
+sooner_numbers : (a b s t m n : ℕ)
+    → is_le (triple_cmp (record { expires_at = a; timestamp = s; slot = m })
+        (record { expires_at = b; timestamp = t; slot = n })) ≡ true
     → t ≢ s → (nat_lt a b || ((a == b) && nat_lt s t)) ≡ true
 sooner_numbers a b s t m n le apart = grind (arith, nat_tests)
 
@@ -105,7 +99,8 @@ module _ (h : History) (now : ℕ) (t : Triple) (sound : IsSound h) (of : IsOf (
   sooner : AllByRecursion (λ y. is_ready h now y ≡ true → IsSooner y) h.entries
   sooner =
       All-triples_from (λ u. is_le (triple_cmp t u) ≡ true) IsSooner
-      (λ n y le. sooner_numbers (expires_at of.entry.transfer) (expires_at y.transfer) of.entry.transfer.timestamp y.transfer.timestamp (0 + length of.front) n
+      (λ n y le. sooner_numbers (expires_at of.entry.transfer) (expires_at y.transfer) of.entry.transfer.timestamp
+      y.transfer.timestamp (0 + length of.front) n
       (subst (λ u. is_le (triple_cmp u (triple_at n y)) ≡ true) of.made le)) (is_ready h now) 0 h.entries least
 
   stores_it : stores of.entry.kind ≡ true
@@ -119,34 +114,40 @@ module _ (h : History) (now : ℕ) (t : Triple) (sound : IsSound h) (of : IsOf (
       let ready : is_ready h now y ≡ true = sym (is_due-ready h now y) ∙ ends in
       let has = (and_parts (is_open h y) (nat_le (expires_at y.transfer) now) ready).0 in
       known.0 ready (known.1 (stores-holds y.kind (holds-open h y has))).time) of.front of.back
-      (Around-both (λ y. is_ready h now y ≡ true → IsSooner y) (λ y. stores y.kind ≡ true → IsOther of.entry y) of.front of.back
-      (All-around (λ y. is_ready h now y ≡ true → IsSooner y) h.entries of.entry among sooner) (IsOther-around h of.entry among sound stores_it))
+      (Around-both (λ y. is_ready h now y ≡ true → IsSooner y) (λ y. stores y.kind ≡ true → IsOther of.entry y)
+      of.front of.back
+      (All-around (λ y. is_ready h now y ≡ true → IsSooner y) h.entries of.entry among sooner)
+      (IsOther-around h of.entry among sound stores_it))
 
   -- with the others after it
   abbrev found : IsOpenAt h t
-  found = IsOpenAt-of h t sound (record { front = of.front; entry = of.entry; back = of.back; split = of.split; passes = is; made = of.made })
+  found = IsOpenAt-of h t sound (record { front = of.front; entry = of.entry; back = of.back; split = of.split;
+      passes = is; made = of.made })
 
-  due-found : (moment : ℕ) → h.last < moment → due h now ≡ found.entry.transfer ∷ due (pushed h (expiry found.entry.transfer moment)) now
+  due-found : (moment : ℕ) → h.last < moment
+      → due h now ≡ found.entry.transfer ∷ due (pushed h (expiry found.entry.transfer moment)) now
   unfolding IsOpenAt-of
   due-found moment later =
       due-first h now of.entry among (is_due-ready h now of.entry ∙ of.passes) others_later
-      ∙ ap (λ more. of.entry.transfer ∷ more) (sym (due-rest h now of.entry among sound (holds-open h of.entry is) moment later))
+      ∙ ap (λ more. of.entry.transfer ∷ more) (sym (due-rest h now of.entry among sound (holds-open h of.entry is)
+      moment later))
 
 contains_filtered : (keep : Triple → Bool) (xs : List Triple) (x : Triple) → Contains (filter keep xs) x → Contains xs x
 contains_filtered keep xs x there =
     All-contains (Contains xs) (filter keep xs) x (All-filter keep (Contains xs) xs (All-contains_itself xs)) there
 
 -- the index's answer is the one that expires next
-pub IsNext-least : (h : History) (now : ℕ) (t : Triple) → IsSound h → IsLeast (due_at (index_of h) now) (Some t) → IsNext h now t
+pub IsNext-least : (h : History) (now : ℕ) (t : Triple) → IsSound h → IsLeast (due_at (index_of h) now) (Some t)
+    → IsNext h now t
 IsNext-least h now t sound least =
     let of_filter : IsLeastOf (filter (λ u. nat_le u.expires_at now) (open_triples h)) (Some t) =
-        IsLeastOf-set_of (filter (λ u. nat_le u.expires_at now) (open_triples h)) (Some t)
-        (subst (λ s. IsLeast s (Some t)) (due_at-set_of (open_triples h) now) least) in
+    IsLeastOf-set_of (filter (λ u. nat_le u.expires_at now) (open_triples h)) (Some t)
+    (subst (λ s. IsLeast s (Some t)) (due_at-set_of (open_triples h) now) least) in
     let of_list : IsLeastOf (ready_triples h now) (Some t) =
-        subst (λ xs. IsLeastOf xs (Some t)) (ready_triples-filter h now) of_filter in
+    subst (λ xs. IsLeastOf xs (Some t)) (ready_triples-filter h now) of_filter in
     let of : IsOf (is_ready h now) 0 h.entries t = IsOf-contained (is_ready h now) 0 h.entries t of_list.0 in
     let first : AllByRecursion (λ u. is_le (triple_cmp t u) ≡ true) (ready_triples h now) =
-        recursion_from_All (λ u. is_le (triple_cmp t u) ≡ true) (ready_triples h now) of_list.1 in
+    recursion_from_All (λ u. is_le (triple_cmp t u) ≡ true) (ready_triples h now) of_list.1 in
     record {
       found = found h now t sound of first;
       contained = contains_filtered (λ u. nat_le u.expires_at now) (open_triples h) t of_filter.0;

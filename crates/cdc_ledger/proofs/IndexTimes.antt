@@ -1,8 +1,7 @@
 -- The timestamps of triples: no two are the same, and none is past the last moment.
-use Rattle.std.proofs.Common.{ℕ, ◌+◌, ◌<◌, ◌≤◌, Bool, true, false, List, [], ◌∷◌, ◌≡◌, ◌≢◌, refl, sym, ap, ◌∙◌, arith, subst}
-use Rattle.std.specs.Prelude.{◌==◌, ◌&&◌, ◌||◌, not, nat_lt, if◌then◌else◌}
+use Rattle.std.proofs.Common.{ℕ, ◌+◌, ◌<◌, ◌≤◌, Bool, true, false, List, [], ◌∷◌, ◌≡◌, ◌≢◌, refl, arith}
+use Rattle.std.specs.Prelude.{◌==◌, ◌&&◌, not, if◌then◌else◌}
 use Rattle.std.specs.List.{All, AllByRecursion}
-use Rattle.std.proofs.lemmas.Bool.{and_parts}
 use Rattle.std.proofs.lemmas.List.Elements.{All-from_recursion}
 use Rattle.cdc_types.specs.declared.events.Entry.{Entry}
 use Rattle.cdc_expiry.specs.declared.triple.Triple.{Triple}
@@ -10,7 +9,7 @@ use Rattle.cdc_expiry.specs.Triples.{TimestampsDiffer}
 use Rattle.cdc_ledger.specs.History.{History}
 use Rattle.cdc_ledger.specs.OpenTriples.{is_open, triple_at, triples_from, open_triples}
 use Rattle.cdc_ledger.specs.Sound.{IsSound, RiseFrom, Stands}
-use Rattle.cdc_ledger.specs.Kinds.{holds, stores}
+use Rattle.cdc_ledger.specs.Kinds.{holds}
 use Rattle.cdc_ledger.specs.Balances.{resolved}
 use Rattle.cdc_ledger.proofs.Elements.{AllByRecursion-both, AllByRecursion-weaker}
 use Rattle.cdc_ledger.proofs.IndexTriples.{triples_from-All}
@@ -35,15 +34,18 @@ record RiseApart (t : ℕ) (xs : List Triple) : Type 0 where
   later : AllByRecursion (λ x. t < x.timestamp) xs
   differ : TimestampsDiffer xs
 
-rise_cons : (t : ℕ) (x : Triple) (xs : List Triple) (u : ℕ) (b : Bool) → t < u → (b ≡ true → x.timestamp ≡ u) → RiseApart u xs
+rise_cons : (t : ℕ) (x : Triple) (xs : List Triple) (u : ℕ) (b : Bool) → t < u → (b ≡ true → x.timestamp ≡ u)
+    → RiseApart u xs
     → RiseApart t (if b then x ∷ xs else xs)
 rise_cons t x xs u true after own rest =
     let same : x.timestamp ≡ u = own refl in
     record {
-      later = (omega arith, AllByRecursion-weaker (λ y. u < y.timestamp) (λ y. t < y.timestamp) (λ y later. omega arith) xs rest.later);
+      later = (omega arith, AllByRecursion-weaker (λ y. u < y.timestamp) (λ y. t < y.timestamp)
+          (λ y later. omega arith) xs rest.later);
       differ = (
         All-from_recursion (λ y. y.timestamp ≢ x.timestamp) xs
-            (AllByRecursion-weaker (λ y. u < y.timestamp) (λ y. y.timestamp ≢ x.timestamp) (λ y later alike. omega arith) xs rest.later),
+            (AllByRecursion-weaker (λ y. u < y.timestamp) (λ y. y.timestamp ≢ x.timestamp)
+            (λ y later alike. omega arith) xs rest.later),
         rest.differ,
       );
     }
@@ -67,8 +69,12 @@ TimestampsDiffer-open h sound =
 pub others-open : (h : History) (t : ℕ) → IsSound h → h.last < t → All (λ x. x.timestamp ≢ t) (open_triples h)
 others-open h t sound after =
     All-from_recursion (λ x. x.timestamp ≢ t) (open_triples h)
-    (AllByRecursion-weaker (λ x. x.timestamp ≤ h.last) (λ x. x.timestamp ≢ t) (λ x within same. omega arith) (open_triples h)
-    (triples_from-All (λ e. (e.timestamp ≤ h.last) × (e.transfer.timestamp ≡ e.timestamp)) (λ x. x.timestamp ≤ h.last) (λ n e known. omega (arith, known.0, known.1)) (is_open h) 0 h.entries
+    (AllByRecursion-weaker (λ x. x.timestamp ≤ h.last) (λ x. x.timestamp ≢ t) (λ x within same. omega arith)
+    (open_triples h)
+    (triples_from-All (λ e. (e.timestamp ≤ h.last) × (e.transfer.timestamp ≡ e.timestamp)) (λ x. x.timestamp ≤ h.last)
+    (λ n e known. omega (arith, known.0, known.1)) (is_open h) 0 h.entries
     (AllByRecursion-weaker (λ e. (e.timestamp ≤ h.last) × (is_open h e ≡ true → e.transfer.timestamp ≡ e.timestamp))
-    (λ e. is_open h e ≡ true → (e.timestamp ≤ h.last) × (e.transfer.timestamp ≡ e.timestamp)) (λ e known is. (known.0, known.1 is)) h.entries
-    (AllByRecursion-both (λ e. e.timestamp ≤ h.last) (λ e. is_open h e ≡ true → e.transfer.timestamp ≡ e.timestamp) h.entries sound.past (dated h h.entries sound.standing)))))
+    (λ e. is_open h e ≡ true → (e.timestamp ≤ h.last) × (e.transfer.timestamp ≡ e.timestamp))
+    (λ e known is. (known.0, known.1 is)) h.entries
+    (AllByRecursion-both (λ e. e.timestamp ≤ h.last) (λ e. is_open h e ≡ true → e.transfer.timestamp ≡ e.timestamp)
+    h.entries sound.past (dated h h.entries sound.standing)))))

@@ -17,7 +17,8 @@ join_if false x y front c = refl
 
 -- one more entry at the end
 pub triples_from-push : (test : Entry → Bool) (n : ℕ) (es : List Entry) (e : Entry)
-    → triples_from test n (es ++ e ∷ []) ≡ triples_from test n es ++ (if test e then triple_at (n + length es) e ∷ [] else [])
+    → triples_from test n (es ++ e ∷ []) ≡ triples_from test n es ++
+    (if test e then triple_at (n + length es) e ∷ [] else [])
 triples_from-push test n [] e = ap (λ m. here_if (test e) (triple_at m e)) (omega arith)
 triples_from-push test n (x ∷ es) e =
     ap (λ more. if test x then triple_at n x ∷ more else more)
@@ -39,7 +40,8 @@ filter_if keep true x xs = refl
 filter_if keep false x xs = refl
 
 -- to filter triples is to ask more of the entries
-pub filter-triples_from : (keep : Triple → Bool) (test also : Entry → Bool) → ((n : ℕ) (e : Entry) → keep (triple_at n e) ≡ also e)
+pub filter-triples_from : (keep : Triple → Bool) (test also : Entry → Bool)
+    → ((n : ℕ) (e : Entry) → keep (triple_at n e) ≡ also e)
     → (n : ℕ) (es : List Entry) → filter keep (triples_from test n es) ≡ triples_from (λ e. test e && also e) n es
 filter-triples_from keep test also agree n [] = refl
 filter-triples_from keep test also agree n (e ∷ es) =
@@ -52,7 +54,8 @@ pub length-triples_from : (test : Entry → Bool) (n : ℕ) (es : List Entry)
     → length (triples_from test n es) ≡ length (filter test es)
 length-triples_from test n [] = refl
 length-triples_from test n (e ∷ es) =
-    counted (test e) (triple_at n e) e (triples_from test (n + 1) es) (filter test es) (length-triples_from test (n + 1) es)
+    counted (test e) (triple_at n e) e (triples_from test (n + 1) es) (filter test es)
+    (length-triples_from test (n + 1) es)
   where
     counted : (b : Bool) (x : Triple) (e : Entry) (xs : List Triple) (es : List Entry) → length xs ≡ length es
         → length (if b then x ∷ xs else xs) ≡ length (if b then e ∷ es else es)
@@ -100,7 +103,8 @@ contains_at : (a : Triple) (xs : List Triple) (x : Triple) (k : ℕ) → k < len
 contains_at a xs x zero within at = inl (sym at)
 contains_at a xs x (suc k) within at = inr (k, omega arith, at)
 
-of_rest : (test : Entry → Bool) (n : ℕ) (e : Entry) (es : List Entry) (x : Triple) → IsOf test (n + 1) es x → IsOf test n (e ∷ es) x
+of_rest : (test : Entry → Bool) (n : ℕ) (e : Entry) (es : List Entry) (x : Triple) → IsOf test (n + 1) es x
+    → IsOf test n (e ∷ es) x
 of_rest test n e es x rest = record {
   front = e ∷ rest.front;
   entry = rest.entry;
@@ -112,7 +116,8 @@ of_rest test n e es x rest = record {
 
 of_cons : (test : Entry → Bool) (n : ℕ) (e : Entry) (es : List Entry) (x : Triple) (b : Bool) → test e ≡ b
     → (Contains (triples_from test (n + 1) es) x → IsOf test (n + 1) es x)
-    → Contains (if b then triple_at n e ∷ triples_from test (n + 1) es else triples_from test (n + 1) es) x → IsOf test n (e ∷ es) x
+    → Contains (if b then triple_at n e ∷ triples_from test (n + 1) es else triples_from test (n + 1) es) x
+    → IsOf test n (e ∷ es) x
 of_cons test n e es x true passes later there =
     ⊎_elim (λ here. record {
       front = [];

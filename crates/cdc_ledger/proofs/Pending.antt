@@ -1,6 +1,6 @@
 -- The entries of a sound history: where one of them stands among the others, and that no two stored one id or have one
 -- timestamp.
-use Rattle.std.proofs.Common.{ℕ, ◌<◌, ◌≤◌, Bool, true, false, Option, Some, List, [], ◌∷◌, ◌++◌, ◌≡◌, ◌≢◌, refl, ap, sym, subst, ◌∙◌, arith}
+use Rattle.std.proofs.Common.{ℕ, ◌<◌, ◌≤◌, Bool, true, false, Some, List, [], ◌∷◌, ◌++◌, ◌≡◌, ◌≢◌, refl, ap, sym, subst, ◌∙◌, arith}
 use Rattle.std.specs.Prelude.{◌==◌, ◌&&◌, find, if◌then◌else◌}
 use Rattle.std.specs.List.{AllByRecursion}
 use Rattle.std.proofs.lemmas.Bool.{and_from, and_parts, and_right, both_ways, eqb-true, eqb-false, eq-eqb, ne_eqb}
@@ -23,7 +23,8 @@ pub record Around (P : Entry → Type 0) (front back : List Entry) : Type 0 wher
   pub before : AllByRecursion P front
   pub after : AllByRecursion P back
 
-around : (P : Entry → Type 0) (e : Entry) (front back : List Entry) → AllByRecursion P (front ++ e ∷ back) → Around P front back
+around : (P : Entry → Type 0) (e : Entry) (front back : List Entry) → AllByRecursion P (front ++ e ∷ back)
+    → Around P front back
 around P e [] back all = record { before = tt; after = all.1 }
 around P e (x ∷ front) back all =
     let rest = around P e front back all.1 in record { before = (all.0, rest.before); after = rest.after }
@@ -32,13 +33,15 @@ pub All-around : (P : Entry → Type 0) (es : List Entry) (e : Entry) (among : I
     → Around P among.front among.back
 All-around P es e among all = around P e among.front among.back (subst (AllByRecursion P) among.split all)
 
-pub Around-both : (P Q : Entry → Type 0) (front back : List Entry) → Around P front back → Around Q front back → Around (λ y. P y × Q y) front back
+pub Around-both : (P Q : Entry → Type 0) (front back : List Entry) → Around P front back → Around Q front back
+    → Around (λ y. P y × Q y) front back
 Around-both P Q front back p q = record {
   before = AllByRecursion-both P Q front p.before q.before;
   after = AllByRecursion-both P Q back p.after q.after;
 }
 
-pub Around-weaker : (P Q : Entry → Type 0) → ((y : Entry) → P y → Q y) → (front back : List Entry) → Around P front back → Around Q front back
+pub Around-weaker : (P Q : Entry → Type 0) → ((y : Entry) → P y → Q y) → (front back : List Entry)
+    → Around P front back → Around Q front back
 Around-weaker P Q gives front back p = record {
   before = AllByRecursion-weaker P Q gives front p.before;
   after = AllByRecursion-weaker P Q gives back p.after;
@@ -68,7 +71,8 @@ pub record IsFirst (test : Entry → Bool) (es : List Entry) (e : Entry) : Type 
   pub among : IsAmong es e
   pub passes : test e ≡ true
 
-found_further : (test : Entry → Bool) (x : Entry) (es : List Entry) (e : Entry) → IsFirst test es e → IsFirst test (x ∷ es) e
+found_further : (test : Entry → Bool) (x : Entry) (es : List Entry) (e : Entry) → IsFirst test es e
+    → IsFirst test (x ∷ es) e
 found_further test x es e found = record {
   among = record {
     front = x ∷ found.among.front;
@@ -79,7 +83,8 @@ found_further test x es e found = record {
 }
 
 found_here : (test : Entry → Bool) (x : Entry) (es : List Entry) (e : Entry) (b : Bool) → test x ≡ b
-    → (find test es ≡ Some e → IsFirst test es e) → (if b then Some x else find test es) ≡ Some e → IsFirst test (x ∷ es) e
+    → (find test es ≡ Some e → IsFirst test es e) → (if b then Some x else find test es) ≡ Some e
+    → IsFirst test (x ∷ es) e
 found_here test x es e true passes later found =
     let same : x ≡ e = cc in
     record {
@@ -119,22 +124,28 @@ other_ids e (x ∷ front) back is apart =
     let rest = other_ids e front back is both.0 in
     record { before = (turned (stores x.kind) refl both.1, rest.before); after = rest.after }
   where
-    turned : (b : Bool) → stores x.kind ≡ b → (stores x.kind ≡ true → AllByRecursion (HasOtherId x) (front ++ e ∷ back)) → HasOtherId e x
+    turned : (b : Bool) → stores x.kind ≡ b
+        → (stores x.kind ≡ true → AllByRecursion (HasOtherId x) (front ++ e ∷ back)) → HasOtherId e x
     turned true stored others =
-        let other : (stores e.kind && (e.transfer.id == x.transfer.id)) ≡ false = here (HasOtherId x) e front back (others stored) in
-        id_turned (stores x.kind) e.transfer.id x.transfer.id (ap (λ b. b && (e.transfer.id == x.transfer.id)) (sym is) ∙ other)
+        let other : (stores e.kind && (e.transfer.id == x.transfer.id)) ≡ false = here (HasOtherId x) e front back
+            (others stored) in
+        id_turned (stores x.kind) e.transfer.id x.transfer.id
+        (ap (λ b. b && (e.transfer.id == x.transfer.id)) (sym is) ∙ other)
     turned false stored others = ap (λ b. b && (x.transfer.id == e.transfer.id)) stored
 
 -- no other entry stored a transfer of this id
-HasOtherId-around : (h : History) (e : Entry) (among : IsAmong h.entries e) → AreApart (stored_ids h.entries) → stores e.kind ≡ true
+HasOtherId-around : (h : History) (e : Entry) (among : IsAmong h.entries e) → AreApart (stored_ids h.entries)
+    → stores e.kind ≡ true
     → Around (HasOtherId e) among.front among.back
 HasOtherId-around h e among apart is =
     other_ids e among.front among.back is (subst (λ es. AreApart (stored_ids es)) among.split apart)
 
 -- each entry that stored a transfer is the one that is found by its id
-pub stored-among : (h : History) (e : Entry) → IsSound h → IsAmong h.entries e → stores e.kind ≡ true → stored h e.transfer.id ≡ Some e
+pub stored-among : (h : History) (e : Entry) → IsSound h → IsAmong h.entries e → stores e.kind ≡ true
+    → stored h e.transfer.id ≡ Some e
 stored-among h e sound among is =
-    All-among (λ y. stores y.kind ≡ true → stored h y.transfer.id ≡ Some y) h.entries e among (stored_each h sound.once) is
+    All-among (λ y. stores y.kind ≡ true → stored h y.transfer.id ≡ Some y) h.entries e among
+    (stored_each h sound.once) is
 
 all_later : (t : ℕ) (e : Entry) (es : List Entry) → t ≤ e.timestamp → RiseFrom e.timestamp es
     → AllByRecursion (λ y. y.timestamp ≢ t) es
@@ -143,7 +154,8 @@ all_later t e (x ∷ es) later rising = (λ same. omega arith, all_later t x es 
 
 own_later : (t : ℕ) (e : Entry) (front back : List Entry) → RiseFrom t (front ++ e ∷ back) → t < e.timestamp
 own_later t e [] back rising = rising.0
-own_later t e (x ∷ front) back rising = let later : x.timestamp < e.timestamp = own_later x.timestamp e front back rising.1 in omega arith
+own_later t e (x ∷ front) back rising = let later : x.timestamp < e.timestamp = own_later x.timestamp e front back
+    rising.1 in omega arith
 
 other_times : (t : ℕ) (e : Entry) (front back : List Entry) → RiseFrom t (front ++ e ∷ back)
     → Around (λ y. y.timestamp ≢ e.timestamp) front back
@@ -168,19 +180,25 @@ pub record IsOther (e y : Entry) : Type 0 where
 pub IsOther-around : (h : History) (e : Entry) (among : IsAmong h.entries e) → IsSound h → stores e.kind ≡ true
     → Around (λ y. stores y.kind ≡ true → IsOther e y) among.front among.back
 IsOther-around h e among sound stored =
-    let own : e.transfer.timestamp ≡ e.timestamp = (All-among (Stands h) h.entries e among sound.standing).dated stored in
-    Around-weaker (λ y. HasOtherId e y × (y.timestamp ≢ e.timestamp) × Stands h y) (λ y. stores y.kind ≡ true → IsOther e y)
+    let own : e.transfer.timestamp ≡ e.timestamp = (All-among (Stands h) h.entries e among sound.standing).dated
+        stored in
+    Around-weaker (λ y. HasOtherId e y × (y.timestamp ≢ e.timestamp) × Stands h y)
+    (λ y. stores y.kind ≡ true → IsOther e y)
     (λ y known is. record {
-      id = λ same. both_ways (is_stored e.transfer.id y) known.0 (and_from (stores y.kind) (y.transfer.id == e.transfer.id) is (eq-eqb y.transfer.id e.transfer.id same));
+      id = λ same. both_ways (is_stored e.transfer.id y) known.0
+          (and_from (stores y.kind) (y.transfer.id == e.transfer.id) is (eq-eqb y.transfer.id e.transfer.id same));
       time = λ same. known.1 (sym (known.2.dated is) ∙ (same ∙ own));
     }) among.front among.back
-    (three among.front among.back (HasOtherId-around h e among sound.once stored) (other_times-around h e among sound.rising)
+    (three among.front among.back (HasOtherId-around h e among sound.once stored)
+    (other_times-around h e among sound.rising)
     (All-around (Stands h) h.entries e among sound.standing))
   where
-    three : (front back : List Entry) → Around (HasOtherId e) front back → Around (λ y. y.timestamp ≢ e.timestamp) front back → Around (Stands h) front back
+    three : (front back : List Entry) → Around (HasOtherId e) front back
+        → Around (λ y. y.timestamp ≢ e.timestamp) front back → Around (Stands h) front back
         → Around (λ y. HasOtherId e y × (y.timestamp ≢ e.timestamp) × Stands h y) front back
     three front back ids times standing =
-        Around-weaker (λ y. HasOtherId e y × ((y.timestamp ≢ e.timestamp) × Stands h y)) (λ y. HasOtherId e y × (y.timestamp ≢ e.timestamp) × Stands h y)
+        Around-weaker (λ y. HasOtherId e y × ((y.timestamp ≢ e.timestamp) × Stands h y))
+        (λ y. HasOtherId e y × (y.timestamp ≢ e.timestamp) × Stands h y)
         (λ y known. (known.0, known.1.0, known.1.1)) front back
         (Around-both (HasOtherId e) (λ y. (y.timestamp ≢ e.timestamp) × Stands h y) front back ids
         (Around-both (λ y. y.timestamp ≢ e.timestamp) (Stands h) front back times standing))

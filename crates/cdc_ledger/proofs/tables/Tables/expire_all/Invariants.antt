@@ -1,4 +1,4 @@
-use Rattle.std.proofs.Common.{◌≡◌, ◌+◌, ◌≤◌, ◌<◌}
+use Rattle.std.proofs.Common.{◌+◌, ◌≤◌, ◌<◌}
 use Rattle.cdc_ledger.specs.Tables.{IsKept, history_of, room_for_entries}
 use Rattle.cdc_ledger.proofs.Expiring.{GoesOn}
 use Rattle.cdc_ledger.proofs.tables.Tables.expire_all.Given as goal

@@ -61,7 +61,6 @@ refusal_between-requires-clause-credited c =
     (found_in c.as_slice-accounts.result.now t.accounts.items r.credit_account_id c.find_place-2.result _ c.find_place-2.ensures c.as_slice-accounts.ensures.value c.in-Some-find_place.is))
     c.requires.kept.sound.bounded)
 
-
 pub returns-in-Some-refusal_between : goal.returns-in-Some-refusal_between
 returns-in-Some-refusal_between c =
     let t = c.args.self.now in

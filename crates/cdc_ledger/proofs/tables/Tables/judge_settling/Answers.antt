@@ -23,7 +23,6 @@ use Rattle.cdc_ledger.proofs.LineLaws.{first_line-append_none, first_line-append
 use Rattle.cdc_ledger.proofs.StoredLaws.{stored_has}
 use Rattle.cdc_ledger.proofs.tables.Tables.judge_settling.Goals as goal
 
-
 pub returns-in-Some-field_refusal : goal.returns-in-Some-field_refusal
 returns-in-Some-field_refusal c =
     let h = history_of c.args.self.now in
