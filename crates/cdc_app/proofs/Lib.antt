@@ -1,11 +1,11 @@
-
-pub mod Places
+pub mod BookLaws
+pub mod FedLaws
 pub mod FeedLemmas
 pub mod FieldMarks
 pub mod LineLemmas
 pub mod NumberLemmas
+pub mod Places
 pub mod ReadLemmas
 pub mod TakerLemmas
 pub mod TextLemmas
 pub mod WordLemmas
-

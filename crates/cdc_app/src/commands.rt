@@ -4,7 +4,8 @@
 ghost use Rattle.std.specs.Prelude.{◌≡◌, ◌⊎◌, ◌+◌, IfOk, IfSome, OnOk, string_bytes};
 ghost use Rattle.std.specs.Io.KnownBytes.{Appends};
 ghost use Rattle.cdc_app.specs.declared.scripts.Script.{Script as Said};
-ghost use Rattle.cdc_app.specs.Held.{HoldsBalances};
+ghost use Rattle.cdc_app.specs.Held.{HasWholeFeed, HoldsBalances};
+ghost use Rattle.cdc_match.specs.Arguments.{Arguments};
 ghost use Rattle.cdc_app.specs.Report.{program_fault_line};
 ghost use Rattle.cdc_app.specs.Printed.{history_of, printed as printed_text, outcome_of, IsPrinted, Writes};
 ghost use Rattle.cdc_app.specs.Private.Outcomes.{IsNoFailure};
@@ -44,6 +45,8 @@ pub struct Output {
 /// failed.
 pub fn books<R: Read, W: Write>(alloc: Global, reader: &mut R, writer: &mut W) -> Ending
     ensures writes { Writes Report.Book (R.remaining reader.old) (W.contents writer.old) (W.contents writer.new) result }
+    ensures whole { (script : Said) → (binding : Arguments) → HasWholeFeed (history_of script) binding }
+    ensures holds { (script : Said) → HoldsBalances (history_of script) }
     ensures bounded { ConsumesAtMost (max_bytes + 1) (R.remaining reader.old) (R.remaining reader.new) }
 {
     print_report(alloc, Report::Book, reader, writer)
