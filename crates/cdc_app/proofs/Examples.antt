@@ -10,6 +10,8 @@ use Rattle.cdc_types.specs.declared.events.EventAccount.{EventAccount}
 use Rattle.cdc_types.specs.declared.events.EventKind.TheVariants.{SinglePhase}
 use Rattle.cdc_types.specs.declared.results.TransferResult.TheVariants.{Accepted, OverflowsDebitsPosted}
 use Rattle.cdc_ledger.specs.declared.errors.BatchError.TheVariants.{BatchTooLarge}
+use Rattle.cdc_match.specs.declared.pairs.Mode.TheVariants as mode
+use Rattle.cdc_match.specs.declared.pairs.Pair.TheVariants as pair
 use Rattle.cdc_app.specs.declared.book.BookEntry.{BookEntry}
 use Rattle.cdc_app.specs.declared.endings.Ending.TheVariants.{Done, BadScript}
 use Rattle.cdc_app.specs.declared.faults.FaultKind.{FaultKind}
@@ -35,6 +37,7 @@ fault line kind = Err (record { line = line; kind = kind })
 reads_batches : script_of
     (codes "# a comment\nsubscriber all\r\naccounts 1000\naccount id=1 ledger=700\n\naccount code=10 ledger=700 id=002\nclient 2\ntransfers 2000\n")
     ≡ Ok (record {
+      bindings = record { mode = mode.All; pairs = [] } ∷ [];
       batches =
           record { client = 1; batch = batch.Accounts 1000 (account 1 0 ∷ account 2 10 ∷ []) }
           ∷ record { client = 2; batch = batch.Transfers 2000 [] } ∷ [];
@@ -48,11 +51,30 @@ refuses_words : (script_of (codes "subscriber all\naccounts x\n") ≡ fault 2 ki
     × (script_of (codes "subscriber all\naccounts 5\naccount id=1 id=2\n") ≡ fault 3 kind.KeyTwice)
 refuses_words = (refl, refl, refl, refl)
 
--- an item outside its batch, a second subscriber, and a script without one
+-- an item outside its batch, a ninth subscriber whatever its binding, and a script without one
 refuses_lines : (script_of (codes "subscriber all\naccount x\n") ≡ fault 2 kind.NoOpenBatch)
-    × (script_of (codes "subscriber all\nsubscriber\n") ≡ fault 2 kind.TooManySubscribers)
+    × (script_of (codes
+    "subscriber all\nsubscriber all\nsubscriber all\nsubscriber all\nsubscriber all\nsubscriber all\nsubscriber all\nsubscriber all\nsubscriber x\n")
+    ≡ fault 9 kind.TooManySubscribers)
     × (script_of [] ≡ fault 0 kind.NoSubscriber)
 refuses_lines = (refl, refl, refl)
+
+-- subscribers with bindings of their own, in the order of their lines
+reads_bindings : script_of (codes "subscriber any ledger=700 event_type=single_phase\nsubscriber all\n")
+    ≡ Ok (record {
+      bindings = record { mode = mode.Any; pairs = pair.Ledger 700 ∷ pair.EventType SinglePhase ∷ [] }
+          ∷ record { mode = mode.All; pairs = [] } ∷ [];
+      batches = [];
+    })
+reads_bindings = refl
+
+-- a binding without a mode, or with another key; a byte that isn't printable, right of such a fault, left of it, and at it
+refuses_bindings : (script_of (codes "subscriber\n") ≡ fault 1 kind.BadBinding)
+    × (script_of (codes "subscriber all id=1\n") ≡ fault 1 kind.BadBinding)
+    × (script_of (codes "subscriber none \t\n") ≡ fault 1 kind.BadBinding)
+    × (script_of (codes "subscriber all \t id=1\n") ≡ fault 1 kind.BadText)
+    × (script_of (codes "subscriber all id=\t\n") ≡ fault 1 kind.BadText)
+refuses_bindings = (refl, refl, refl, refl, refl)
 
 -- the lines of batches
 prints_batches : (batch_line 2 (Ok (results.Transfers (Accepted ∷ OverflowsDebitsPosted ∷ [])))
