@@ -1,3 +1,5 @@
+mod Examples
+pub mod BindingLemmas
 pub mod BookLaws
 pub mod FedLaws
 pub mod FeedLemmas
@@ -5,6 +7,7 @@ pub mod FieldMarks
 pub mod LineLemmas
 pub mod NumberLemmas
 pub mod Places
+pub mod PrintableLemmas
 pub mod ReadLemmas
 pub mod TakerLemmas
 pub mod TextLemmas

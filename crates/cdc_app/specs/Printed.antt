@@ -9,13 +9,14 @@ use Rattle.cdc_ledger.specs.Events.{events}
 use Rattle.cdc_ledger.specs.History.{History, empty_history}
 use Rattle.cdc_ledger.specs.Submit.{submit, history_or, after_batches}
 use Rattle.cdc_app.specs.declared.commands.Report.{Report}
-use Rattle.cdc_app.specs.declared.commands.Report.TheVariants.{Book, Messages}
+use Rattle.cdc_app.specs.declared.commands.Report.TheVariants.{Books, Messages}
 use Rattle.cdc_app.specs.declared.endings.Ending.{Ending}
 use Rattle.cdc_app.specs.declared.endings.Ending.TheVariants.{Done, Failed, BadScript, BadWords}
 use Rattle.cdc_app.specs.declared.faults.ProgramFault.TheVariants as fault
 use Rattle.cdc_app.specs.declared.faults.ScriptFault.{ScriptFault}
 use Rattle.cdc_app.specs.declared.scripts.ClientBatch.{ClientBatch}
 use Rattle.cdc_app.specs.declared.scripts.Script.{Script}
+use Rattle.cdc_app.specs.Feeds.{line_of, subscribers_text}
 use Rattle.cdc_app.specs.Messages.{message_lines}
 use Rattle.cdc_app.specs.Report.{batch_line, script_fault_line, program_fault_line}
 use Rattle.cdc_app.specs.Scripts.{script_of}
@@ -39,9 +40,12 @@ history_after h batches = after_batches features h (map (λ b. b.batch) batches)
 abbrev pub history_of : Script → History
 history_of script = record (history_after empty_history script.batches) { closed = true }
 
--- what `books` prints: the lines of the batches, and then those of a subscriber that has taken all events and the end
-abbrev pub printed_book : Script → List ℕ
-printed_book script = batch_lines 1 empty_history script.batches
+-- what `books` prints: the lines of the batches, and then those of the subscribers, each of which has taken its queue of
+-- the closed ledger's events and the end mark
+abbrev pub printed_books : Script → List ℕ
+printed_books script =
+    batch_lines 1 empty_history script.batches
+    ++ subscribers_text 1 (line_of (events (history_of script))) script.bindings
 
 -- what `messages` prints: the lines of each event
 abbrev pub printed_messages : Script → List ℕ
@@ -49,7 +53,7 @@ printed_messages script = flat_map message_lines (events (history_of script))
 
 -- what is printed of a script
 abbrev pub printed : Report → Script → List ℕ
-printed Book script = printed_book script
+printed Books script = printed_books script
 printed Messages script = printed_messages script
 
 -- the exit status of a command that ends so

@@ -1,6 +1,12 @@
 -- What becomes of a reader, and why no script was read.
 use Rattle.std.specs.Prelude.{◌≡◌, ℕ, ◌≤◌, List, length, Option, Result, Err}
 use Rattle.std.specs.Io.KnownBytes.{Consumes}
+use Rattle.cdc_match.specs.declared.errors.BindError.{BindError}
+use Rattle.cdc_match.specs.declared.errors.BindError.TheVariants as bind
+use Rattle.cdc_app.specs.declared.faults.FaultKind.{FaultKind}
+use Rattle.cdc_app.specs.declared.faults.FaultKind.TheVariants.{BadBinding}
+use Rattle.cdc_app.specs.declared.faults.LineError.{LineError}
+use Rattle.cdc_app.specs.declared.faults.LineError.TheVariants as line
 use Rattle.cdc_app.specs.declared.faults.ScriptError.{ScriptError}
 use Rattle.cdc_app.specs.declared.faults.ScriptError.TheVariants as error
 use Rattle.cdc_app.specs.declared.faults.ScriptFault.{ScriptFault}
@@ -10,6 +16,16 @@ abbrev pub IsFault : {A : Type 0} → ScriptError → Result A ScriptFault → T
 IsFault (error.Fault fault) read = read ≡ Err fault
 IsFault (error.ReadFault why) read = Unit {0}
 IsFault error.OutOfMemory read = Unit {0}
+
+-- a fault that is named is the line's first one; want of memory says nothing of the line
+abbrev pub IsLineFault : {A : Type 0} → LineError → Result A FaultKind → Type 0
+IsLineFault (line.Fault kind) read = read ≡ Err kind
+IsLineFault line.OutOfMemory read = Unit {0}
+
+-- what the reader of a binding answers, as the error of its line
+abbrev pub line_error : BindError → LineError
+line_error bind.OutOfMemory = line.OutOfMemory
+line_error _ = line.Fault BadBinding
 
 -- known bytes lose at most so many at their front
 abbrev pub ConsumesAtMost : ℕ → Option (List ℕ) → Option (List ℕ) → Type 0

@@ -1,10 +1,11 @@
 -- What a script says: a fold over its lines, up to the first fault.
-use Rattle.std.specs.Prelude.{ℕ, ◌+◌, Bool, true, false, nat_lt, List, [], ◌∷◌, length, Option, Some, None, Result, Ok, Err, if◌then◌else◌}
-use Rattle.std.specs.List.{list_any, cons_option}
+use Rattle.std.specs.Prelude.{ℕ, ◌+◌, nat_lt, List, [], ◌∷◌, length, Option, Some, None, Result, Ok, Err, if◌then◌else◌}
+use Rattle.std.specs.List.{cons_option}
 use Rattle.std.specs.Str.Lines.{lines}
 use Rattle.cdc_types.specs.declared.accounts.NewAccount.{NewAccount}
 use Rattle.cdc_types.specs.declared.transfers.NewTransfer.{NewTransfer}
 use Rattle.cdc_types.specs.declared.batches.Batch.TheVariants as batch
+use Rattle.cdc_match.specs.Arguments.{Arguments}
 use Rattle.cdc_app.specs.declared.faults.FaultKind.{FaultKind}
 use Rattle.cdc_app.specs.declared.faults.FaultKind.TheVariants.{NoSubscriber, TooLong}
 use Rattle.cdc_app.specs.declared.faults.ScriptFault.{ScriptFault}
@@ -57,7 +58,7 @@ leading_transfers (_ ∷ rest) = []
 -- the batches that statements make, the first of them this client's
 abbrev pub batches_of : ℕ → List Statement → List ClientBatch
 batches_of client [] = []
-batches_of client (says.Subscriber ∷ rest) = batches_of client rest
+batches_of client (says.Subscriber binding ∷ rest) = batches_of client rest
 batches_of client (says.Client n ∷ rest) = batches_of n rest
 batches_of client (says.Accounts now ∷ rest) =
     record { client = client; batch = batch.Accounts now (leading_accounts rest) } ∷ batches_of client rest
@@ -67,20 +68,24 @@ batches_of client (says.Account a ∷ rest) = batches_of client rest
 batches_of client (says.Transfer t ∷ rest) = batches_of client rest
 batches_of client (says.Pulse now ∷ rest) = record { client = client; batch = batch.Pulse now } ∷ batches_of client rest
 
--- a subscriber line
-abbrev pub is_subscriber : Statement → Bool
-is_subscriber says.Subscriber = true
-is_subscriber _ = false
+-- the bindings of the subscribers that statements make
+abbrev pub bindings_of : List Statement → List Arguments
+bindings_of [] = []
+bindings_of (says.Subscriber binding ∷ rest) = binding ∷ bindings_of rest
+bindings_of (_ ∷ rest) = bindings_of rest
 
 -- a fault of the script as a whole
 abbrev pub whole_fault : FaultKind → ScriptFault
 whole_fault kind = record { line = 0; kind = kind }
 
+-- the script of these bindings and batches, if there is a binding
+abbrev pub script_with : List Arguments → List ClientBatch → Result Script ScriptFault
+script_with [] batches = Err (whole_fault NoSubscriber)
+script_with (binding ∷ rest) batches = Ok (record { bindings = binding ∷ rest; batches = batches })
+
 -- the script that statements make, if one of them is a subscriber line; client 1 comes first
 abbrev pub script_said : List Statement → Result Script ScriptFault
-script_said statements =
-    if list_any is_subscriber statements then Ok (record { batches = batches_of 1 statements })
-    else Err (whole_fault NoSubscriber)
+script_said statements = script_with (bindings_of statements) (batches_of 1 statements)
 
 -- the script that lines write, or their first fault
 abbrev pub script_of_lines : List (List ℕ) → Result Script ScriptFault

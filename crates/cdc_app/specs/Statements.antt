@@ -1,7 +1,10 @@
 -- What one line of a script says, after the lines above it.
 use Rattle.std.specs.Prelude.{ℕ, ◌+◌, ◌==◌, ◌||◌, nat_le, nat_lt, List, [], ◌∷◌, Option, Some, None, Result, Ok, Err, codes, unwrap_or, slice_index, if◌then◌else◌}
+use Rattle.std.specs.List.{list_all, take_while}
 use Rattle.std.specs.Str.{bytes_eq}
 use Rattle.cdc_types.specs.Lines.{first_line}
+use Rattle.cdc_match.specs.declared.errors.BindError.{BindError}
+use Rattle.cdc_match.specs.Parsing.{arguments_of}
 use Rattle.cdc_app.specs.declared.faults.FaultKind.{FaultKind}
 use Rattle.cdc_app.specs.declared.faults.FaultKind.TheVariants.{BadText, UnknownWord, WrongCount, NoOpenBatch, BadBinding, TooManySubscribers, BadClient}
 use Rattle.cdc_app.specs.declared.fields.ItemKind.{ItemKind}
@@ -16,7 +19,7 @@ use Rattle.cdc_app.specs.Words.{words, is_printable}
 
 -- how many subscriber lines a script may have
 abbrev pub max_subscribers : ℕ
-max_subscribers = 1
+max_subscribers = 8
 
 -- the greatest number of a client
 abbrev pub max_client : ℕ
@@ -36,13 +39,23 @@ abbrev pub number_word : List (List ℕ) → Result (ℕ × List (List ℕ)) Fau
 number_word [] = Err WrongCount
 number_word (word ∷ rest) = checked word (number_of 18446744073709551615 word >>= λ n. Ok (n, rest))
 
--- the binding of a subscriber. So far there is one that can be read: all, without pairs
-abbrev pub binding_line : List (List ℕ) → Result Statement FaultKind
-binding_line [] = Err BadBinding
-binding_line (mode ∷ rest) =
-    checked mode (if bytes_eq mode (codes "all") then ended BadBinding says.Subscriber rest else Err BadBinding)
+-- whatever is wrong with a binding, one fault stands for it
+abbrev pub readable : {A : Type 0} → Result A BindError → Result A FaultKind
+readable (Ok binding) = Ok binding
+readable (Err why) = Err BadBinding
 
--- a subscriber, unless there are as many as there may be
+-- the fault of words before one that isn't printable: theirs if they are no binding, else that word's
+abbrev pub broken_off : List (List ℕ) → Result Statement FaultKind
+broken_off [] = Err BadText
+broken_off (word ∷ rest) = readable (arguments_of (word ∷ rest)) >>= λ binding. Err BadText
+
+-- the binding of a subscriber, or the first fault from the left
+abbrev pub binding_line : List (List ℕ) → Result Statement FaultKind
+binding_line rest =
+    if list_all is_printable rest then (readable (arguments_of rest) >>= λ binding. Ok (says.Subscriber binding))
+    else broken_off (take_while is_printable rest)
+
+-- a subscriber; where there are as many as there may be, no binding is looked at
 abbrev pub subscriber_line : ℕ → List (List ℕ) → Result Statement FaultKind
 subscriber_line subscribers rest = if nat_le max_subscribers subscribers then Err TooManySubscribers
     else binding_line rest
@@ -52,7 +65,7 @@ abbrev pub client_line : List (List ℕ) → Result Statement FaultKind
 client_line rest = do
   number ← number_word rest
   if (number.0 == 0) || nat_lt max_client number.0 then Err BadClient
-      else ended WrongCount (says.Client number.0) number.1
+      else (ended WrongCount number.0 number.1 >>= λ n. Ok (says.Client n))
 
 -- a moment alone
 abbrev pub moment_line : List (List ℕ) → Result ℕ FaultKind
@@ -94,7 +107,7 @@ line_says context line = if slice_index line 0 == 35 then Ok None else words_say
 
 -- what a statement leaves for the lines below it: a batch is open after the line that begins it and after its items
 abbrev pub after : Context → Statement → Context
-after context says.Subscriber = record { open_batch = None; subscribers = context.subscribers + 1 }
+after context (says.Subscriber binding) = record { open_batch = None; subscribers = context.subscribers + 1 }
 after context (says.Accounts now) = record { open_batch = Some item.Account; subscribers = context.subscribers }
 after context (says.Transfers now) = record { open_batch = Some item.Transfer; subscribers = context.subscribers }
 after context (says.Account a) = record { open_batch = Some item.Account; subscribers = context.subscribers }

@@ -72,10 +72,12 @@ fn expected(kind: FaultKind) -> &'static str {
         FaultKind::NoOpenBatch => {
             "account lines follow a line accounts NOW, and transfer lines a line transfers NOW, with no other line between"
         }
-        FaultKind::BadBinding => "the words after subscriber are all, alone",
-        FaultKind::TooManySubscribers => "a script has one subscriber line",
+        FaultKind::BadBinding => {
+            "a binding is the word all or any, and up to ten words key=value with event_type and the name of a kind of event, or with ledger (a number of 32 bits), transfer_code, debit_account_code or credit_account_code (numbers of 16 bits)"
+        }
+        FaultKind::TooManySubscribers => "a script has 8 subscriber lines at most",
         FaultKind::BadClient => "a client's number is 1 or 2",
-        FaultKind::NoSubscriber => "a script has a line subscriber all",
+        FaultKind::NoSubscriber => "a script has a line subscriber BINDING, as subscriber all",
         FaultKind::TooLong => "a script has 1048576 bytes at most",
     }
 }

@@ -1,7 +1,7 @@
 //! The commands that read a script: `books` and `messages`. A script is read and judged, its batches are run, and the
 //! report that was asked for is printed at once.
 
-ghost use Rattle.std.specs.Prelude.{◌≡◌, ◌⊎◌, ◌+◌, IfOk, IfSome, OnOk, string_bytes};
+ghost use Rattle.std.specs.Prelude.{◌≡◌, ◌⊎◌, ◌+◌, IfOk, IfSome, OnOk};
 ghost use Rattle.std.specs.Io.KnownBytes.{Appends};
 ghost use Rattle.cdc_app.specs.declared.scripts.Script.{Script as Said};
 ghost use Rattle.cdc_app.specs.Held.{HasWholeFeed, HoldsBalances};
@@ -12,7 +12,7 @@ ghost use Rattle.cdc_app.specs.Private.Outcomes.{IsNoFailure};
 ghost use Rattle.cdc_app.specs.Refusals.{ConsumesAtMost};
 ghost use Rattle.cdc_app.specs.Scripts.{max_bytes};
 
-use crate::books::print_book;
+use crate::books::print_books;
 use crate::endings::Ending;
 use crate::faults::{ProgramFault, ScriptError};
 use crate::messages::print_messages;
@@ -25,8 +25,8 @@ use std::io::{Read, Write};
 /// What a script may be read for.
 #[derive(Clone, Copy, Debug, PartialEq, Eq)]
 pub enum Report {
-    /// The results of its batches, and what a subscriber of all events then holds.
-    Book,
+    /// The results of its batches, and what its subscribers then hold.
+    Books,
     /// The messages of its events.
     Messages,
 }
@@ -35,21 +35,21 @@ pub enum Report {
 #[derive(Drop)]
 pub struct Output {
     /// The whole text.
-    pub text: String,
+    pub text: Vec<u8>,
     /// How the command ends once the text is written.
     pub ending: Ending,
 }
 
-/// Reads a script, and prints what the ledger answers to its batches and what a subscriber of all events then holds; of a
-/// bad script its fault. A command that gives up prints why, and nothing else; nothing is written after a write that
+/// Reads a script, and prints what the ledger answers to its batches and what each subscriber holds that has taken its
+/// queue of all events and the end; of a bad script its fault. A command that gives up prints why, and nothing else; nothing is written after a write that
 /// failed.
 pub fn books<R: Read, W: Write>(alloc: Global, reader: &mut R, writer: &mut W) -> Ending
-    ensures writes { Writes Report.Book (R.remaining reader.old) (W.contents writer.old) (W.contents writer.new) result }
+    ensures writes { Writes Report.Books (R.remaining reader.old) (W.contents writer.old) (W.contents writer.new) result }
     ensures whole { (script : Said) → (binding : Arguments) → HasWholeFeed (history_of script) binding }
     ensures holds { (script : Said) → HoldsBalances (history_of script) }
     ensures bounded { ConsumesAtMost (max_bytes + 1) (R.remaining reader.old) (R.remaining reader.new) }
 {
-    print_report(alloc, Report::Book, reader, writer)
+    print_report(alloc, Report::Books, reader, writer)
 }
 
 /// Reads a script, and prints the message of each of its events: a line of what it is routed by and of its second, and a
@@ -73,13 +73,13 @@ fn print_report<R: Read, W: Write>(
     ensures bounded { ConsumesAtMost (max_bytes + 1) (R.remaining reader.old) (R.remaining reader.new) }
 {
     match run(alloc, report, reader) {
-        Ok(Output { text, ending }) => print_text(writer, text.as_str(), ending),
+        Ok(Output { text, ending }) => print_text(writer, text.as_slice(), ending),
         Err(fault) => print_fault(writer, fault),
     }
 }
 
 /// Prints a text at once.
-pub fn print_text<W: Write>(writer: &mut W, text: &str, ending: Ending) -> Ending
+pub fn print_text<W: Write>(writer: &mut W, text: &[u8], ending: Ending) -> Ending
     ensures { IsPrinted (W.contents writer.old) (W.contents writer.new) text.now ending result }
 {
     match write_text(writer, text) {
@@ -89,10 +89,10 @@ pub fn print_text<W: Write>(writer: &mut W, text: &str, ending: Ending) -> Endin
 }
 
 /// Writes a text, and lets nothing of it wait in a buffer.
-fn write_text<W: Write>(writer: &mut W, text: &str) -> io::Result<()>
+fn write_text<W: Write>(writer: &mut W, text: &[u8]) -> io::Result<()>
     ensures { OnOk result (Appends (W.contents writer.old) (W.contents writer.new) text.now) }
 {
-    writer.write_all(text.as_bytes())?;
+    writer.write_all(text)?;
     writer.flush()
 }
 
@@ -100,19 +100,19 @@ fn write_text<W: Write>(writer: &mut W, text: &str) -> io::Result<()>
 pub fn print_fault<W: Write>(writer: &mut W, fault: ProgramFault) -> Ending
     ensures { IsPrinted (W.contents writer.old) (W.contents writer.new) (program_fault_line fault) (Ending.Failed fault) result }
 {
-    print_text(writer, fault.line(), Ending::Failed(fault))
+    print_text(writer, fault.line().as_bytes(), Ending::Failed(fault))
 }
 
 /// What a command prints for the script of a reader.
 fn run<R: Read>(alloc: Global, report: Report, reader: &mut R) -> Result<Output, ProgramFault>
     ensures output { IfSome (R.remaining reader.old) (λ bytes. IfOk result (λ output.
-        (string_bytes output.text ≡ (outcome_of report bytes).text) × (output.ending ≡ (outcome_of report bytes).ending))) }
+        (output.text.items ≡ (outcome_of report bytes).text) × (output.ending ≡ (outcome_of report bytes).ending))) }
     ensures ending { IfOk result (λ output. IsNoFailure output.ending) }
     ensures bounded { ConsumesAtMost (max_bytes + 1) (R.remaining reader.old) (R.remaining reader.new) }
 {
     match read_script(alloc, reader) {
         Ok(script) => {
-            let text = printed(alloc, report, &script)?;
+            let text = printed(alloc, report, script)?;
             Ok(Output {
                 text,
                 ending: Ending::Done,
@@ -122,7 +122,7 @@ fn run<R: Read>(alloc: Global, report: Report, reader: &mut R) -> Result<Output,
             let mut text = String::new(alloc);
             push_script_fault(&mut text, fault)?;
             Ok(Output {
-                text,
+                text: text.into_bytes(),
                 ending: Ending::BadScript(fault),
             })
         }
@@ -132,11 +132,14 @@ fn run<R: Read>(alloc: Global, report: Report, reader: &mut R) -> Result<Output,
 }
 
 /// What a command prints for a script.
-fn printed(alloc: Global, report: Report, script: &Script) -> Result<String, AllocError>
-    ensures { IfOk result (λ text. string_bytes text ≡ printed_text report script.now) }
+fn printed(alloc: Global, report: Report, script: Script) -> Result<Vec<u8>, AllocError>
+    ensures { IfOk result (λ text. text.items ≡ printed_text report script) }
 {
     match report {
-        Report::Book => print_book(alloc, script),
-        Report::Messages => print_messages(alloc, script),
+        Report::Books => print_books(alloc, script),
+        Report::Messages => {
+            let text = print_messages(alloc, &script)?;
+            Ok(text.into_bytes())
+        }
     }
 }

@@ -1,16 +1,17 @@
 //! A script while its lines are read.
 
-ghost use Rattle.std.specs.Prelude.{◌≡◌, ◌+◌, ◌^◌, ◌<◌, List, [], ◌∷◌, ◌++◌, IfOk};
+ghost use Rattle.std.specs.Prelude.{◌≡◌, List, [], ◌∷◌, ◌++◌, IfOk};
 ghost use Rattle.cdc_app.specs.declared.statements.Statement.{Statement as Says};
 ghost use Rattle.cdc_app.specs.declared.statements.Statement.TheVariants as says;
 ghost use Rattle.cdc_app.specs.declared.drafts.OpenBatch.TheVariants as joined;
-ghost use Rattle.cdc_app.specs.Private.Drafts.{context_of, open_kind, completed, completed_batch, Takes};
-ghost use Rattle.cdc_app.specs.Scripts.{at_top, batches_of};
+ghost use Rattle.cdc_app.specs.Private.Drafts.{context_of, open_kind, completed, completed_batch, completed_bindings, Takes};
+ghost use Rattle.cdc_app.specs.Scripts.{at_top, batches_of, bindings_of};
 ghost use Rattle.cdc_app.specs.Private.Suited.{IsSuited, HasBatch};
 
 use crate::fields::ItemKind;
-use crate::scripts::ClientBatch;
+use crate::scripts::{ClientBatch, Script};
 use crate::statements::{Context, Statement};
+use cdc_match::Binding;
 use cdc_types::{Batch, Items, NewAccount, NewTransfer};
 use std::alloc::{AllocError, Global};
 use std::mem;
@@ -29,8 +30,8 @@ pub enum OpenBatch {
 /// What the lines so far say.
 #[derive(Drop)]
 pub struct Draft {
-    /// How many subscribers there are.
-    pub subscribers: usize,
+    /// The bindings of the subscribers.
+    pub bindings: Vec<Binding>,
     /// Whose the next batch is.
     pub client: u64,
     /// The last batch, where items may join it.
@@ -44,9 +45,10 @@ impl Draft {
     pub fn new(alloc: Global) -> Draft
         ensures context { context_of result ≡ at_top }
         ensures batches { (rest : List Says) → completed result rest ≡ batches_of 1 rest }
+        ensures bindings { (rest : List Says) → completed_bindings result rest ≡ bindings_of rest }
     {
         Draft {
-            subscribers: 0,
+            bindings: Vec::new(alloc),
             client: 1,
             open_batch: OpenBatch::Closed,
             batches: Vec::new(alloc),
@@ -64,18 +66,17 @@ impl Draft {
         };
         Context {
             open_batch,
-            subscribers: self.subscribers,
+            subscribers: self.bindings.len(),
         }
     }
 
     /// Takes in what the next line says.
     pub fn add(&mut self, alloc: Global, statement: Statement) -> Result<(), AllocError>
         requires suited { IsSuited (context_of self.old) statement }
-        requires room { self.old.subscribers + 1 < 2 ^ 64 }
         ensures { IfOk result (λ u. Takes self.old self.new statement) }
     {
         match statement {
-            Statement::Subscriber => self.add_subscriber(),
+            Statement::Subscriber(binding) => self.add_subscriber(binding),
             Statement::Client(client) => self.set_client(client),
             Statement::Accounts(now) => self.open_accounts(alloc, now),
             Statement::Transfers(now) => self.open_transfers(alloc, now),
@@ -85,27 +86,30 @@ impl Draft {
         }
     }
 
-    /// The batches of all lines.
-    pub fn finish(mut self) -> Result<Vec<ClientBatch>, AllocError>
-        ensures { IfOk result (λ batches. batches.items ≡ completed self []) }
+    /// The script of all lines.
+    pub fn finish(mut self) -> Result<Script, AllocError>
+        ensures batches { IfOk result (λ script. script.batches ≡ completed self []) }
+        ensures bindings { IfOk result (λ script. script.bindings ≡ completed_bindings self []) }
     {
         self.close()?;
         let Draft {
-            subscribers: _,
+            bindings,
             client: _,
             open_batch: _,
             batches,
         } = self;
-        Ok(batches)
+        Ok(Script {
+            bindings: Items::from_vec(bindings),
+            batches: Items::from_vec(batches),
+        })
     }
 
-    /// A subscriber comes.
-    fn add_subscriber(&mut self) -> Result<(), AllocError>
-        requires { self.old.subscribers + 1 < 2 ^ 64 }
-        ensures { IfOk result (λ u. Takes self.old self.new says.Subscriber) }
+    /// A subscriber with this binding comes.
+    fn add_subscriber(&mut self, binding: Binding) -> Result<(), AllocError>
+        ensures { IfOk result (λ u. Takes self.old self.new (says.Subscriber binding)) }
     {
         self.close()?;
-        self.subscribers += 1;
+        self.bindings.push(binding)?;
         Ok(())
     }
 

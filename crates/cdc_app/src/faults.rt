@@ -4,6 +4,7 @@ ghost use Rattle.std.specs.Prelude.{◌≡◌};
 ghost use Rattle.cdc_app.specs.Faults.{kind_number, kind_name};
 ghost use Rattle.cdc_app.specs.Report.{program_fault_line};
 
+use cdc_match::BindError;
 use std::alloc::AllocError;
 use std::io;
 use thiserror::Error;
@@ -65,6 +66,48 @@ impl FaultKind {
             FaultKind::BadClient => "bad_client",
             FaultKind::NoSubscriber => "no_subscriber",
             FaultKind::TooLong => "too_long",
+        }
+    }
+}
+
+/// Why a line wasn't read.
+#[derive(Clone, Copy, Debug, PartialEq, Eq)]
+pub enum LineError {
+    /// The line is bad.
+    Fault(FaultKind),
+    /// No memory was left.
+    OutOfMemory,
+}
+
+impl From<FaultKind> for LineError {
+    ghost use Rattle.cdc_app.specs.declared.faults.LineError.TheVariants.{Fault};
+
+    ghost from_gives = { λ kind e. e ≡ Fault kind };
+
+    fn from(kind: FaultKind) -> LineError {
+        LineError::Fault(kind)
+    }
+}
+
+impl From<AllocError> for LineError {
+    ghost use Rattle.cdc_app.specs.declared.faults.LineError.TheVariants.{OutOfMemory};
+
+    ghost from_gives = { λ _ e. e ≡ OutOfMemory };
+
+    fn from(_error: AllocError) -> LineError {
+        LineError::OutOfMemory
+    }
+}
+
+impl From<BindError> for LineError {
+    ghost use Rattle.cdc_app.specs.Refusals.{line_error};
+
+    ghost from_gives = { λ why e. e ≡ line_error why };
+
+    fn from(error: BindError) -> LineError {
+        match error {
+            BindError::OutOfMemory => LineError::OutOfMemory,
+            _ => LineError::Fault(FaultKind::BadBinding),
         }
     }
 }

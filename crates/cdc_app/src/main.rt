@@ -59,7 +59,7 @@ fn run_words(rt: &HostRuntime, words: &[String]) -> Ending {
         return give_up(rt, ProgramFault::OutOfMemory);
     };
     match options(rt.alloc(), texts.as_slice()) {
-        Ok(Options::Books { file }) => run_file(rt, Report::Book, file),
+        Ok(Options::Books { file }) => run_file(rt, Report::Books, file),
         Ok(Options::Messages { file }) => run_file(rt, Report::Messages, file),
         Ok(Options::Explain { text }) => explain(rt, text.as_str()),
         Err(OptionsFault::BadWords { message }) => refuse_words(rt, message.as_str()),
@@ -85,7 +85,7 @@ fn run_file(rt: &HostRuntime, report: Report, file: &str) -> Ending {
 fn run_reader<R: Read>(rt: &HostRuntime, report: Report, reader: &mut R) -> Ending {
     let mut writer = io::writer(rt);
     match report {
-        Report::Book => books(rt.alloc(), reader, &mut writer),
+        Report::Books => books(rt.alloc(), reader, &mut writer),
         Report::Messages => messages(rt.alloc(), reader, &mut writer),
     }
 }

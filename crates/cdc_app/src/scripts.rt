@@ -9,9 +9,10 @@ ghost use Rattle.cdc_app.specs.Refusals.{IsFault, ConsumesAtMost};
 ghost use Rattle.cdc_app.specs.Scripts.{max_bytes, script_of_lines, script_of};
 
 use crate::drafts::Draft;
-use crate::faults::{FaultKind, ScriptError, ScriptFault};
+use crate::faults::{FaultKind, LineError, ScriptError, ScriptFault};
 use crate::statements::read_statement;
 use crate::words::next_line;
+use cdc_match::Binding;
 use cdc_types::{Batch, Items, Limits};
 use std::alloc::Global;
 use std::io::Read;
@@ -25,9 +26,11 @@ pub struct ClientBatch {
     pub batch: Batch,
 }
 
-/// What a script says. It has one subscriber, of all events.
+/// What a script says.
 #[derive(Drop)]
 pub struct Script {
+    /// The bindings of the subscribers, in the order of their lines: there are from 1 to 8.
+    pub bindings: Items<Binding>,
     /// The batches in the order of their lines.
     pub batches: Items<ClientBatch>,
 }
@@ -70,10 +73,11 @@ fn read_lines(alloc: Global, text: &[u8]) -> Result<Draft, ScriptError>
     let mut line_number: u64 = 0;
     while let Some((line, after)) = next_line(rest) {
         line_number += 1;
-        match read_statement(line, draft.context()) {
+        match read_statement(alloc, line, draft.context()) {
             Ok(None) => {}
             Ok(Some(statement)) => draft.add(alloc, statement)?,
-            Err(kind) => return Err(script_error(line_number, kind)),
+            Err(LineError::Fault(kind)) => return Err(script_error(line_number, kind)),
+            Err(LineError::OutOfMemory) => return Err(ScriptError::OutOfMemory),
         }
         rest = after;
     }
@@ -88,13 +92,10 @@ fn parse(alloc: Global, text: &[u8]) -> Result<Script, ScriptError>
         return Err(script_error(0, FaultKind::TooLong));
     }
     let draft = read_lines(alloc, text)?;
-    if draft.subscribers == 0 {
+    if draft.bindings.is_empty() {
         return Err(script_error(0, FaultKind::NoSubscriber));
     }
-    let batches = draft.finish()?;
-    Ok(Script {
-        batches: Items::from_vec(batches),
-    })
+    Ok(draft.finish()?)
 }
 
 /// A fault of a script as an error.

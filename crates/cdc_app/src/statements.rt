@@ -1,21 +1,28 @@
 //! What each line of a script says.
 
-ghost use Rattle.std.specs.Prelude.{◌≡◌, Ok, Err, IfOk, IfSome, MatchResult};
-ghost use Rattle.cdc_app.specs.Statements.{ended, number_word, binding_line, subscriber_line, client_line, moment_line, account_line, transfer_line, meaning, line_says};
+ghost use Rattle.std.specs.Prelude.{◌≡◌, false, true, codes, map, Ok, Err, IfOk, IfSome, MatchOption, MatchResult};
+ghost use Rattle.std.specs.List.{list_all, take_while};
+ghost use Rattle.std.specs.Str.{bytes_eq};
+ghost use Rattle.cdc_match.specs.Parsing.{arguments_of};
+ghost use Rattle.cdc_app.specs.Refusals.{IsLineFault};
+ghost use Rattle.cdc_app.specs.Statements.{ended, number_word, binding_line, readable, subscriber_line, client_line, moment_line, account_line, transfer_line, meaning, line_says};
 ghost use Rattle.cdc_app.specs.Private.Suited.{IsSuited, IsNoItem, HasBatch};
-ghost use Rattle.cdc_app.specs.Words.{words as words_of};
+ghost use Rattle.cdc_app.specs.Words.{words as words_of, is_printable};
 
-use crate::faults::FaultKind;
+use crate::faults::{FaultKind, LineError};
 use crate::fields::{ItemKind, read_fields};
 use crate::numbers::read_number;
 use crate::words::{is_printable_word, next_word};
+use cdc_match::Binding;
 use cdc_types::{Limits, NewAccount, NewTransfer};
+use std::alloc::{AllocError, Global};
+use std::str;
 
 /// What a line says.
-#[derive(Clone, Copy, Debug, PartialEq, Eq)]
+#[derive(Drop)]
 pub enum Statement {
-    /// There is a subscriber of all events.
-    Subscriber,
+    /// There is a subscriber with this binding.
+    Subscriber(Binding),
     /// Later batches are this client's.
     Client(u64),
     /// A batch of accounts begins, at this moment in nanoseconds.
@@ -40,8 +47,13 @@ pub struct Context {
 }
 
 /// What a line says; nothing where it is blank or a comment.
-pub fn read_statement(line: &[u8], context: Context) -> Result<Option<Statement>, FaultKind>
-    ensures says { result ≡ line_says context line.now }
+pub fn read_statement(
+    alloc: Global,
+    line: &[u8],
+    context: Context,
+) -> Result<Option<Statement>, LineError>
+    ensures says { MatchResult result (λ said. line_says context line.now ≡ Ok said)
+        (λ error. IsLineFault error (line_says context line.now)) }
     ensures suited { IfOk result (λ said. IfSome said (IsSuited context)) }
 {
     if let [b'#', ..] = line {
@@ -49,19 +61,40 @@ pub fn read_statement(line: &[u8], context: Context) -> Result<Option<Statement>
     }
     match next_word(line) {
         None => Ok(None),
-        Some((first, rest)) => Ok(Some(read_words(first, rest, context)?)),
+        Some((first, rest)) => Ok(Some(read_words(alloc, first, rest, context)?)),
     }
 }
 
 /// What the words of a line say.
-fn read_words(first: &[u8], rest: &[u8], context: Context) -> Result<Statement, FaultKind>
+fn read_words(
+    alloc: Global,
+    first: &[u8],
+    rest: &[u8],
+    context: Context,
+) -> Result<Statement, LineError>
+    ensures says { MatchResult result (λ said. meaning context first.now (words_of rest.now) ≡ Ok said)
+        (λ error. IsLineFault error (meaning context first.now (words_of rest.now))) }
+    ensures suited { IfOk result (IsSuited context) }
+{
+    if first == b"subscriber".as_slice() {
+        read_subscriber(alloc, rest, context.subscribers)
+    } else {
+        Ok(read_other_words(first, rest, context)?)
+    }
+}
+
+/// What the words of a line say that is no subscriber line.
+fn read_other_words(
+    first: &[u8],
+    rest: &[u8],
+    context: Context,
+) -> Result<Statement, FaultKind>
+    requires { bytes_eq first.now (codes "subscriber") ≡ false }
     ensures says { result ≡ meaning context first.now (words_of rest.now) }
     ensures suited { IfOk result (IsSuited context) }
 {
     if !is_printable_word(first) {
         Err(FaultKind::BadText)
-    } else if first == b"subscriber".as_slice() {
-        read_subscriber(rest, context.subscribers)
     } else if first == b"client".as_slice() {
         read_client(rest)
     } else if first == b"accounts".as_slice() {
@@ -79,30 +112,86 @@ fn read_words(first: &[u8], rest: &[u8], context: Context) -> Result<Statement, 
     }
 }
 
-/// A subscriber line. So far a script has one.
-fn read_subscriber(words: &[u8], subscribers: usize) -> Result<Statement, FaultKind>
-    ensures says { result ≡ subscriber_line subscribers (words_of words.now) }
+/// A subscriber line. Where a script has as many subscribers as it may have, the binding isn't looked at.
+fn read_subscriber(alloc: Global, words: &[u8], subscribers: usize) -> Result<Statement, LineError>
+    ensures says { MatchResult result (λ said. subscriber_line subscribers (words_of words.now) ≡ Ok said)
+        (λ error. IsLineFault error (subscriber_line subscribers (words_of words.now))) }
     ensures no_item { IfOk result IsNoItem }
 {
-    if subscribers > 0 {
-        return Err(FaultKind::TooManySubscribers);
+    if subscribers >= Limits::SUBSCRIBERS {
+        return Err(LineError::Fault(FaultKind::TooManySubscribers));
     }
-    read_binding(words)
+    read_binding(alloc, words)
 }
 
-/// The binding of a subscriber. Today it has to be `all`.
-fn read_binding(words: &[u8]) -> Result<Statement, FaultKind>
-    ensures says { result ≡ binding_line (words_of words.now) }
+/// The binding of a subscriber. What stands left of a word that isn't printable is asked first.
+fn read_binding(alloc: Global, words: &[u8]) -> Result<Statement, LineError>
+    ensures says { MatchResult result (λ said. binding_line (words_of words.now) ≡ Ok said)
+        (λ error. IsLineFault error (binding_line (words_of words.now))) }
     ensures no_item { IfOk result IsNoItem }
 {
-    let (mode, rest) = next_word(words).ok_or(FaultKind::BadBinding)?;
-    if !is_printable_word(mode) {
-        return Err(FaultKind::BadText);
+    let LeadingWords { texts, are_all } = leading_words(alloc, words)?;
+    if texts.is_empty() && !are_all {
+        return Err(LineError::Fault(FaultKind::BadText));
     }
-    if mode != b"all".as_slice() {
-        return Err(FaultKind::BadBinding);
+    let binding = parse_binding(alloc, texts.as_slice())?;
+    if !are_all {
+        return Err(LineError::Fault(FaultKind::BadText));
     }
-    at_end(rest, FaultKind::BadBinding, Statement::Subscriber)
+    Ok(Statement::Subscriber(binding))
+}
+
+/// The binding that texts say.
+fn parse_binding(alloc: Global, texts: &[&str]) -> Result<Binding, LineError>
+    ensures says { MatchResult result (λ binding. readable (arguments_of (map (λ text. text.now) texts.now)) ≡ Ok binding)
+        (λ error. IsLineFault error (readable (arguments_of (map (λ text. text.now) texts.now)))) }
+{
+    Ok(Binding::parse(alloc, texts)?)
+}
+
+/// The printable words from the left on.
+#[derive(Drop)]
+struct LeadingWords<'a> {
+    /// These words.
+    texts: Vec<&'a str>,
+    /// Whether they are all words.
+    are_all: bool,
+}
+
+/// The words before the first one that isn't printable.
+fn leading_words<'a>(alloc: Global, words: &'a [u8]) -> Result<LeadingWords<'a>, AllocError>
+    ensures texts { IfOk result (λ leading. map (λ text. text.now) leading.texts.items ≡ take_while is_printable (words_of words.now)) }
+    ensures are_all { IfOk result (λ leading. leading.are_all ≡ list_all is_printable (words_of words.now)) }
+{
+    let mut texts = Vec::new(alloc);
+    let mut rest = words;
+    while let Some((word, after)) = next_word(rest) {
+        let Some(text) = printable_text(word) else {
+            return Ok(LeadingWords {
+                texts,
+                are_all: false,
+            });
+        };
+        texts.push(text)?;
+        rest = after;
+    }
+    Ok(LeadingWords {
+        texts,
+        are_all: true,
+    })
+}
+
+/// A printable word as a text.
+#[tactic(auto, using(crate::proofs::PrintableLemmas::printable_text))]
+fn printable_text(word: &[u8]) -> Option<&str>
+    ensures { MatchOption result (is_printable word.now ≡ false)
+        (λ text. (is_printable word.now ≡ true) × (text.now ≡ word.now)) }
+{
+    if is_printable_word(word) {
+        str::from_utf8(word).ok()
+    } else {
+        None
+    }
 }
 
 /// A client line.
@@ -114,7 +203,11 @@ fn read_client(words: &[u8]) -> Result<Statement, FaultKind>
     if number == 0 || number > Limits::CLIENTS {
         return Err(FaultKind::BadClient);
     }
-    at_end(rest, FaultKind::WrongCount, Statement::Client(number))
+    Ok(Statement::Client(at_end(
+        rest,
+        FaultKind::WrongCount,
+        number,
+    )?))
 }
 
 /// The moment of a batch, alone, in nanoseconds.

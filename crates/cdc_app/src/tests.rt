@@ -21,231 +21,231 @@ struct Run {
 static RUNS: [Run; 38] = [
     Run {
         what: "a subscriber alone",
-        report: Report::Book,
+        report: Report::Books,
         script: "subscriber all\n",
         printed: "subscriber 1 applied 0 last 0 ended yes closed no\n",
         status: 0,
     },
     Run {
         what: "one transfer",
-        report: Report::Book,
+        report: Report::Books,
         script: "subscriber all\naccounts 1000\naccount id=1 ledger=700 code=10\naccount id=2 ledger=700 code=10\ntransfers 2000\ntransfer id=1 debit_account_id=1 credit_account_id=2 amount=100 ledger=700 code=1\n",
         printed: "batch 1: 0 0\nbatch 2: 0\nsubscriber 1 applied 1 last 2000 ended yes closed no\naccount 1 0 100 0 0\naccount 2 0 0 0 100\n",
         status: 0,
     },
     Run {
         what: "a transfer and one back",
-        report: Report::Book,
+        report: Report::Books,
         script: "subscriber all\naccounts 1000\naccount id=1 ledger=700 code=10\naccount id=2 ledger=700 code=10\ntransfers 2000\ntransfer id=1 debit_account_id=1 credit_account_id=2 amount=5 ledger=700 code=1\ntransfer id=2 debit_account_id=1 credit_account_id=2 amount=7 ledger=700 code=1\n",
         printed: "batch 1: 0 0\nbatch 2: 0 0\nsubscriber 1 applied 2 last 2001 ended yes closed no\naccount 1 0 12 0 0\naccount 2 0 0 0 12\n",
         status: 0,
     },
     Run {
         what: "limits on balances, over two batches",
-        report: Report::Book,
+        report: Report::Books,
         script: "subscriber all\naccounts 1000\naccount id=1 ledger=700 code=10 flags=2\naccount id=2 ledger=700 code=10\ntransfers 2000\ntransfer id=1 debit_account_id=2 credit_account_id=1 amount=100 ledger=700 code=1\ntransfer id=2 debit_account_id=1 credit_account_id=2 amount=101 ledger=700 code=1\ntransfer id=3 debit_account_id=1 credit_account_id=2 amount=100 ledger=700 code=1\ntransfer id=4 debit_account_id=1 credit_account_id=2 amount=1 ledger=700 code=1\ntransfers 5\ntransfer id=5 debit_account_id=2 credit_account_id=1 amount=1 ledger=700 code=1\n",
         printed: "batch 1: 0 0\nbatch 2: 0 36 0 36\nbatch 3: 0\nsubscriber 1 applied 3 last 2004 ended yes closed no\naccount 2 0 101 0 100\naccount 1 0 100 0 101\n",
         status: 0,
     },
     Run {
         what: "sums that would overflow",
-        report: Report::Book,
+        report: Report::Books,
         script: "subscriber all\naccounts 1000\naccount id=1 ledger=700 code=10\naccount id=2 ledger=700 code=10\ntransfers 2000\ntransfer id=1 debit_account_id=1 credit_account_id=2 amount=340282366920938463463374607431768211455 ledger=700 code=1\ntransfer id=2 debit_account_id=1 credit_account_id=2 amount=1 ledger=700 code=1\n",
         printed: "batch 1: 0 0\nbatch 2: 0 31\nsubscriber 1 applied 1 last 2000 ended yes closed no\naccount 1 0 340282366920938463463374607431768211455 0 0\naccount 2 0 0 0 340282366920938463463374607431768211455\n",
         status: 0,
     },
     Run {
         what: "a moment that is no number",
-        report: Report::Book,
+        report: Report::Books,
         script: "subscriber all\naccounts x\n",
         printed: "fault: script line 2: bad_number\n",
         status: 2,
     },
     Run {
         what: "no bytes at all",
-        report: Report::Book,
+        report: Report::Books,
         script: "",
         printed: "fault: script line 0: no_subscriber\n",
         status: 2,
     },
     Run {
         what: "a tab is no space",
-        report: Report::Book,
+        report: Report::Books,
         script: "subscriber all\naccounts\t5\n",
         printed: "fault: script line 2: bad_text\n",
         status: 2,
     },
     Run {
         what: "a carriage return at the very end",
-        report: Report::Book,
+        report: Report::Books,
         script: "subscriber all\npulse 5\r",
         printed: "fault: script line 2: bad_text\n",
         status: 2,
     },
     Run {
         what: "two carriage returns before a line feed",
-        report: Report::Book,
+        report: Report::Books,
         script: "subscriber all\npulse 5\r\r\n",
         printed: "fault: script line 2: bad_text\n",
         status: 2,
     },
     Run {
         what: "a word that no line begins with",
-        report: Report::Book,
+        report: Report::Books,
         script: "subscriber all\n\naccount5\n",
         printed: "fault: script line 3: unknown_word\n",
         status: 2,
     },
     Run {
         what: "a number sign behind a space",
-        report: Report::Book,
+        report: Report::Books,
         script: "subscriber all\n # 5\n",
         printed: "fault: script line 2: unknown_word\n",
         status: 2,
     },
     Run {
         what: "a moment is missing",
-        report: Report::Book,
+        report: Report::Books,
         script: "subscriber all\naccounts\n",
         printed: "fault: script line 2: wrong_count\n",
         status: 2,
     },
     Run {
         what: "a word too many",
-        report: Report::Book,
+        report: Report::Books,
         script: "subscriber all\npulse 5 6\n",
         printed: "fault: script line 2: wrong_count\n",
         status: 2,
     },
     Run {
         what: "an item without a field",
-        report: Report::Book,
+        report: Report::Books,
         script: "subscriber all\naccounts 5\naccount\n",
         printed: "fault: script line 3: wrong_count\n",
         status: 2,
     },
     Run {
         what: "a bad number comes before a word too many",
-        report: Report::Book,
+        report: Report::Books,
         script: "subscriber all\npulse x 6\n",
         printed: "fault: script line 2: bad_number\n",
         status: 2,
     },
     Run {
         what: "a sign is no digit",
-        report: Report::Book,
+        report: Report::Books,
         script: "subscriber all\naccounts 5\naccount id=+1\n",
         printed: "fault: script line 3: bad_number\n",
         status: 2,
     },
     Run {
         what: "a value without a digit",
-        report: Report::Book,
+        report: Report::Books,
         script: "subscriber all\naccounts 5\naccount id=\n",
         printed: "fault: script line 3: bad_number\n",
         status: 2,
     },
     Run {
         what: "a moment of more than 64 bits",
-        report: Report::Book,
+        report: Report::Books,
         script: "subscriber all\npulse 18446744073709551616\n",
         printed: "fault: script line 2: number_out_of_range\n",
         status: 2,
     },
     Run {
         what: "a code of more than 16 bits",
-        report: Report::Book,
+        report: Report::Books,
         script: "subscriber all\naccounts 5\naccount id=1 code=65536\n",
         printed: "fault: script line 3: number_out_of_range\n",
         status: 2,
     },
     Run {
         what: "a word without an equals sign",
-        report: Report::Book,
+        report: Report::Books,
         script: "subscriber all\naccounts 5\naccount id\n",
         printed: "fault: script line 3: unknown_key\n",
         status: 2,
     },
     Run {
         what: "an unknown key, whatever its value",
-        report: Report::Book,
+        report: Report::Books,
         script: "subscriber all\naccounts 5\naccount amount=x\n",
         printed: "fault: script line 3: unknown_key\n",
         status: 2,
     },
     Run {
         what: "a key that stands twice",
-        report: Report::Book,
+        report: Report::Books,
         script: "subscriber all\naccounts 5\naccount id=1 code=1 id=2\n",
         printed: "fault: script line 3: key_twice\n",
         status: 2,
     },
     Run {
         what: "an account in no batch",
-        report: Report::Book,
+        report: Report::Books,
         script: "subscriber all\naccount x\n",
         printed: "fault: script line 2: no_open_batch\n",
         status: 2,
     },
     Run {
         what: "an account in a batch of transfers",
-        report: Report::Book,
+        report: Report::Books,
         script: "subscriber all\ntransfers 5\naccount id=1\n",
         printed: "fault: script line 3: no_open_batch\n",
         status: 2,
     },
     Run {
         what: "a batch that a client line has ended",
-        report: Report::Book,
+        report: Report::Books,
         script: "subscriber all\naccounts 5\nclient 2\naccount id=1\n",
         printed: "fault: script line 4: no_open_batch\n",
         status: 2,
     },
     Run {
         what: "a subscriber without a binding",
-        report: Report::Book,
+        report: Report::Books,
         script: "subscriber\n",
         printed: "fault: script line 1: bad_binding\n",
         status: 2,
     },
     Run {
         what: "a binding that cannot be read yet",
-        report: Report::Book,
+        report: Report::Books,
         script: "subscriber any\n",
         printed: "fault: script line 1: bad_binding\n",
         status: 2,
     },
     Run {
         what: "a second subscriber",
-        report: Report::Book,
+        report: Report::Books,
         script: "subscriber all\nsubscriber x\n",
         printed: "fault: script line 2: too_many_subscribers\n",
         status: 2,
     },
     Run {
         what: "a client of another number",
-        report: Report::Book,
+        report: Report::Books,
         script: "subscriber all\nclient 9 9\n",
         printed: "fault: script line 2: bad_client\n",
         status: 2,
     },
     Run {
         what: "a word too many behind a client",
-        report: Report::Book,
+        report: Report::Books,
         script: "subscriber all\nclient 1 9\n",
         printed: "fault: script line 2: wrong_count\n",
         status: 2,
     },
     Run {
         what: "no subscriber",
-        report: Report::Book,
+        report: Report::Books,
         script: "accounts 5\naccount id=1\n",
         printed: "fault: script line 0: no_subscriber\n",
         status: 2,
     },
     Run {
         what: "comments, blank lines, spaces, leading zeros and ends of lines",
-        report: Report::Book,
+        report: Report::Books,
         script: "# \x7f\tany bytes\n  subscriber   all  \r\n   \naccounts 007\n# a comment ends no batch\n\naccount id=01 ledger=1 code=1\nclient 2\ntransfers 8\npulse 9",
         printed: "batch 1: 0\nbatch 2:\nbatch 3: pulse 0\nsubscriber 1 applied 0 last 0 ended yes closed no\n",
         status: 0,
@@ -292,7 +292,7 @@ fn run_of(alloc: Global, report: Report, script: &[u8]) -> (Vec<u8>, Ending) {
     let mut printed = Vec::new(alloc);
     let mut reader = script;
     let ending = match report {
-        Report::Book => books(alloc, &mut reader, &mut printed),
+        Report::Books => books(alloc, &mut reader, &mut printed),
         Report::Messages => messages(alloc, &mut reader, &mut printed),
     };
     (printed, ending)
@@ -342,7 +342,7 @@ fn crowded(alloc: Global) -> Result<String, AllocError> {
 #[test]
 fn batches_that_are_refused(rt: HostRuntime) -> Result<(), Fail> {
     let script = crowded(rt.alloc())?;
-    let (printed, ending) = run_of(rt.alloc(), Report::Book, script.as_bytes());
+    let (printed, ending) = run_of(rt.alloc(), Report::Books, script.as_bytes());
     let wanted =
         b"batch 1 refused: 2 batch_too_large\nbatch 2 refused: 3 timestamps_exhausted\nbatch 3: 0\nbatch 4: pulse 0\nbatch 5 refused: 3 timestamps_exhausted\nsubscriber 1 applied 0 last 0 ended yes closed no\n";
     assert_eq!(rt; printed.as_slice(), wanted.as_slice());
@@ -353,14 +353,14 @@ fn batches_that_are_refused(rt: HostRuntime) -> Result<(), Fail> {
 #[test]
 fn a_byte_too_many(rt: HostRuntime) -> Result<(), Fail> {
     let most = vec![in rt.alloc(); b' '; 1_048_576]?;
-    let (printed, ending) = run_of(rt.alloc(), Report::Book, most.as_slice());
+    let (printed, ending) = run_of(rt.alloc(), Report::Books, most.as_slice());
     assert_eq!(rt;
         printed.as_slice(),
         b"fault: script line 0: no_subscriber\n".as_slice()
     );
     assert_eq!(rt; ending.status(), 2);
     let more = vec![in rt.alloc(); b' '; 1_048_577]?;
-    let (printed, ending) = run_of(rt.alloc(), Report::Book, more.as_slice());
+    let (printed, ending) = run_of(rt.alloc(), Report::Books, more.as_slice());
     assert_eq!(rt;
         printed.as_slice(),
         b"fault: script line 0: too_long\n".as_slice()
@@ -494,7 +494,7 @@ fn many_transfers(alloc: Global) -> Result<String, AllocError> {
 #[test]
 fn a_large_script(rt: HostRuntime) -> Result<(), Fail> {
     let script = many_transfers(rt.alloc())?;
-    let (printed, ending) = run_of(rt.alloc(), Report::Book, script.as_bytes());
+    let (printed, ending) = run_of(rt.alloc(), Report::Books, script.as_bytes());
     assert_eq!(rt; ending.status(), 0);
     let end =
         b" 0\nsubscriber 1 applied 2000 last 2999 ended yes closed no\naccount 1 0 2000 0 0\naccount 2 0 0 0 2000\n";

@@ -8,7 +8,6 @@ abbrev pub invariant-loop-line : goal.invariant-loop-line
 invariant-loop-line l = record {
   same : continued l.draft (l.line_number + 1) l.rest ≡ script_of_lines (lines l.text);
   count : l.line_number + length l.rest ≤ length l.text;
-  subscribers : l.draft.subscribers ≤ l.line_number;
 }
 
 abbrev pub decreases-loop-line : goal.decreases-loop-line
