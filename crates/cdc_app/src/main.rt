@@ -92,7 +92,7 @@ fn run_reader<R: Read>(rt: &HostRuntime, report: Report, reader: &mut R) -> Endi
 
 /// Prints what was asked about the program itself.
 fn explain(rt: &HostRuntime, text: &str) -> Ending {
-    let ending = print_text(&mut io::writer(rt), text, Ending::Done);
+    let ending = print_text(&mut io::writer(rt), text.as_bytes(), Ending::Done);
     advise(rt, STANDARD_INPUT, ending);
     ending
 }
