@@ -1,5 +1,5 @@
 -- The definitions at work: what they compute for small scripts, beside what the rules say in words.
-use Rattle.std.specs.Prelude.{ℕ, ◌≡◌, Result, Ok, Err, List, [], ◌∷◌, codes}
+use Rattle.std.specs.Prelude.{ℕ, ◌≡◌, Result, Ok, Err, List, [], ◌∷◌, ◌++◌, codes}
 use Rattle.std.proofs.Common.{refl}
 use Rattle.std.specs.Fmt.{digits}
 use Rattle.cdc_types.specs.declared.accounts.NewAccount.{NewAccount}
@@ -16,9 +16,10 @@ use Rattle.cdc_app.specs.declared.faults.FaultKind.{FaultKind}
 use Rattle.cdc_app.specs.declared.faults.FaultKind.TheVariants as kind
 use Rattle.cdc_app.specs.declared.faults.ScriptFault.{ScriptFault}
 use Rattle.cdc_app.specs.declared.scripts.Script.{Script}
+use Rattle.cdc_message.specs.Bodies.{body}
 use Rattle.cdc_app.specs.Book.{book_of}
 use Rattle.cdc_app.specs.Printed.{outcome_of}
-use Rattle.cdc_app.specs.declared.commands.Report.TheVariants.{Book}
+use Rattle.cdc_app.specs.declared.commands.Report.TheVariants.{Book, Messages}
 use Rattle.cdc_app.specs.Report.{batch_line, subscriber_lines}
 use Rattle.cdc_app.specs.Scripts.{script_of}
 
@@ -32,8 +33,8 @@ abbrev fault : ℕ → FaultKind → Result Script ScriptFault
 fault line kind = Err (record { line = line; kind = kind })
 
 -- a script with a comment, a blank line and a carriage return: two batches, the second one of client 2 and empty
-reads_batches : script_of
-    (codes "# a comment\nsubscriber all\r\naccounts 1000\naccount id=1 ledger=700\n\naccount code=10 ledger=700 id=002\nclient 2\ntransfers 2000\n")
+reads_batches : script_of (codes "# a comment\nsubscriber all\r\naccounts 1000\naccount id=1 ledger=700\n"
+    ++ codes "\naccount code=10 ledger=700 id=002\nclient 2\ntransfers 2000\n")
     ≡ Ok (record {
       batches =
           record { client = 1; batch = batch.Accounts 1000 (account 1 0 ∷ account 2 10 ∷ []) }
@@ -129,24 +130,55 @@ keeps_credited = refl
 
 -- what a subscriber prints of these events
 prints_subscriber : subscriber_lines 1 two_events
-    ≡ codes "subscriber 1 applied 2 last 2001 ended yes closed no\naccount 2 0 5 0 0\naccount 1 0 7 0 5\naccount 3 0 0 0 7\n"
+    ≡ codes "subscriber 1 applied 2 last 2001 ended yes closed no\n"
+    ++ codes "account 2 0 5 0 0\naccount 1 0 7 0 5\naccount 3 0 0 0 7\n"
 unfolding digits
 prints_subscriber = refl
 
--- from bytes to bytes: one transfer
-prints_transfer : outcome_of Book
-    (codes "subscriber all\naccounts 1000\naccount id=1 ledger=700 code=10\naccount id=2 ledger=700 code=10\ntransfers 2000\ntransfer id=1 debit_account_id=1 credit_account_id=2 amount=100 ledger=700 code=1\n")
-    ≡ record {
-      text = codes "batch 1: 0 0\nbatch 2: 0\nsubscriber 1 applied 1 last 2000 ended yes closed no\naccount 1 0 100 0 0\naccount 2 0 0 0 100\n";
-      ending = Done;
-    }
+-- two accounts, and one transfer of 100 between them
+abbrev one_transfer : List ℕ
+one_transfer =
+    codes "subscriber all\naccounts 1000\naccount id=1 ledger=700 code=10\naccount id=2 ledger=700 code=10\n"
+    ++ codes "transfers 2000\n"
+    ++ codes "transfer id=1 debit_account_id=1 credit_account_id=2 amount=100 ledger=700 code=1\n"
+
+-- from bytes to bytes: the book of one transfer
+prints_transfer : outcome_of Book one_transfer ≡ record {
+  text = codes "batch 1: 0 0\nbatch 2: 0\nsubscriber 1 applied 1 last 2000 ended yes closed no\n"
+      ++ codes "account 1 0 100 0 0\naccount 2 0 0 0 100\n";
+  ending = Done;
+}
 unfolding digits
 prints_transfer = refl
 
+-- the headers of its message
+abbrev its_headers : List ℕ
+its_headers =
+    codes "event_type=single_phase ledger=700 transfer_code=1 debit_account_code=10 credit_account_code=10"
+    ++ codes " timestamp=0"
+
+-- the body of its message
+abbrev its_body : List ℕ
+its_body =
+    codes "{\"credit_account\":{\"code\":10,\"credits_pending\":\"0\",\"credits_posted\":\"100\","
+    ++ codes "\"debits_pending\":\"0\",\"debits_posted\":\"0\",\"flags\":0,\"id\":\"2\","
+    ++ codes "\"timestamp\":\"1001\",\"user_data_128\":\"0\",\"user_data_32\":0,\"user_data_64\":\"0\"},"
+    ++ codes "\"debit_account\":{\"code\":10,\"credits_pending\":\"0\",\"credits_posted\":\"0\","
+    ++ codes "\"debits_pending\":\"0\",\"debits_posted\":\"100\",\"flags\":0,\"id\":\"1\","
+    ++ codes "\"timestamp\":\"1000\",\"user_data_128\":\"0\",\"user_data_32\":0,\"user_data_64\":\"0\"},"
+    ++ codes "\"ledger\":700,\"timestamp\":\"2000\",\"transfer\":{\"amount\":\"100\",\"code\":1,\"flags\":0,"
+    ++ codes "\"id\":\"1\",\"pending_id\":\"0\",\"timeout\":0,\"timestamp\":\"2000\",\"user_data_128\":\"0\","
+    ++ codes "\"user_data_32\":0,\"user_data_64\":\"0\"},\"type\":\"single_phase\"}"
+
+-- from bytes to bytes: the message of one transfer
+prints_message : outcome_of Messages one_transfer
+    ≡ record { text = its_headers ++ codes "\n" ++ (its_body ++ codes "\n"); ending = Done }
+unfolding digits body
+prints_message = refl
+
 -- from bytes to bytes: a bad script
-prints_fault : outcome_of Book (codes "subscriber all\naccounts x") ≡ record {
-  text =
-      codes "fault: script line 2: bad_number\n";
+prints_fault : outcome_of Messages (codes "subscriber all\naccounts x") ≡ record {
+  text = codes "fault: script line 2: bad_number\n";
   ending = BadScript (record { line = 2; kind = kind.BadNumber });
 }
 unfolding digits
