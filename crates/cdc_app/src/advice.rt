@@ -70,7 +70,7 @@ fn expected(kind: FaultKind) -> &'static str {
         }
         FaultKind::KeyTwice => "a key stands once in a line",
         FaultKind::NoOpenBatch => {
-            "account lines follow a line accounts NOW, and transfer lines a line transfers NOW, with no other line between"
+            "account lines follow a line accounts NOW, and transfer lines a line transfers NOW, with nothing but blank lines and comments between"
         }
         FaultKind::BadBinding => "the words after subscriber are all, alone",
         FaultKind::TooManySubscribers => "a script has one subscriber line",
