@@ -1,5 +1,5 @@
 -- The definitions at work: what they compute for small scripts, beside what the rules say in words.
-use Rattle.std.specs.Prelude.{ℕ, ◌≡◌, Result, Ok, Err, List, [], ◌∷◌, codes}
+use Rattle.std.specs.Prelude.{ℕ, ◌≡◌, Result, Ok, Err, List, [], ◌∷◌, ◌++◌, codes}
 use Rattle.std.proofs.Common.{refl}
 use Rattle.std.specs.Fmt.{digits}
 use Rattle.cdc_types.specs.declared.accounts.NewAccount.{NewAccount}
@@ -12,6 +12,7 @@ use Rattle.cdc_types.specs.declared.results.TransferResult.TheVariants.{Accepted
 use Rattle.cdc_ledger.specs.declared.errors.BatchError.TheVariants.{BatchTooLarge}
 use Rattle.cdc_match.specs.declared.pairs.Mode.TheVariants as mode
 use Rattle.cdc_match.specs.declared.pairs.Pair.TheVariants as pair
+use Rattle.cdc_message.specs.Bodies.{body}
 use Rattle.cdc_app.specs.declared.endings.Ending.TheVariants.{Done, BadScript}
 use Rattle.cdc_app.specs.declared.faults.FaultKind.{FaultKind}
 use Rattle.cdc_app.specs.declared.faults.FaultKind.TheVariants as kind
@@ -20,7 +21,7 @@ use Rattle.cdc_app.specs.declared.scripts.Script.{Script}
 use Rattle.cdc_app.specs.Feeds.{line_of, subscribers_text}
 use Rattle.cdc_app.specs.Held.{every_event}
 use Rattle.cdc_app.specs.Printed.{outcome_of}
-use Rattle.cdc_app.specs.declared.commands.Report.TheVariants.{Books}
+use Rattle.cdc_app.specs.declared.commands.Report.TheVariants.{Books, Messages}
 use Rattle.cdc_app.specs.Report.{batch_line}
 use Rattle.cdc_app.specs.Scripts.{script_of}
 
@@ -134,20 +135,50 @@ prints_subscribers : subscribers_text 1 (line_of two_events)
 unfolding digits
 prints_subscribers = refl
 
--- from bytes to bytes: one transfer
-prints_transfer : outcome_of Books
-    (codes "subscriber all\naccounts 1000\naccount id=1 ledger=700 code=10\naccount id=2 ledger=700 code=10\ntransfers 2000\ntransfer id=1 debit_account_id=1 credit_account_id=2 amount=100 ledger=700 code=1\n")
-    ≡ record {
-      text = codes "batch 1: 0 0\nbatch 2: 0\nsubscriber 1 applied 1 last 2000 ended yes closed no\naccount 1 0 100 0 0\naccount 2 0 0 0 100\n";
-      ending = Done;
-    }
+-- two accounts, and one transfer of 100 between them
+abbrev one_transfer : List ℕ
+one_transfer =
+    codes "subscriber all\naccounts 1000\naccount id=1 ledger=700 code=10\naccount id=2 ledger=700 code=10\n"
+    ++ codes "transfers 2000\n"
+    ++ codes "transfer id=1 debit_account_id=1 credit_account_id=2 amount=100 ledger=700 code=1\n"
+
+-- from bytes to bytes: the book of one transfer
+prints_transfer : outcome_of Books one_transfer ≡ record {
+  text = codes "batch 1: 0 0\nbatch 2: 0\nsubscriber 1 applied 1 last 2000 ended yes closed no\n"
+      ++ codes "account 1 0 100 0 0\naccount 2 0 0 0 100\n";
+  ending = Done;
+}
 unfolding digits
 prints_transfer = refl
 
+-- the headers of its message
+abbrev its_headers : List ℕ
+its_headers =
+    codes "event_type=single_phase ledger=700 transfer_code=1 debit_account_code=10 credit_account_code=10"
+    ++ codes " timestamp=0"
+
+-- the body of its message
+abbrev its_body : List ℕ
+its_body =
+    codes "{\"credit_account\":{\"code\":10,\"credits_pending\":\"0\",\"credits_posted\":\"100\","
+    ++ codes "\"debits_pending\":\"0\",\"debits_posted\":\"0\",\"flags\":0,\"id\":\"2\","
+    ++ codes "\"timestamp\":\"1001\",\"user_data_128\":\"0\",\"user_data_32\":0,\"user_data_64\":\"0\"},"
+    ++ codes "\"debit_account\":{\"code\":10,\"credits_pending\":\"0\",\"credits_posted\":\"0\","
+    ++ codes "\"debits_pending\":\"0\",\"debits_posted\":\"100\",\"flags\":0,\"id\":\"1\","
+    ++ codes "\"timestamp\":\"1000\",\"user_data_128\":\"0\",\"user_data_32\":0,\"user_data_64\":\"0\"},"
+    ++ codes "\"ledger\":700,\"timestamp\":\"2000\",\"transfer\":{\"amount\":\"100\",\"code\":1,\"flags\":0,"
+    ++ codes "\"id\":\"1\",\"pending_id\":\"0\",\"timeout\":0,\"timestamp\":\"2000\",\"user_data_128\":\"0\","
+    ++ codes "\"user_data_32\":0,\"user_data_64\":\"0\"},\"type\":\"single_phase\"}"
+
+-- from bytes to bytes: the message of one transfer
+prints_message : outcome_of Messages one_transfer
+    ≡ record { text = its_headers ++ codes "\n" ++ (its_body ++ codes "\n"); ending = Done }
+unfolding digits body
+prints_message = refl
+
 -- from bytes to bytes: a bad script
-prints_fault : outcome_of Books (codes "subscriber all\naccounts x") ≡ record {
-  text =
-      codes "fault: script line 2: bad_number\n";
+prints_fault : outcome_of Messages (codes "subscriber all\naccounts x") ≡ record {
+  text = codes "fault: script line 2: bad_number\n";
   ending = BadScript (record { line = 2; kind = kind.BadNumber });
 }
 unfolding digits

@@ -70,7 +70,7 @@ fn expected(kind: FaultKind) -> &'static str {
         }
         FaultKind::KeyTwice => "a key stands once in a line",
         FaultKind::NoOpenBatch => {
-            "account lines follow a line accounts NOW, and transfer lines a line transfers NOW, with no other line between"
+            "account lines follow a line accounts NOW, and transfer lines a line transfers NOW, with nothing but blank lines and comments between"
         }
         FaultKind::BadBinding => {
             "a binding is the word all or any, and up to ten words key=value with event_type and the name of a kind of event, or with ledger (a number of 32 bits), transfer_code, debit_account_code or credit_account_code (numbers of 16 bits)"
