@@ -1,7 +1,8 @@
 -- The binding of a subscriber line, read from its leading printable words.
-use Rattle.std.proofs.Common.{◌≡◌, ◌∙◌, ℕ, Bool, true, false, List, [], ◌∷◌, length, Result, Ok, Err, inl, inr, refl, sym, ap}
+use Rattle.std.proofs.Common.{◌≡◌, ◌∙◌, ℕ, Bool, true, false, List, [], ◌∷◌, length, map, Bor, Result, Ok, Err, inl, inr, refl, sym, ap}
 use Rattle.std.specs.Prelude.{◌==◌}
 use Rattle.std.specs.List.{list_all, take_while}
+use Rattle.std.proofs.lemmas.List.{length-map}
 use Rattle.cdc_match.specs.declared.errors.BindError.{BindError}
 use Rattle.cdc_match.specs.declared.errors.BindError.TheVariants.{BadMode, UnknownKey, BadValue, TooManyPairs, OutOfMemory}
 use Rattle.cdc_match.specs.Arguments.{Arguments}
@@ -69,3 +70,8 @@ pub some_refused : (words leading : List (List ℕ)) (error : LineError) (all : 
     → IsLineFault error (readable (arguments_of leading)) → IsLineFault error (binding_line words)
 some_refused words leading error true taken all some given = line_refused words leading error taken all given
 some_refused words leading error false taken all some given = part_refused words leading error taken all some given
+
+-- where there are words, there are texts of them
+pub some_texts : (words : List (Bor (List ℕ))) → (length words == 0) ≡ false
+    → (length (map (λ word. word.now) words) == 0) ≡ false
+some_texts words some = rw (length-map words (λ word. word.now)) some

@@ -130,12 +130,13 @@ fn read_binding(alloc: Global, words: &[u8]) -> Result<Statement, LineError>
         (λ error. IsLineFault error (binding_line (words_of words.now))) }
     ensures no_item { IfOk result IsNoItem }
 {
-    let LeadingWords { texts, are_all } = leading_words(alloc, words)?;
-    if texts.is_empty() && !are_all {
+    let leading = leading_words(alloc, words)?;
+    let texts = leading.texts.as_slice();
+    if texts.is_empty() && !leading.are_all {
         return Err(LineError::Fault(FaultKind::BadText));
     }
-    let binding = parse_binding(alloc, texts.as_slice())?;
-    if !are_all {
+    let binding = parse_binding(alloc, texts)?;
+    if !leading.are_all {
         return Err(LineError::Fault(FaultKind::BadText));
     }
     Ok(Statement::Subscriber(binding))
