@@ -14,7 +14,7 @@ use Rattle.cdc_ledger.specs.Balances.{resolved}
 use Rattle.cdc_ledger.specs.Changes.{pushed}
 use Rattle.cdc_ledger.specs.Due.{due}
 use Rattle.cdc_ledger.specs.Effects.{settled_by}
-use Rattle.cdc_ledger.specs.Filling.{stored, expires_at}
+use Rattle.cdc_ledger.specs.Filling.{expires_at}
 use Rattle.cdc_ledger.specs.Follows.{Follows}
 use Rattle.cdc_ledger.specs.History.{Opened, History}
 use Rattle.cdc_ledger.specs.Kinds.{holds, stores, settles, settled_id}
@@ -74,7 +74,7 @@ IsSettled-settled_by h e p follows some = by_settling (settles e.kind) refl
     by_settling true is =
         let unsettled = follows.settling is in
         let named : settled_by h e ≡ Some unsettled.pending.transfer =
-            settled_by_is h e unsettled.pending is unsettled.settles in
+        settled_by_is h e unsettled.pending is unsettled.settles in
         record { is = is; x = unsettled.pending; settled = unsettled.settles; own = cc }
     by_settling false isnt = let none : settled_by h e ≡ None = settled_by_none h e isnt in cc
 

@@ -1,10 +1,9 @@
 -- An entry leaves the balances of every account that it doesn't name, also where it settles a pending transfer.
-use Rattle.std.proofs.Common.{ℕ, ◌<◌, ◌≤◌, ◌+◌, Bool, true, false, ◌∷◌, [], ◌++◌, ◌≡◌, ◌≢◌, Option, Some, refl, sym, ap, ap₂, ◌∙◌, arith, add-zero, le-leb}
+use Rattle.std.proofs.Common.{ℕ, ◌<◌, ◌≤◌, ◌+◌, Bool, true, false, ◌∷◌, [], ◌++◌, ◌≡◌, ◌≢◌, Option, Some, refl, sym, ap, ap₂, ◌∙◌, arith, add-zero}
 use Rattle.std.specs.Prelude.{◌==◌, ◌&&◌, ◌||◌, not, nat_le, if◌then◌else◌, sum_by}
 use Rattle.std.specs.List.{AllByRecursion}
 use Rattle.std.proofs.lemmas.Bool.{and_parts, and_right, eqb-true, ne_eqb, false≢true}
 use Rattle.std.proofs.lemmas.List.Sums.{sum_by_push}
-use Rattle.cdc_types.specs.declared.accounts.Balances.{Balances}
 use Rattle.cdc_types.specs.declared.events.Entry.{Entry}
 use Rattle.cdc_types.specs.declared.transfers.Transfer.{Transfer}
 use Rattle.cdc_ledger.specs.Balances.{balances, resolves, resolved, held, moved, share, debit_side, credit_side}
@@ -48,9 +47,11 @@ module _ (h : History) (sound : IsSound h) where
           and_parts (settles e.kind) (settled_id e.kind e.transfer == x.transfer.id)
           (sym (resolves_is e x.transfer) ∙ is) in
           let named : (y : Entry) × Settles h e y = stands.settling parts.0 in
-          let same : named.0 ≡ x = settled_entry e x named.0 named.1 (found (stores-holds x.kind holding)) parts.1 in
-          (named.1.debit ∙ ap (λ (y : Entry). y.transfer.debit_account_id) same, named.1.credit
-          ∙ ap (λ (y : Entry). y.transfer.credit_account_id) same)
+          let same : named.0 ≡ x = settled_entry e x named.0 named.1 (found (stores-holds x.kind holding)) parts.1 in (
+            named.1.debit ∙ ap (λ (y : Entry). y.transfer.debit_account_id) same,
+            named.1.credit
+                ∙ ap (λ (y : Entry). y.transfer.credit_account_id) same,
+          )
 
   pub sides_of_all : AllByRecursion (λ e. AllByRecursion (HasSidesOf e) h.entries) h.entries
   sides_of_all = AllByRecursion-weaker (Stands h) (λ e. AllByRecursion (HasSidesOf e) h.entries)

@@ -1,17 +1,17 @@
-use Rattle.std.proofs.Common.{◌≡◌, ◌∙◌, sym, ap, ap₂, List, ℕ, Option, Some, None, get_or, subst, arith}
+use Rattle.std.proofs.Common.{◌≡◌, ◌∙◌, sym, ap, ap₂, List, ℕ, Option, None, get_or, arith}
 use Rattle.std.specs.Prelude.{◌==◌, position}
 use Rattle.cdc_types.specs.declared.accounts.Account.{Account}
 use Rattle.cdc_types.specs.declared.events.Entry.{Entry}
 use Rattle.cdc_types.specs.declared.events.EventKind.{EventKind}
 use Rattle.cdc_types.specs.declared.transfers.Transfer.{Transfer}
 use Rattle.cdc_types.specs.Lines.{first_line}
-use Rattle.cdc_ledger.specs.Accounts.{HasBoundedSums, lines_between, no_balances}
+use Rattle.cdc_ledger.specs.Accounts.{lines_between, no_balances}
 use Rattle.cdc_ledger.specs.Events.{account_with, nobody}
 use Rattle.cdc_ledger.specs.Effects.{settled_by}
 use Rattle.cdc_ledger.specs.Movements.{IsPlace}
-use Rattle.cdc_ledger.specs.Submit.{kind_of, entry_of}
+use Rattle.cdc_ledger.specs.Submit.{entry_of}
 use Rattle.cdc_ledger.specs.Tables.{history_of}
-use Rattle.cdc_ledger.proofs.Judged.{IsOpened, IsOpened-place, unopened-no_place, bounded-opened, first_line-plain, first_line-between, first_line-no_debit, first_line-no_credit, filled-plain, settled-plain}
+use Rattle.cdc_ledger.proofs.Judged.{IsOpened-place, unopened-no_place, bounded-opened, first_line-plain, first_line-between, first_line-no_debit, first_line-no_credit, filled-plain, settled-plain}
 use Rattle.cdc_ledger.proofs.tables.Tables.judge_plain.Goals as goal
 
 -- what was found among the accounts was found among those of the tables

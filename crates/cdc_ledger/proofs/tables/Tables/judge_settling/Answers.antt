@@ -1,4 +1,4 @@
-use Rattle.std.proofs.Common.{◌≡◌, ◌≢◌, ◌≤◌, ◌∙◌, ◌++◌, sym, ap, ap₂, List, ℕ, true, Option, Some, None, arith, subst}
+use Rattle.std.proofs.Common.{◌≡◌, ◌≤◌, ◌∙◌, sym, ap, ap₂, List, true, Some, None, arith, subst}
 use Rattle.std.specs.Option.{IsSome, option_copied}
 use Rattle.std.proofs.lemmas.Bool.{not-false}
 use Rattle.cdc_types.specs.declared.events.Entry.{Entry}
@@ -6,8 +6,7 @@ use Rattle.cdc_types.specs.declared.events.EventKind.{EventKind}
 use Rattle.cdc_types.specs.declared.transfers.Transfer.{Transfer}
 use Rattle.cdc_types.specs.Lines.{first_line}
 use Rattle.cdc_ledger.specs.Effects.{settled_by}
-use Rattle.cdc_ledger.specs.Filling.{stored, expires_at, filled_from}
-use Rattle.cdc_ledger.specs.Follows.{Follows}
+use Rattle.cdc_ledger.specs.Filling.{stored, expires_at}
 use Rattle.cdc_ledger.specs.History.{opened}
 use Rattle.cdc_ledger.specs.Kinds.{holds}
 use Rattle.cdc_ledger.specs.Parts.{field_lines, end_lines}
