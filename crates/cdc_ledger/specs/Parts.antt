@@ -34,13 +34,11 @@ timeout_lines r t =
 abbrev pub limit_lines : Account → Account → ℕ → List (Bool × TransferResult)
 limit_lines debited credited amount =
     let debit = debited.balances in
-    let credit = credited.balances in (
-      has_flag debited.flags 2 && nat_lt debit.credits_posted (debit.debits_pending + debit.debits_posted + amount),
-      transfer.ExceedsCredits,
-    ) ∷ (
-      has_flag credited.flags 4 && nat_lt credit.debits_posted (credit.credits_pending + credit.credits_posted + amount),
-      transfer.ExceedsDebits,
-    ) ∷
+    let credit = credited.balances in
+    let debits = debit.debits_pending + debit.debits_posted + amount in
+    let credits = credit.credits_pending + credit.credits_posted + amount in
+    (has_flag debited.flags 2 && nat_lt debit.credits_posted debits, transfer.ExceedsCredits) ∷
+    (has_flag credited.flags 4 && nat_lt credit.debits_posted credits, transfer.ExceedsDebits) ∷
     []
 
 -- the lines on the fields of a post or a void, beside those of the entry that it names
