@@ -4,6 +4,8 @@ use crate::commands::{Report, books, messages};
 use crate::endings::Ending;
 use crate::faults::ProgramFault;
 use crate::options::{Options, options};
+use crate::scripts::read_script;
+use cdc_match::Binding;
 use std::alloc::{AllocError, Global};
 use std::io::{Read, Write};
 use std::test::Fail;
@@ -18,7 +20,7 @@ struct Run {
     status: u8,
 }
 
-static RUNS: [Run; 38] = [
+static RUNS: [Run; 49] = [
     Run {
         what: "a subscriber alone",
         report: Report::Book,
@@ -209,17 +211,94 @@ static RUNS: [Run; 38] = [
         status: 2,
     },
     Run {
-        what: "a binding that cannot be read yet",
+        what: "a binding's mode that is neither all nor any",
         report: Report::Book,
-        script: "subscriber any\n",
+        script: "subscriber ALL\n",
         printed: "fault: script line 1: bad_binding\n",
         status: 2,
     },
     Run {
-        what: "a second subscriber",
+        what: "a pair of a binding without an equals sign",
         report: Report::Book,
-        script: "subscriber all\nsubscriber x\n",
-        printed: "fault: script line 2: too_many_subscribers\n",
+        script: "subscriber all ledger\n",
+        printed: "fault: script line 1: bad_binding\n",
+        status: 2,
+    },
+    Run {
+        what: "a pair of a binding that names no header",
+        report: Report::Book,
+        script: "subscriber any id=1\n",
+        printed: "fault: script line 1: bad_binding\n",
+        status: 2,
+    },
+    Run {
+        what: "a ledger of more than 32 bits",
+        report: Report::Book,
+        script: "subscriber all ledger=4294967296\n",
+        printed: "fault: script line 1: bad_binding\n",
+        status: 2,
+    },
+    Run {
+        what: "a code of a binding of more than 16 bits",
+        report: Report::Book,
+        script: "subscriber all transfer_code=65536\n",
+        printed: "fault: script line 1: bad_binding\n",
+        status: 2,
+    },
+    Run {
+        what: "a kind of event that there is none of",
+        report: Report::Book,
+        script: "subscriber all event_type=pending\n",
+        printed: "fault: script line 1: bad_binding\n",
+        status: 2,
+    },
+    Run {
+        what: "an eleventh pair",
+        report: Report::Book,
+        script: "subscriber all ledger=0 ledger=1 ledger=2 ledger=3 ledger=4 ledger=5 ledger=6 ledger=7 ledger=8 ledger=9 ledger=10\n",
+        printed: "fault: script line 1: bad_binding\n",
+        status: 2,
+    },
+    Run {
+        what: "a tab as an eleventh pair",
+        report: Report::Book,
+        script: "subscriber all ledger=0 ledger=1 ledger=2 ledger=3 ledger=4 ledger=5 ledger=6 ledger=7 ledger=8 ledger=9 \t\n",
+        printed: "fault: script line 1: bad_text\n",
+        status: 2,
+    },
+    Run {
+        what: "a tab in a binding's first word",
+        report: Report::Book,
+        script: "subscriber all\tledger=1 id=1\n",
+        printed: "fault: script line 1: bad_text\n",
+        status: 2,
+    },
+    Run {
+        what: "a tab right of a bad pair",
+        report: Report::Book,
+        script: "subscriber all id=1 \t\n",
+        printed: "fault: script line 1: bad_binding\n",
+        status: 2,
+    },
+    Run {
+        what: "a tab left of a bad pair",
+        report: Report::Book,
+        script: "subscriber all \t id=1\n",
+        printed: "fault: script line 1: bad_text\n",
+        status: 2,
+    },
+    Run {
+        what: "a ninth subscriber, whatever its binding",
+        report: Report::Book,
+        script: "subscriber all\nsubscriber any\nsubscriber all ledger=700\nsubscriber any event_type=single_phase\nsubscriber all transfer_code=1 debit_account_code=10\nsubscriber any credit_account_code=20 ledger=0\nsubscriber all ledger=0 ledger=1 ledger=2 ledger=3 ledger=4 ledger=5 ledger=6 ledger=7 ledger=8 ledger=9\nsubscriber any event_type=two_phase_pending event_type=two_phase_pending\n\nsubscriber \t\n",
+        printed: "fault: script line 10: too_many_subscribers\n",
+        status: 2,
+    },
+    Run {
+        what: "eight subscribers with bindings of their own, and a bad line",
+        report: Report::Book,
+        script: "subscriber all\nsubscriber any\nsubscriber all ledger=700\nsubscriber any event_type=single_phase\nsubscriber all transfer_code=1 debit_account_code=10\nsubscriber any credit_account_code=20 ledger=0\nsubscriber all ledger=0 ledger=1 ledger=2 ledger=3 ledger=4 ledger=5 ledger=6 ledger=7 ledger=8 ledger=9\nsubscriber any event_type=two_phase_pending event_type=two_phase_pending\npulse x\n",
+        printed: "fault: script line 9: bad_number\n",
         status: 2,
     },
     Run {
@@ -324,6 +403,56 @@ fn runs_of_scripts(rt: HostRuntime) {
         }
     }
     assert_eq!(rt; failed, 0, "rows that fail");
+}
+
+/// Whether a script has exactly the bindings that these words say.
+fn has_bindings(alloc: Global, script: &[u8], wanted: &[&[&str]]) -> bool {
+    let mut reader = script;
+    let Ok(script) = read_script(alloc, &mut reader) else {
+        return false;
+    };
+    let read = script.bindings.as_slice();
+    read.len() == wanted.len()
+        && read
+            .iter()
+            .zip(wanted)
+            .all(|(binding, words)| is_binding_of(alloc, binding, words))
+}
+
+/// Whether the binding is the one that these words say.
+fn is_binding_of(alloc: Global, binding: &Binding, words: &[&str]) -> bool {
+    match Binding::parse(alloc, words) {
+        Ok(wanted) => binding.mode() == wanted.mode() && binding.pairs() == wanted.pairs(),
+        Err(_) => false,
+    }
+}
+
+#[test]
+fn bindings_of_scripts(rt: HostRuntime) {
+    let script = b"subscriber all\nsubscriber any\n# x\nsubscriber  all  ledger=700 \r\naccounts 1\nsubscriber any event_type=single_phase\nsubscriber all transfer_code=1 debit_account_code=10\nsubscriber any credit_account_code=20 ledger=0\nsubscriber all ledger=1 ledger=2 ledger=3 ledger=4 ledger=5 ledger=6 ledger=7 ledger=8 ledger=9 ledger=10\nsubscriber any event_type=two_phase_expired";
+    let wanted: [&[&str]; 8] = [
+        &["all"],
+        &["any"],
+        &["all", "ledger=700"],
+        &["any", "event_type=single_phase"],
+        &["all", "transfer_code=1", "debit_account_code=10"],
+        &["any", "credit_account_code=20", "ledger=0"],
+        &[
+            "all",
+            "ledger=1",
+            "ledger=2",
+            "ledger=3",
+            "ledger=4",
+            "ledger=5",
+            "ledger=6",
+            "ledger=7",
+            "ledger=8",
+            "ledger=9",
+            "ledger=10",
+        ],
+        &["any", "event_type=two_phase_expired"],
+    ];
+    assert!(rt; has_bindings(rt.alloc(), script.as_slice(), &wanted));
 }
 
 /// A batch of 1,001 accounts, and batches at the greatest timestamp.
