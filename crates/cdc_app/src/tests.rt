@@ -4,6 +4,8 @@ use crate::commands::{Report, books, messages};
 use crate::endings::Ending;
 use crate::faults::ProgramFault;
 use crate::options::{Options, options};
+use crate::scripts::read_script;
+use cdc_match::Binding;
 use std::alloc::{AllocError, Global};
 use std::io::{Read, Write};
 use std::test::Fail;
@@ -18,7 +20,7 @@ struct Run {
     status: u8,
 }
 
-static RUNS: [Run; 38] = [
+static RUNS: [Run; 61] = [
     Run {
         what: "a subscriber alone",
         report: Report::Books,
@@ -209,17 +211,94 @@ static RUNS: [Run; 38] = [
         status: 2,
     },
     Run {
-        what: "a binding that cannot be read yet",
+        what: "a binding's mode that is neither all nor any",
         report: Report::Books,
-        script: "subscriber any\n",
+        script: "subscriber ALL\n",
         printed: "fault: script line 1: bad_binding\n",
         status: 2,
     },
     Run {
-        what: "a second subscriber",
+        what: "a pair of a binding without an equals sign",
         report: Report::Books,
-        script: "subscriber all\nsubscriber x\n",
-        printed: "fault: script line 2: too_many_subscribers\n",
+        script: "subscriber all ledger\n",
+        printed: "fault: script line 1: bad_binding\n",
+        status: 2,
+    },
+    Run {
+        what: "a pair of a binding that names no header",
+        report: Report::Books,
+        script: "subscriber any id=1\n",
+        printed: "fault: script line 1: bad_binding\n",
+        status: 2,
+    },
+    Run {
+        what: "a ledger of more than 32 bits",
+        report: Report::Books,
+        script: "subscriber all ledger=4294967296\n",
+        printed: "fault: script line 1: bad_binding\n",
+        status: 2,
+    },
+    Run {
+        what: "a code of a binding of more than 16 bits",
+        report: Report::Books,
+        script: "subscriber all transfer_code=65536\n",
+        printed: "fault: script line 1: bad_binding\n",
+        status: 2,
+    },
+    Run {
+        what: "a kind of event that there is none of",
+        report: Report::Books,
+        script: "subscriber all event_type=pending\n",
+        printed: "fault: script line 1: bad_binding\n",
+        status: 2,
+    },
+    Run {
+        what: "an eleventh pair",
+        report: Report::Books,
+        script: "subscriber all ledger=0 ledger=1 ledger=2 ledger=3 ledger=4 ledger=5 ledger=6 ledger=7 ledger=8 ledger=9 ledger=10\n",
+        printed: "fault: script line 1: bad_binding\n",
+        status: 2,
+    },
+    Run {
+        what: "a tab as an eleventh pair",
+        report: Report::Books,
+        script: "subscriber all ledger=0 ledger=1 ledger=2 ledger=3 ledger=4 ledger=5 ledger=6 ledger=7 ledger=8 ledger=9 \t\n",
+        printed: "fault: script line 1: bad_text\n",
+        status: 2,
+    },
+    Run {
+        what: "a tab in a binding's first word",
+        report: Report::Books,
+        script: "subscriber all\tledger=1 id=1\n",
+        printed: "fault: script line 1: bad_text\n",
+        status: 2,
+    },
+    Run {
+        what: "a tab right of a bad pair",
+        report: Report::Books,
+        script: "subscriber all id=1 \t\n",
+        printed: "fault: script line 1: bad_binding\n",
+        status: 2,
+    },
+    Run {
+        what: "a tab left of a bad pair",
+        report: Report::Books,
+        script: "subscriber all \t id=1\n",
+        printed: "fault: script line 1: bad_text\n",
+        status: 2,
+    },
+    Run {
+        what: "a ninth subscriber, whatever its binding",
+        report: Report::Books,
+        script: "subscriber all\nsubscriber any\nsubscriber all ledger=700\nsubscriber any event_type=single_phase\nsubscriber all transfer_code=1 debit_account_code=10\nsubscriber any credit_account_code=20 ledger=0\nsubscriber all ledger=0 ledger=1 ledger=2 ledger=3 ledger=4 ledger=5 ledger=6 ledger=7 ledger=8 ledger=9\nsubscriber any event_type=two_phase_pending event_type=two_phase_pending\n\nsubscriber \t\n",
+        printed: "fault: script line 10: too_many_subscribers\n",
+        status: 2,
+    },
+    Run {
+        what: "eight subscribers with bindings of their own, and a bad line",
+        report: Report::Books,
+        script: "subscriber all\nsubscriber any\nsubscriber all ledger=700\nsubscriber any event_type=single_phase\nsubscriber all transfer_code=1 debit_account_code=10\nsubscriber any credit_account_code=20 ledger=0\nsubscriber all ledger=0 ledger=1 ledger=2 ledger=3 ledger=4 ledger=5 ledger=6 ledger=7 ledger=8 ledger=9\nsubscriber any event_type=two_phase_pending event_type=two_phase_pending\npulse x\n",
+        printed: "fault: script line 9: bad_number\n",
         status: 2,
     },
     Run {
@@ -285,6 +364,90 @@ static RUNS: [Run; 38] = [
         printed: "fault: script line 2: bad_number\n",
         status: 2,
     },
+    Run {
+        what: "a part of a pending transfer is posted",
+        report: Report::Books,
+        script: "subscriber all\naccounts 1000\naccount id=1 ledger=700 code=10\naccount id=2 ledger=700 code=10\ntransfers 2000\ntransfer id=10 debit_account_id=1 credit_account_id=2 amount=100 ledger=700 code=1 flags=2\ntransfers 3000\ntransfer id=11 pending_id=10 amount=40 flags=4\n",
+        printed: "batch 1: 0 0\nbatch 2: 0\nbatch 3: 0\nsubscriber 1 applied 2 last 3000 ended yes closed no\naccount 1 0 40 0 0\naccount 2 0 0 0 40\n",
+        status: 0,
+    },
+    Run {
+        what: "more than what is pending, and then the whole",
+        report: Report::Books,
+        script: "subscriber all\naccounts 1000\naccount id=1 ledger=700 code=10\naccount id=2 ledger=700 code=10\ntransfers 2000\ntransfer id=10 debit_account_id=1 credit_account_id=2 amount=100 ledger=700 code=1 flags=2\ntransfers 3000\ntransfer id=12 pending_id=10 amount=101 flags=4\ntransfers 4000\ntransfer id=11 pending_id=10 amount=340282366920938463463374607431768211455 flags=4\n",
+        printed: "batch 1: 0 0\nbatch 2: 0\nbatch 3: 24\nbatch 4: 0\nsubscriber 1 applied 2 last 4000 ended yes closed no\naccount 1 0 100 0 0\naccount 2 0 0 0 100\n",
+        status: 0,
+    },
+    Run {
+        what: "a pending transfer is voided once",
+        report: Report::Books,
+        script: "subscriber all\naccounts 1000\naccount id=1 ledger=700 code=10\naccount id=2 ledger=700 code=10\ntransfers 2000\ntransfer id=10 debit_account_id=1 credit_account_id=2 amount=100 ledger=700 code=1 flags=2\ntransfers 3000\ntransfer id=11 pending_id=10 flags=8\ntransfers 4000\ntransfer id=12 pending_id=10 flags=8\n",
+        printed: "batch 1: 0 0\nbatch 2: 0\nbatch 3: 0\nbatch 4: 27\nsubscriber 1 applied 2 last 3000 ended yes closed no\naccount 1 0 0 0 0\naccount 2 0 0 0 0\n",
+        status: 0,
+    },
+    Run {
+        what: "a post right before the end of a pending transfer",
+        report: Report::Books,
+        script: "subscriber all\naccounts 1000\naccount id=1 ledger=700 code=10\naccount id=2 ledger=700 code=10\ntransfers 2000\ntransfer id=10 debit_account_id=1 credit_account_id=2 amount=100 ledger=700 code=1 flags=2 timeout=1\ntransfers 1000001999\ntransfer id=11 pending_id=10 amount=340282366920938463463374607431768211455 flags=4\n",
+        printed: "batch 1: 0 0\nbatch 2: 0\nbatch 3: 0\nsubscriber 1 applied 2 last 1000001999 ended yes closed no\naccount 1 0 100 0 0\naccount 2 0 0 0 100\n",
+        status: 0,
+    },
+    Run {
+        what: "a post at the end of a pending transfer, and a pulse after it",
+        report: Report::Books,
+        script: "subscriber all\naccounts 1000\naccount id=1 ledger=700 code=10\naccount id=2 ledger=700 code=10\ntransfers 2000\ntransfer id=10 debit_account_id=1 credit_account_id=2 amount=100 ledger=700 code=1 flags=2 timeout=1\ntransfers 1000002000\ntransfer id=11 pending_id=10 amount=340282366920938463463374607431768211455 flags=4\npulse 1000003000\n",
+        printed: "batch 1: 0 0\nbatch 2: 0\nbatch 3: 28\nbatch 4: pulse 1\nsubscriber 1 applied 2 last 1000003000 ended yes closed no\naccount 1 0 0 0 0\naccount 2 0 0 0 0\n",
+        status: 0,
+    },
+    Run {
+        what: "transfers and posts that come again",
+        report: Report::Books,
+        script: "subscriber all\naccounts 1000\naccount id=1 ledger=700 code=10\naccount id=2 ledger=700 code=10\ntransfers 2000\ntransfer id=1 debit_account_id=1 credit_account_id=2 amount=100 ledger=700 code=1\ntransfer id=1 debit_account_id=1 credit_account_id=2 amount=100 ledger=700 code=1\ntransfer id=1 debit_account_id=1 credit_account_id=2 amount=101 ledger=700 code=1\ntransfers 3000\ntransfer id=10 debit_account_id=1 credit_account_id=2 amount=100 ledger=700 code=1 flags=2\ntransfer id=11 pending_id=10 amount=340282366920938463463374607431768211455 flags=4\ntransfer id=11 pending_id=10 amount=340282366920938463463374607431768211455 flags=4\ntransfer id=11 pending_id=10 amount=100 flags=4\ntransfer id=11 pending_id=10 amount=99 flags=4\n",
+        printed: "batch 1: 0 0\nbatch 2: 0 13 12\nbatch 3: 0 0 13 13 12\nsubscriber 1 applied 3 last 3001 ended yes closed no\naccount 1 0 200 0 0\naccount 2 0 0 0 200\n",
+        status: 0,
+    },
+    Run {
+        what: "what is pending and what is posted would overflow together",
+        report: Report::Books,
+        script: "subscriber all\naccounts 1000\naccount id=1 ledger=700 code=10\naccount id=2 ledger=700 code=10\ntransfers 2000\ntransfer id=1 debit_account_id=1 credit_account_id=2 amount=340282366920938463463374607431768211455 ledger=700 code=1 flags=2\ntransfer id=2 debit_account_id=1 credit_account_id=2 amount=1 ledger=700 code=1\n",
+        printed: "batch 1: 0 0\nbatch 2: 0 33\nsubscriber 1 applied 1 last 2000 ended yes closed no\naccount 1 340282366920938463463374607431768211455 0 0 0\naccount 2 0 0 340282366920938463463374607431768211455 0\n",
+        status: 0,
+    },
+    Run {
+        what: "a pending transfer that would end too late",
+        report: Report::Books,
+        script: "subscriber all\naccounts 1000\naccount id=1 ledger=700 code=10\naccount id=2 ledger=700 code=10\ntransfers 9000000000000000000\ntransfer id=1 debit_account_id=1 credit_account_id=2 amount=1 ledger=700 code=1 flags=2 timeout=4294967295\n",
+        printed: "batch 1: 0 0\nbatch 2: 35\nsubscriber 1 applied 0 last 0 ended yes closed no\n",
+        status: 0,
+    },
+    Run {
+        what: "each fault of a transfer's own fields, and of what it names",
+        report: Report::Books,
+        script: "subscriber all\naccounts 1000\naccount id=1 ledger=700 code=10\naccount id=2 ledger=700 code=10\ntransfers 2000\ntransfer id=0\ntransfer id=340282366920938463463374607431768211455\ntransfer id=1 flags=6\ntransfer id=1 pending_id=9\ntransfer id=1 flags=4\ntransfer id=1 flags=4 pending_id=1\ntransfer id=1 timeout=1\ntransfer id=1\ntransfer id=1 ledger=700\ntransfer id=1 debit_account_id=1 credit_account_id=1 amount=1 ledger=700 code=1\ntransfer id=1 debit_account_id=3 credit_account_id=2 amount=1 ledger=700 code=1\ntransfer id=1 debit_account_id=1 credit_account_id=3 amount=1 ledger=700 code=1\ntransfer id=1 debit_account_id=1 credit_account_id=2 amount=1 ledger=701 code=1\ntransfer id=1 flags=16\ntransfer id=1 flags=4 pending_id=9\n",
+        printed: "batch 1: 0 0\nbatch 2: 2 3 4 5 6 7 8 9 10 11 14 15 17 1 18\nsubscriber 1 applied 0 last 0 ended yes closed no\n",
+        status: 0,
+    },
+    Run {
+        what: "the pending transfer that ends first expires first",
+        report: Report::Books,
+        script: "subscriber all\naccounts 1000\naccount id=1 ledger=700 code=10\naccount id=2 ledger=700 code=10\ntransfers 2000\ntransfer id=10 debit_account_id=1 credit_account_id=2 amount=1 ledger=700 code=1 flags=2 timeout=2\ntransfer id=11 debit_account_id=1 credit_account_id=2 amount=2 ledger=700 code=1 flags=2 timeout=1\npulse 3000000000\n",
+        printed: "batch 1: 0 0\nbatch 2: 0 0\nbatch 3: pulse 2\nsubscriber 1 applied 4 last 3000000001 ended yes closed no\naccount 1 0 0 0 0\naccount 2 0 0 0 0\n",
+        status: 0,
+    },
+    Run {
+        what: "three bindings of one pair of keys",
+        report: Report::Books,
+        script: "subscriber any ledger=700 event_type=two_phase_voided\nsubscriber all ledger=700 event_type=two_phase_voided\nsubscriber any\naccounts 1000\naccount id=1 ledger=700 code=10\naccount id=2 ledger=700 code=10\ntransfers 2000\ntransfer id=10 debit_account_id=1 credit_account_id=2 amount=100 ledger=700 code=1 flags=2\ntransfers 3000\ntransfer id=11 pending_id=10 flags=8\ntransfers 4000\ntransfer id=12 pending_id=10 flags=8\n",
+        printed: "batch 1: 0 0\nbatch 2: 0\nbatch 3: 0\nbatch 4: 27\nsubscriber 1 applied 2 last 3000 ended yes closed no\naccount 1 0 0 0 0\naccount 2 0 0 0 0\nsubscriber 2 applied 1 last 3000 ended yes closed no\naccount 1 0 0 0 0\naccount 2 0 0 0 0\nsubscriber 3 applied 0 last 0 ended yes closed no\n",
+        status: 0,
+    },
+    Run {
+        what: "a subscriber of every event, and one of posts alone",
+        report: Report::Books,
+        script: "subscriber all\nsubscriber all event_type=two_phase_posted\naccounts 1000\naccount id=1 ledger=700 code=10\naccount id=2 ledger=700 code=10\ntransfers 2000\ntransfer id=10 debit_account_id=1 credit_account_id=2 amount=100 ledger=700 code=1 flags=2\ntransfers 3000\ntransfer id=11 pending_id=10 amount=40 flags=4\ntransfer id=12 debit_account_id=2 credit_account_id=1 amount=5 ledger=700 code=1\n",
+        printed: "batch 1: 0 0\nbatch 2: 0\nbatch 3: 0 0\nsubscriber 1 applied 3 last 3001 ended yes closed no\naccount 1 0 40 0 5\naccount 2 0 5 0 40\nsubscriber 2 applied 1 last 3000 ended yes closed no\naccount 1 0 40 0 0\naccount 2 0 0 0 40\n",
+        status: 0,
+    },
 ];
 
 /// What a command prints of these bytes, and how it ends.
@@ -324,6 +487,56 @@ fn runs_of_scripts(rt: HostRuntime) {
         }
     }
     assert_eq!(rt; failed, 0, "rows that fail");
+}
+
+/// Whether a script has exactly the bindings that these words say.
+fn has_bindings(alloc: Global, script: &[u8], wanted: &[&[&str]]) -> bool {
+    let mut reader = script;
+    let Ok(script) = read_script(alloc, &mut reader) else {
+        return false;
+    };
+    let read = script.bindings.as_slice();
+    read.len() == wanted.len()
+        && read
+            .iter()
+            .zip(wanted)
+            .all(|(binding, words)| is_binding_of(alloc, binding, words))
+}
+
+/// Whether the binding is the one that these words say.
+fn is_binding_of(alloc: Global, binding: &Binding, words: &[&str]) -> bool {
+    match Binding::parse(alloc, words) {
+        Ok(wanted) => binding.mode() == wanted.mode() && binding.pairs() == wanted.pairs(),
+        Err(_) => false,
+    }
+}
+
+#[test]
+fn bindings_of_scripts(rt: HostRuntime) {
+    let script = b"subscriber all\nsubscriber any\n# x\nsubscriber  all  ledger=700 \r\naccounts 1\nsubscriber any event_type=single_phase\nsubscriber all transfer_code=1 debit_account_code=10\nsubscriber any credit_account_code=20 ledger=0\nsubscriber all ledger=1 ledger=2 ledger=3 ledger=4 ledger=5 ledger=6 ledger=7 ledger=8 ledger=9 ledger=10\nsubscriber any event_type=two_phase_expired";
+    let wanted: [&[&str]; 8] = [
+        &["all"],
+        &["any"],
+        &["all", "ledger=700"],
+        &["any", "event_type=single_phase"],
+        &["all", "transfer_code=1", "debit_account_code=10"],
+        &["any", "credit_account_code=20", "ledger=0"],
+        &[
+            "all",
+            "ledger=1",
+            "ledger=2",
+            "ledger=3",
+            "ledger=4",
+            "ledger=5",
+            "ledger=6",
+            "ledger=7",
+            "ledger=8",
+            "ledger=9",
+            "ledger=10",
+        ],
+        &["any", "event_type=two_phase_expired"],
+    ];
+    assert!(rt; has_bindings(rt.alloc(), script.as_slice(), &wanted));
 }
 
 /// A batch of 1,001 accounts, and batches at the greatest timestamp.
