@@ -24,7 +24,7 @@ pub one_more : (texts : List (Bor (List ℕ))) (text : Bor (List ℕ)) (word : L
     → map (λ t. t.now) (texts ++ text ∷ []) ++ take_while is_printable rest ≡ wanted
 one_more texts text word rest wanted before h same =
     let step : take_while is_printable (word ∷ rest) ≡ text.now ∷ take_while is_printable rest
-        = rw (take_while-cons is_printable word rest, h, same) refl in
+    = rw (take_while-cons is_printable word rest, h, same) refl in
     rw (map-append, append_assoc) (ap (λ more. map (λ t. t.now) texts ++ more) (sym step) ∙ before)
 
 -- where it is printable, all words are printable if all words after it are

@@ -43,7 +43,7 @@ queue_of_next place all s old new inside printed =
     let place' : place + 1 - 1 ≡ place = omega arith in
     let within : place < length s.queues = omega (arith, printed.count) in
     let heads : get_or s.queues place (empty_queue nobody) ∷ drop (place + 1) s.queues
-        ≡ get_or all place (empty_queue nobody) ∷ drop (place + 1) all =
+    ≡ get_or all place (empty_queue nobody) ∷ drop (place + 1) all =
     sym (drop_more s.queues place (empty_queue nobody) within) ∙ printed.rest ∙ drop_more all place (empty_queue nobody) inside in
     let same : get_or s.queues place (empty_queue nobody) ≡ get_or all place (empty_queue nobody) = cc in
     unwrap_or-slice_get s.queues (place + 1 - 1) (empty_queue nobody)
@@ -86,7 +86,7 @@ ArePrinted-more place all s s' old new text kept inside printed changes taken ad
     drop_next place all s old new inside printed =
         let within : place < length s.queues = omega (arith, printed.count) in
         let heads : get_or s.queues place (empty_queue nobody) ∷ drop (place + 1) s.queues
-            ≡ get_or all place (empty_queue nobody) ∷ drop (place + 1) all =
+        ≡ get_or all place (empty_queue nobody) ∷ drop (place + 1) all =
         sym (drop_more s.queues place (empty_queue nobody) within) ∙ printed.rest ∙ drop_more all place (empty_queue nobody) inside in
         cc
 

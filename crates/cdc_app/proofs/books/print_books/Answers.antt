@@ -26,7 +26,7 @@ returns c =
     let lines : c.into_bytes-text.result.items ≡ batch_lines 1 empty_history c.args.script.batches =
     ap (λ v. v.items) c.into_bytes-text.ensures.value ∙ c.in_ok-ledger.ensures.lines in
     let takers : takers_text 1 c.in_ok-broker.broker.queues
-        ≡ subscribers_text 1 (line_of (events (history_of c.args.script))) c.args.script.bindings =
+    ≡ subscribers_text 1 (line_of (events (history_of c.args.script))) c.args.script.bindings =
     ap (takers_text 1) c.in_ok-broker.ensures
     ∙ takers_text-filled 1 (line_of c.log.result.now.events) c.into_vec.result.items
     ∙ ap₂ (λ (es : List Event) (bs : List Arguments). subscribers_text 1 (line_of es) bs) told c.into_vec.ensures in

@@ -10,8 +10,11 @@ loop-init c = IsTaking-none c.args.i c.args.broker.now c.new-subscriber.result c
 
 pub take_next-requires-clause-last : goal.take_next-requires-clause-last
 take_next-requires-clause-last c =
-    omega (arith, ap (λ (s : BrokerState). length s.queues) c.loop.invariant.now_is,
-    length-set c.args.broker.now.queues (c.args.i - 1) c.loop.invariant.queue)
+    omega (
+      arith,
+      ap (λ (s : BrokerState). length s.queues) c.loop.invariant.now_is,
+      length-set c.args.broker.now.queues (c.args.i - 1) c.loop.invariant.queue,
+    )
 
 pub loop-preserved : goal.loop-preserved
 loop-preserved c =

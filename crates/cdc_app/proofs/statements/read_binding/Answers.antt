@@ -15,11 +15,11 @@ returns-in_err-binding-clause-says c =
     let taken : leading ≡ take_while is_printable words = rw c.as_slice-texts.ensures.value c.in_ok-leading.ensures.texts in
     let given = c.in_err-binding.ensures.says in
     rw (p.1, p.2) (elim c.else-is_empty.branch [
-      else-is_empty-via-then-is_empty+else-not-leading w ↦
-        line_refused words leading _ taken (sym c.in_ok-leading.ensures.are_all ∙ w.if-not-leading.false) given
-    | else-is_empty-via-else-is_empty w ↦
-        some_refused words leading _ _ taken refl
-        (some_texts texts (sym c.is_empty.ensures ∙ w.if-is_empty.false)) given
+      | else-is_empty-via-then-is_empty+else-not-leading w ↦
+          line_refused words leading _ taken (sym c.in_ok-leading.ensures.are_all ∙ w.if-not-leading.false) given
+      | else-is_empty-via-else-is_empty w ↦
+          some_refused words leading _ _ taken refl
+          (some_texts texts (sym c.is_empty.ensures ∙ w.if-is_empty.false)) given
     ])
 
 pub returns-clause-says : goal.returns-clause-says
