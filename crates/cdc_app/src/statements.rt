@@ -84,11 +84,7 @@ fn read_words(
 }
 
 /// What the words of a line say that is no subscriber line.
-fn read_other_words(
-    first: &[u8],
-    rest: &[u8],
-    context: Context,
-) -> Result<Statement, FaultKind>
+fn read_other_words(first: &[u8], rest: &[u8], context: Context) -> Result<Statement, FaultKind>
     requires { bytes_eq first.now (codes "subscriber") ≡ false }
     ensures says { result ≡ meaning context first.now (words_of rest.now) }
     ensures suited { IfOk result (IsSuited context) }
@@ -204,11 +200,7 @@ fn read_client(words: &[u8]) -> Result<Statement, FaultKind>
     if number == 0 || number > Limits::CLIENTS {
         return Err(FaultKind::BadClient);
     }
-    Ok(Statement::Client(at_end(
-        rest,
-        FaultKind::WrongCount,
-        number,
-    )?))
+    Ok(Statement::Client(at_end(rest, FaultKind::WrongCount, number)?))
 }
 
 /// The moment of a batch, alone, in nanoseconds.

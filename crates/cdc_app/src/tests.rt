@@ -429,7 +429,8 @@ fn is_binding_of(alloc: Global, binding: &Binding, words: &[&str]) -> bool {
 
 #[test]
 fn bindings_of_scripts(rt: HostRuntime) {
-    let script = b"subscriber all\nsubscriber any\n# x\nsubscriber  all  ledger=700 \r\naccounts 1\nsubscriber any event_type=single_phase\nsubscriber all transfer_code=1 debit_account_code=10\nsubscriber any credit_account_code=20 ledger=0\nsubscriber all ledger=1 ledger=2 ledger=3 ledger=4 ledger=5 ledger=6 ledger=7 ledger=8 ledger=9 ledger=10\nsubscriber any event_type=two_phase_expired";
+    let script =
+        b"subscriber all\nsubscriber any\n# x\nsubscriber  all  ledger=700 \r\naccounts 1\nsubscriber any event_type=single_phase\nsubscriber all transfer_code=1 debit_account_code=10\nsubscriber any credit_account_code=20 ledger=0\nsubscriber all ledger=1 ledger=2 ledger=3 ledger=4 ledger=5 ledger=6 ledger=7 ledger=8 ledger=9 ledger=10\nsubscriber any event_type=two_phase_expired";
     let wanted: [&[&str]; 8] = [
         &["all"],
         &["any"],
