@@ -69,7 +69,7 @@ reads_bindings : script_of (codes "subscriber any ledger=700 event_type=single_p
     })
 reads_bindings = refl
 
--- a binding without a mode, or with another key; a byte that isn't printable, right of such a fault, left of it, and at it
+-- a binding without a mode, or with another key; a byte that isn't printable, right of such a fault, left of it, at it
 refuses_bindings : (script_of (codes "subscriber\n") ≡ fault 1 kind.BadBinding)
     × (script_of (codes "subscriber all id=1\n") ≡ fault 1 kind.BadBinding)
     × (script_of (codes "subscriber none \t\n") ≡ fault 1 kind.BadBinding)

@@ -16,11 +16,13 @@ ascii_byte b h = grind (arith, h)
 -- so a printable word is a text
 pub printable_text : (word : List ℕ) → is_printable word ≡ true → IsUtf8 word
 printable_text word h =
-    IsUtf8-from_ascii word (IsAscii-from_all word (λ i d below. ascii_byte _ (AllPass-from_list_all _ word h i d below)))
+    let each = AllPass-from_list_all _ word h in
+    IsUtf8-from_ascii word (IsAscii-from_all word (λ i d below. ascii_byte _ (each i d below)))
 
 -- a printable word joins those before it
 pub one_more : (texts : List (Bor (List ℕ))) (text : Bor (List ℕ)) (word : List ℕ) (rest wanted : List (List ℕ))
-    → map (λ t. t.now) texts ++ take_while is_printable (word ∷ rest) ≡ wanted → is_printable word ≡ true → text.now ≡ word
+    → map (λ t. t.now) texts ++ take_while is_printable (word ∷ rest) ≡ wanted
+    → is_printable word ≡ true → text.now ≡ word
     → map (λ t. t.now) (texts ++ text ∷ []) ++ take_while is_printable rest ≡ wanted
 one_more texts text word rest wanted before h same =
     let step : take_while is_printable (word ∷ rest) ≡ text.now ∷ take_while is_printable rest

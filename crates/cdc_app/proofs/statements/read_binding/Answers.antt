@@ -1,4 +1,4 @@
-use Rattle.std.proofs.Common.{◌≡◌, ◌∙◌, sym, refl, map, List, Bor}
+use Rattle.std.proofs.Common.{◌≡◌, ◌∙◌, sym, refl, map}
 use Rattle.std.specs.List.{take_while}
 use Rattle.std.proofs.lemmas.Result.{err_from_is_err_and}
 use Rattle.cdc_app.specs.Words.{words as words_of, is_printable}
@@ -12,7 +12,8 @@ returns-in_err-binding-clause-says c =
     let words = words_of c.args.words.now in
     let texts = c.as_slice-texts.result.now in
     let leading = map (λ text. text.now) texts in
-    let taken : leading ≡ take_while is_printable words = rw c.as_slice-texts.ensures.value c.in_ok-leading.ensures.texts in
+    let taken : leading ≡ take_while is_printable words
+    = rw c.as_slice-texts.ensures.value c.in_ok-leading.ensures.texts in
     let given = c.in_err-binding.ensures.says in
     rw (p.1, p.2) (elim c.else-is_empty.branch [
       | else-is_empty-via-then-is_empty+else-not-leading w ↦
@@ -27,6 +28,7 @@ returns-clause-says c =
     let words = words_of c.args.words.now in
     let texts = c.as_slice-texts.result.now in
     let leading = map (λ text. text.now) texts in
-    let taken : leading ≡ take_while is_printable words = rw c.as_slice-texts.ensures.value c.in_ok-leading.ensures.texts in
+    let taken : leading ≡ take_while is_printable words
+    = rw c.as_slice-texts.ensures.value c.in_ok-leading.ensures.texts in
     line_read words leading _ taken (sym c.in_ok-leading.ensures.are_all ∙ c.if-not-leading-2.false)
     c.in_ok-binding.ensures.says
