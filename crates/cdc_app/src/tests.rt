@@ -20,7 +20,8 @@ struct Run {
     status: u8,
 }
 
-static RUNS: [Run; 61] = [
+/// What is printed of scripts.
+static REPORTS: [Run; 6] = [
     Run {
         what: "a subscriber alone",
         report: Report::Books,
@@ -43,6 +44,31 @@ static RUNS: [Run; 61] = [
         status: 0,
     },
     Run {
+        what: "sums that would overflow",
+        report: Report::Books,
+        script: "subscriber all\naccounts 1000\naccount id=1 ledger=700 code=10\naccount id=2 ledger=700 code=10\ntransfers 2000\ntransfer id=1 debit_account_id=1 credit_account_id=2 amount=340282366920938463463374607431768211455 ledger=700 code=1\ntransfer id=2 debit_account_id=1 credit_account_id=2 amount=1 ledger=700 code=1\n",
+        printed: "batch 1: 0 0\nbatch 2: 0 31\nsubscriber 1 applied 1 last 2000 ended yes closed no\naccount 1 0 340282366920938463463374607431768211455 0 0\naccount 2 0 0 0 340282366920938463463374607431768211455\n",
+        status: 0,
+    },
+    Run {
+        what: "comments, blank lines, spaces, leading zeros and ends of lines",
+        report: Report::Books,
+        script: "# \x7f\tany bytes\n  subscriber   all  \r\n   \naccounts 007\n# a comment ends no batch\n\naccount id=01 ledger=1 code=1\nclient 2\ntransfers 8\npulse 9",
+        printed: "batch 1: 0\nbatch 2:\nbatch 3: pulse 0\nsubscriber 1 applied 0 last 0 ended yes closed no\n",
+        status: 0,
+    },
+    Run {
+        what: "a script without an event has no message",
+        report: Report::Messages,
+        script: "subscriber all\naccounts 1000\naccount id=1 ledger=700 code=10\naccount id=2 ledger=700 code=10\n",
+        printed: "",
+        status: 0,
+    },
+];
+
+/// What is printed of scripts with pending transfers.
+static TWO_PHASES: [Run; 16] = [
+    Run {
         what: "limits on balances, over two batches",
         report: Report::Books,
         script: "subscriber all\naccounts 1000\naccount id=1 ledger=700 code=10 flags=2\naccount id=2 ledger=700 code=10\ntransfers 2000\ntransfer id=1 debit_account_id=2 credit_account_id=1 amount=100 ledger=700 code=1\ntransfer id=2 debit_account_id=1 credit_account_id=2 amount=101 ledger=700 code=1\ntransfer id=3 debit_account_id=1 credit_account_id=2 amount=100 ledger=700 code=1\ntransfer id=4 debit_account_id=1 credit_account_id=2 amount=1 ledger=700 code=1\ntransfers 5\ntransfer id=5 debit_account_id=2 credit_account_id=1 amount=1 ledger=700 code=1\n",
@@ -50,12 +76,114 @@ static RUNS: [Run; 61] = [
         status: 0,
     },
     Run {
-        what: "sums that would overflow",
-        report: Report::Books,
-        script: "subscriber all\naccounts 1000\naccount id=1 ledger=700 code=10\naccount id=2 ledger=700 code=10\ntransfers 2000\ntransfer id=1 debit_account_id=1 credit_account_id=2 amount=340282366920938463463374607431768211455 ledger=700 code=1\ntransfer id=2 debit_account_id=1 credit_account_id=2 amount=1 ledger=700 code=1\n",
-        printed: "batch 1: 0 0\nbatch 2: 0 31\nsubscriber 1 applied 1 last 2000 ended yes closed no\naccount 1 0 340282366920938463463374607431768211455 0 0\naccount 2 0 0 0 340282366920938463463374607431768211455\n",
+        what: "the messages of one transfer",
+        report: Report::Messages,
+        script: "subscriber all\naccounts 1000\naccount id=1 ledger=700 code=10\naccount id=2 ledger=700 code=10\ntransfers 2000\ntransfer id=1 debit_account_id=1 credit_account_id=2 amount=100 ledger=700 code=1\n",
+        printed: "event_type=single_phase ledger=700 transfer_code=1 debit_account_code=10 credit_account_code=10 timestamp=0\n{\"credit_account\":{\"code\":10,\"credits_pending\":\"0\",\"credits_posted\":\"100\",\"debits_pending\":\"0\",\"debits_posted\":\"0\",\"flags\":0,\"id\":\"2\",\"timestamp\":\"1001\",\"user_data_128\":\"0\",\"user_data_32\":0,\"user_data_64\":\"0\"},\"debit_account\":{\"code\":10,\"credits_pending\":\"0\",\"credits_posted\":\"0\",\"debits_pending\":\"0\",\"debits_posted\":\"100\",\"flags\":0,\"id\":\"1\",\"timestamp\":\"1000\",\"user_data_128\":\"0\",\"user_data_32\":0,\"user_data_64\":\"0\"},\"ledger\":700,\"timestamp\":\"2000\",\"transfer\":{\"amount\":\"100\",\"code\":1,\"flags\":0,\"id\":\"1\",\"pending_id\":\"0\",\"timeout\":0,\"timestamp\":\"2000\",\"user_data_128\":\"0\",\"user_data_32\":0,\"user_data_64\":\"0\"},\"type\":\"single_phase\"}\n",
         status: 0,
     },
+    Run {
+        what: "each message shows the balances after its event, and whole seconds",
+        report: Report::Messages,
+        script: "subscriber all\naccounts 1000\naccount id=1 ledger=700 code=11\naccount id=2 ledger=700 code=12\ntransfers 1999999999\ntransfer id=1 debit_account_id=1 credit_account_id=2 amount=5 ledger=700 code=1\ntransfer id=2 debit_account_id=1 credit_account_id=2 amount=7 ledger=700 code=3\n",
+        printed: "event_type=single_phase ledger=700 transfer_code=1 debit_account_code=11 credit_account_code=12 timestamp=1\n{\"credit_account\":{\"code\":12,\"credits_pending\":\"0\",\"credits_posted\":\"5\",\"debits_pending\":\"0\",\"debits_posted\":\"0\",\"flags\":0,\"id\":\"2\",\"timestamp\":\"1001\",\"user_data_128\":\"0\",\"user_data_32\":0,\"user_data_64\":\"0\"},\"debit_account\":{\"code\":11,\"credits_pending\":\"0\",\"credits_posted\":\"0\",\"debits_pending\":\"0\",\"debits_posted\":\"5\",\"flags\":0,\"id\":\"1\",\"timestamp\":\"1000\",\"user_data_128\":\"0\",\"user_data_32\":0,\"user_data_64\":\"0\"},\"ledger\":700,\"timestamp\":\"1999999999\",\"transfer\":{\"amount\":\"5\",\"code\":1,\"flags\":0,\"id\":\"1\",\"pending_id\":\"0\",\"timeout\":0,\"timestamp\":\"1999999999\",\"user_data_128\":\"0\",\"user_data_32\":0,\"user_data_64\":\"0\"},\"type\":\"single_phase\"}\nevent_type=single_phase ledger=700 transfer_code=3 debit_account_code=11 credit_account_code=12 timestamp=2\n{\"credit_account\":{\"code\":12,\"credits_pending\":\"0\",\"credits_posted\":\"12\",\"debits_pending\":\"0\",\"debits_posted\":\"0\",\"flags\":0,\"id\":\"2\",\"timestamp\":\"1001\",\"user_data_128\":\"0\",\"user_data_32\":0,\"user_data_64\":\"0\"},\"debit_account\":{\"code\":11,\"credits_pending\":\"0\",\"credits_posted\":\"0\",\"debits_pending\":\"0\",\"debits_posted\":\"12\",\"flags\":0,\"id\":\"1\",\"timestamp\":\"1000\",\"user_data_128\":\"0\",\"user_data_32\":0,\"user_data_64\":\"0\"},\"ledger\":700,\"timestamp\":\"2000000000\",\"transfer\":{\"amount\":\"7\",\"code\":3,\"flags\":0,\"id\":\"2\",\"pending_id\":\"0\",\"timeout\":0,\"timestamp\":\"2000000000\",\"user_data_128\":\"0\",\"user_data_32\":0,\"user_data_64\":\"0\"},\"type\":\"single_phase\"}\n",
+        status: 0,
+    },
+    Run {
+        what: "a refused transfer has no message",
+        report: Report::Messages,
+        script: "subscriber all\naccounts 1000\naccount id=1 ledger=700 code=10\naccount id=2 ledger=700 code=10\ntransfers 2000\ntransfer id=1 debit_account_id=1 credit_account_id=2 amount=100 ledger=700 code=1\ntransfer id=1 debit_account_id=1 credit_account_id=2 amount=100 ledger=700 code=1\n",
+        printed: "event_type=single_phase ledger=700 transfer_code=1 debit_account_code=10 credit_account_code=10 timestamp=0\n{\"credit_account\":{\"code\":10,\"credits_pending\":\"0\",\"credits_posted\":\"100\",\"debits_pending\":\"0\",\"debits_posted\":\"0\",\"flags\":0,\"id\":\"2\",\"timestamp\":\"1001\",\"user_data_128\":\"0\",\"user_data_32\":0,\"user_data_64\":\"0\"},\"debit_account\":{\"code\":10,\"credits_pending\":\"0\",\"credits_posted\":\"0\",\"debits_pending\":\"0\",\"debits_posted\":\"100\",\"flags\":0,\"id\":\"1\",\"timestamp\":\"1000\",\"user_data_128\":\"0\",\"user_data_32\":0,\"user_data_64\":\"0\"},\"ledger\":700,\"timestamp\":\"2000\",\"transfer\":{\"amount\":\"100\",\"code\":1,\"flags\":0,\"id\":\"1\",\"pending_id\":\"0\",\"timeout\":0,\"timestamp\":\"2000\",\"user_data_128\":\"0\",\"user_data_32\":0,\"user_data_64\":\"0\"},\"type\":\"single_phase\"}\n",
+        status: 0,
+    },
+    Run {
+        what: "a part of a pending transfer is posted",
+        report: Report::Books,
+        script: "subscriber all\naccounts 1000\naccount id=1 ledger=700 code=10\naccount id=2 ledger=700 code=10\ntransfers 2000\ntransfer id=10 debit_account_id=1 credit_account_id=2 amount=100 ledger=700 code=1 flags=2\ntransfers 3000\ntransfer id=11 pending_id=10 amount=40 flags=4\n",
+        printed: "batch 1: 0 0\nbatch 2: 0\nbatch 3: 0\nsubscriber 1 applied 2 last 3000 ended yes closed no\naccount 1 0 40 0 0\naccount 2 0 0 0 40\n",
+        status: 0,
+    },
+    Run {
+        what: "more than what is pending, and then the whole",
+        report: Report::Books,
+        script: "subscriber all\naccounts 1000\naccount id=1 ledger=700 code=10\naccount id=2 ledger=700 code=10\ntransfers 2000\ntransfer id=10 debit_account_id=1 credit_account_id=2 amount=100 ledger=700 code=1 flags=2\ntransfers 3000\ntransfer id=12 pending_id=10 amount=101 flags=4\ntransfers 4000\ntransfer id=11 pending_id=10 amount=340282366920938463463374607431768211455 flags=4\n",
+        printed: "batch 1: 0 0\nbatch 2: 0\nbatch 3: 24\nbatch 4: 0\nsubscriber 1 applied 2 last 4000 ended yes closed no\naccount 1 0 100 0 0\naccount 2 0 0 0 100\n",
+        status: 0,
+    },
+    Run {
+        what: "a pending transfer is voided once",
+        report: Report::Books,
+        script: "subscriber all\naccounts 1000\naccount id=1 ledger=700 code=10\naccount id=2 ledger=700 code=10\ntransfers 2000\ntransfer id=10 debit_account_id=1 credit_account_id=2 amount=100 ledger=700 code=1 flags=2\ntransfers 3000\ntransfer id=11 pending_id=10 flags=8\ntransfers 4000\ntransfer id=12 pending_id=10 flags=8\n",
+        printed: "batch 1: 0 0\nbatch 2: 0\nbatch 3: 0\nbatch 4: 27\nsubscriber 1 applied 2 last 3000 ended yes closed no\naccount 1 0 0 0 0\naccount 2 0 0 0 0\n",
+        status: 0,
+    },
+    Run {
+        what: "a post right before the end of a pending transfer",
+        report: Report::Books,
+        script: "subscriber all\naccounts 1000\naccount id=1 ledger=700 code=10\naccount id=2 ledger=700 code=10\ntransfers 2000\ntransfer id=10 debit_account_id=1 credit_account_id=2 amount=100 ledger=700 code=1 flags=2 timeout=1\ntransfers 1000001999\ntransfer id=11 pending_id=10 amount=340282366920938463463374607431768211455 flags=4\n",
+        printed: "batch 1: 0 0\nbatch 2: 0\nbatch 3: 0\nsubscriber 1 applied 2 last 1000001999 ended yes closed no\naccount 1 0 100 0 0\naccount 2 0 0 0 100\n",
+        status: 0,
+    },
+    Run {
+        what: "a post at the end of a pending transfer, and a pulse after it",
+        report: Report::Books,
+        script: "subscriber all\naccounts 1000\naccount id=1 ledger=700 code=10\naccount id=2 ledger=700 code=10\ntransfers 2000\ntransfer id=10 debit_account_id=1 credit_account_id=2 amount=100 ledger=700 code=1 flags=2 timeout=1\ntransfers 1000002000\ntransfer id=11 pending_id=10 amount=340282366920938463463374607431768211455 flags=4\npulse 1000003000\n",
+        printed: "batch 1: 0 0\nbatch 2: 0\nbatch 3: 28\nbatch 4: pulse 1\nsubscriber 1 applied 2 last 1000003000 ended yes closed no\naccount 1 0 0 0 0\naccount 2 0 0 0 0\n",
+        status: 0,
+    },
+    Run {
+        what: "transfers and posts that come again",
+        report: Report::Books,
+        script: "subscriber all\naccounts 1000\naccount id=1 ledger=700 code=10\naccount id=2 ledger=700 code=10\ntransfers 2000\ntransfer id=1 debit_account_id=1 credit_account_id=2 amount=100 ledger=700 code=1\ntransfer id=1 debit_account_id=1 credit_account_id=2 amount=100 ledger=700 code=1\ntransfer id=1 debit_account_id=1 credit_account_id=2 amount=101 ledger=700 code=1\ntransfers 3000\ntransfer id=10 debit_account_id=1 credit_account_id=2 amount=100 ledger=700 code=1 flags=2\ntransfer id=11 pending_id=10 amount=340282366920938463463374607431768211455 flags=4\ntransfer id=11 pending_id=10 amount=340282366920938463463374607431768211455 flags=4\ntransfer id=11 pending_id=10 amount=100 flags=4\ntransfer id=11 pending_id=10 amount=99 flags=4\n",
+        printed: "batch 1: 0 0\nbatch 2: 0 13 12\nbatch 3: 0 0 13 13 12\nsubscriber 1 applied 3 last 3001 ended yes closed no\naccount 1 0 200 0 0\naccount 2 0 0 0 200\n",
+        status: 0,
+    },
+    Run {
+        what: "what is pending and what is posted would overflow together",
+        report: Report::Books,
+        script: "subscriber all\naccounts 1000\naccount id=1 ledger=700 code=10\naccount id=2 ledger=700 code=10\ntransfers 2000\ntransfer id=1 debit_account_id=1 credit_account_id=2 amount=340282366920938463463374607431768211455 ledger=700 code=1 flags=2\ntransfer id=2 debit_account_id=1 credit_account_id=2 amount=1 ledger=700 code=1\n",
+        printed: "batch 1: 0 0\nbatch 2: 0 33\nsubscriber 1 applied 1 last 2000 ended yes closed no\naccount 1 340282366920938463463374607431768211455 0 0 0\naccount 2 0 0 340282366920938463463374607431768211455 0\n",
+        status: 0,
+    },
+    Run {
+        what: "a pending transfer that would end too late",
+        report: Report::Books,
+        script: "subscriber all\naccounts 1000\naccount id=1 ledger=700 code=10\naccount id=2 ledger=700 code=10\ntransfers 9000000000000000000\ntransfer id=1 debit_account_id=1 credit_account_id=2 amount=1 ledger=700 code=1 flags=2 timeout=4294967295\n",
+        printed: "batch 1: 0 0\nbatch 2: 35\nsubscriber 1 applied 0 last 0 ended yes closed no\n",
+        status: 0,
+    },
+    Run {
+        what: "each fault of a transfer's own fields, and of what it names",
+        report: Report::Books,
+        script: "subscriber all\naccounts 1000\naccount id=1 ledger=700 code=10\naccount id=2 ledger=700 code=10\ntransfers 2000\ntransfer id=0\ntransfer id=340282366920938463463374607431768211455\ntransfer id=1 flags=6\ntransfer id=1 pending_id=9\ntransfer id=1 flags=4\ntransfer id=1 flags=4 pending_id=1\ntransfer id=1 timeout=1\ntransfer id=1\ntransfer id=1 ledger=700\ntransfer id=1 debit_account_id=1 credit_account_id=1 amount=1 ledger=700 code=1\ntransfer id=1 debit_account_id=3 credit_account_id=2 amount=1 ledger=700 code=1\ntransfer id=1 debit_account_id=1 credit_account_id=3 amount=1 ledger=700 code=1\ntransfer id=1 debit_account_id=1 credit_account_id=2 amount=1 ledger=701 code=1\ntransfer id=1 flags=16\ntransfer id=1 flags=4 pending_id=9\n",
+        printed: "batch 1: 0 0\nbatch 2: 2 3 4 5 6 7 8 9 10 11 14 15 17 1 18\nsubscriber 1 applied 0 last 0 ended yes closed no\n",
+        status: 0,
+    },
+    Run {
+        what: "the pending transfer that ends first expires first",
+        report: Report::Books,
+        script: "subscriber all\naccounts 1000\naccount id=1 ledger=700 code=10\naccount id=2 ledger=700 code=10\ntransfers 2000\ntransfer id=10 debit_account_id=1 credit_account_id=2 amount=1 ledger=700 code=1 flags=2 timeout=2\ntransfer id=11 debit_account_id=1 credit_account_id=2 amount=2 ledger=700 code=1 flags=2 timeout=1\npulse 3000000000\n",
+        printed: "batch 1: 0 0\nbatch 2: 0 0\nbatch 3: pulse 2\nsubscriber 1 applied 4 last 3000000001 ended yes closed no\naccount 1 0 0 0 0\naccount 2 0 0 0 0\n",
+        status: 0,
+    },
+    Run {
+        what: "three bindings of one pair of keys",
+        report: Report::Books,
+        script: "subscriber any ledger=700 event_type=two_phase_voided\nsubscriber all ledger=700 event_type=two_phase_voided\nsubscriber any\naccounts 1000\naccount id=1 ledger=700 code=10\naccount id=2 ledger=700 code=10\ntransfers 2000\ntransfer id=10 debit_account_id=1 credit_account_id=2 amount=100 ledger=700 code=1 flags=2\ntransfers 3000\ntransfer id=11 pending_id=10 flags=8\ntransfers 4000\ntransfer id=12 pending_id=10 flags=8\n",
+        printed: "batch 1: 0 0\nbatch 2: 0\nbatch 3: 0\nbatch 4: 27\nsubscriber 1 applied 2 last 3000 ended yes closed no\naccount 1 0 0 0 0\naccount 2 0 0 0 0\nsubscriber 2 applied 1 last 3000 ended yes closed no\naccount 1 0 0 0 0\naccount 2 0 0 0 0\nsubscriber 3 applied 0 last 0 ended yes closed no\n",
+        status: 0,
+    },
+    Run {
+        what: "a subscriber of every event, and one of posts alone",
+        report: Report::Books,
+        script: "subscriber all\nsubscriber all event_type=two_phase_posted\naccounts 1000\naccount id=1 ledger=700 code=10\naccount id=2 ledger=700 code=10\ntransfers 2000\ntransfer id=10 debit_account_id=1 credit_account_id=2 amount=100 ledger=700 code=1 flags=2\ntransfers 3000\ntransfer id=11 pending_id=10 amount=40 flags=4\ntransfer id=12 debit_account_id=2 credit_account_id=1 amount=5 ledger=700 code=1\n",
+        printed: "batch 1: 0 0\nbatch 2: 0\nbatch 3: 0 0\nsubscriber 1 applied 3 last 3001 ended yes closed no\naccount 1 0 40 0 5\naccount 2 0 5 0 40\nsubscriber 2 applied 1 last 3000 ended yes closed no\naccount 1 0 40 0 0\naccount 2 0 0 0 40\n",
+        status: 0,
+    },
+];
+
+/// What is printed of bad scripts.
+static FAULTS: [Run; 20] = [
     Run {
         what: "a moment that is no number",
         report: Report::Books,
@@ -196,6 +324,10 @@ static RUNS: [Run; 61] = [
         printed: "fault: script line 3: no_open_batch\n",
         status: 2,
     },
+];
+
+/// What is printed of scripts with bad subscriber lines, and of other bad scripts.
+static BINDING_FAULTS: [Run; 19] = [
     Run {
         what: "a batch that a client line has ended",
         report: Report::Books,
@@ -323,130 +455,11 @@ static RUNS: [Run; 61] = [
         status: 2,
     },
     Run {
-        what: "comments, blank lines, spaces, leading zeros and ends of lines",
-        report: Report::Books,
-        script: "# \x7f\tany bytes\n  subscriber   all  \r\n   \naccounts 007\n# a comment ends no batch\n\naccount id=01 ledger=1 code=1\nclient 2\ntransfers 8\npulse 9",
-        printed: "batch 1: 0\nbatch 2:\nbatch 3: pulse 0\nsubscriber 1 applied 0 last 0 ended yes closed no\n",
-        status: 0,
-    },
-    Run {
-        what: "the messages of one transfer",
-        report: Report::Messages,
-        script: "subscriber all\naccounts 1000\naccount id=1 ledger=700 code=10\naccount id=2 ledger=700 code=10\ntransfers 2000\ntransfer id=1 debit_account_id=1 credit_account_id=2 amount=100 ledger=700 code=1\n",
-        printed: "event_type=single_phase ledger=700 transfer_code=1 debit_account_code=10 credit_account_code=10 timestamp=0\n{\"credit_account\":{\"code\":10,\"credits_pending\":\"0\",\"credits_posted\":\"100\",\"debits_pending\":\"0\",\"debits_posted\":\"0\",\"flags\":0,\"id\":\"2\",\"timestamp\":\"1001\",\"user_data_128\":\"0\",\"user_data_32\":0,\"user_data_64\":\"0\"},\"debit_account\":{\"code\":10,\"credits_pending\":\"0\",\"credits_posted\":\"0\",\"debits_pending\":\"0\",\"debits_posted\":\"100\",\"flags\":0,\"id\":\"1\",\"timestamp\":\"1000\",\"user_data_128\":\"0\",\"user_data_32\":0,\"user_data_64\":\"0\"},\"ledger\":700,\"timestamp\":\"2000\",\"transfer\":{\"amount\":\"100\",\"code\":1,\"flags\":0,\"id\":\"1\",\"pending_id\":\"0\",\"timeout\":0,\"timestamp\":\"2000\",\"user_data_128\":\"0\",\"user_data_32\":0,\"user_data_64\":\"0\"},\"type\":\"single_phase\"}\n",
-        status: 0,
-    },
-    Run {
-        what: "each message shows the balances after its event, and whole seconds",
-        report: Report::Messages,
-        script: "subscriber all\naccounts 1000\naccount id=1 ledger=700 code=11\naccount id=2 ledger=700 code=12\ntransfers 1999999999\ntransfer id=1 debit_account_id=1 credit_account_id=2 amount=5 ledger=700 code=1\ntransfer id=2 debit_account_id=1 credit_account_id=2 amount=7 ledger=700 code=3\n",
-        printed: "event_type=single_phase ledger=700 transfer_code=1 debit_account_code=11 credit_account_code=12 timestamp=1\n{\"credit_account\":{\"code\":12,\"credits_pending\":\"0\",\"credits_posted\":\"5\",\"debits_pending\":\"0\",\"debits_posted\":\"0\",\"flags\":0,\"id\":\"2\",\"timestamp\":\"1001\",\"user_data_128\":\"0\",\"user_data_32\":0,\"user_data_64\":\"0\"},\"debit_account\":{\"code\":11,\"credits_pending\":\"0\",\"credits_posted\":\"0\",\"debits_pending\":\"0\",\"debits_posted\":\"5\",\"flags\":0,\"id\":\"1\",\"timestamp\":\"1000\",\"user_data_128\":\"0\",\"user_data_32\":0,\"user_data_64\":\"0\"},\"ledger\":700,\"timestamp\":\"1999999999\",\"transfer\":{\"amount\":\"5\",\"code\":1,\"flags\":0,\"id\":\"1\",\"pending_id\":\"0\",\"timeout\":0,\"timestamp\":\"1999999999\",\"user_data_128\":\"0\",\"user_data_32\":0,\"user_data_64\":\"0\"},\"type\":\"single_phase\"}\nevent_type=single_phase ledger=700 transfer_code=3 debit_account_code=11 credit_account_code=12 timestamp=2\n{\"credit_account\":{\"code\":12,\"credits_pending\":\"0\",\"credits_posted\":\"12\",\"debits_pending\":\"0\",\"debits_posted\":\"0\",\"flags\":0,\"id\":\"2\",\"timestamp\":\"1001\",\"user_data_128\":\"0\",\"user_data_32\":0,\"user_data_64\":\"0\"},\"debit_account\":{\"code\":11,\"credits_pending\":\"0\",\"credits_posted\":\"0\",\"debits_pending\":\"0\",\"debits_posted\":\"12\",\"flags\":0,\"id\":\"1\",\"timestamp\":\"1000\",\"user_data_128\":\"0\",\"user_data_32\":0,\"user_data_64\":\"0\"},\"ledger\":700,\"timestamp\":\"2000000000\",\"transfer\":{\"amount\":\"7\",\"code\":3,\"flags\":0,\"id\":\"2\",\"pending_id\":\"0\",\"timeout\":0,\"timestamp\":\"2000000000\",\"user_data_128\":\"0\",\"user_data_32\":0,\"user_data_64\":\"0\"},\"type\":\"single_phase\"}\n",
-        status: 0,
-    },
-    Run {
-        what: "a refused transfer has no message",
-        report: Report::Messages,
-        script: "subscriber all\naccounts 1000\naccount id=1 ledger=700 code=10\naccount id=2 ledger=700 code=10\ntransfers 2000\ntransfer id=1 debit_account_id=1 credit_account_id=2 amount=100 ledger=700 code=1\ntransfer id=1 debit_account_id=1 credit_account_id=2 amount=100 ledger=700 code=1\n",
-        printed: "event_type=single_phase ledger=700 transfer_code=1 debit_account_code=10 credit_account_code=10 timestamp=0\n{\"credit_account\":{\"code\":10,\"credits_pending\":\"0\",\"credits_posted\":\"100\",\"debits_pending\":\"0\",\"debits_posted\":\"0\",\"flags\":0,\"id\":\"2\",\"timestamp\":\"1001\",\"user_data_128\":\"0\",\"user_data_32\":0,\"user_data_64\":\"0\"},\"debit_account\":{\"code\":10,\"credits_pending\":\"0\",\"credits_posted\":\"0\",\"debits_pending\":\"0\",\"debits_posted\":\"100\",\"flags\":0,\"id\":\"1\",\"timestamp\":\"1000\",\"user_data_128\":\"0\",\"user_data_32\":0,\"user_data_64\":\"0\"},\"ledger\":700,\"timestamp\":\"2000\",\"transfer\":{\"amount\":\"100\",\"code\":1,\"flags\":0,\"id\":\"1\",\"pending_id\":\"0\",\"timeout\":0,\"timestamp\":\"2000\",\"user_data_128\":\"0\",\"user_data_32\":0,\"user_data_64\":\"0\"},\"type\":\"single_phase\"}\n",
-        status: 0,
-    },
-    Run {
-        what: "a script without an event has no message",
-        report: Report::Messages,
-        script: "subscriber all\naccounts 1000\naccount id=1 ledger=700 code=10\naccount id=2 ledger=700 code=10\n",
-        printed: "",
-        status: 0,
-    },
-    Run {
         what: "a bad script under messages",
         report: Report::Messages,
         script: "subscriber all\naccounts x\n",
         printed: "fault: script line 2: bad_number\n",
         status: 2,
-    },
-    Run {
-        what: "a part of a pending transfer is posted",
-        report: Report::Books,
-        script: "subscriber all\naccounts 1000\naccount id=1 ledger=700 code=10\naccount id=2 ledger=700 code=10\ntransfers 2000\ntransfer id=10 debit_account_id=1 credit_account_id=2 amount=100 ledger=700 code=1 flags=2\ntransfers 3000\ntransfer id=11 pending_id=10 amount=40 flags=4\n",
-        printed: "batch 1: 0 0\nbatch 2: 0\nbatch 3: 0\nsubscriber 1 applied 2 last 3000 ended yes closed no\naccount 1 0 40 0 0\naccount 2 0 0 0 40\n",
-        status: 0,
-    },
-    Run {
-        what: "more than what is pending, and then the whole",
-        report: Report::Books,
-        script: "subscriber all\naccounts 1000\naccount id=1 ledger=700 code=10\naccount id=2 ledger=700 code=10\ntransfers 2000\ntransfer id=10 debit_account_id=1 credit_account_id=2 amount=100 ledger=700 code=1 flags=2\ntransfers 3000\ntransfer id=12 pending_id=10 amount=101 flags=4\ntransfers 4000\ntransfer id=11 pending_id=10 amount=340282366920938463463374607431768211455 flags=4\n",
-        printed: "batch 1: 0 0\nbatch 2: 0\nbatch 3: 24\nbatch 4: 0\nsubscriber 1 applied 2 last 4000 ended yes closed no\naccount 1 0 100 0 0\naccount 2 0 0 0 100\n",
-        status: 0,
-    },
-    Run {
-        what: "a pending transfer is voided once",
-        report: Report::Books,
-        script: "subscriber all\naccounts 1000\naccount id=1 ledger=700 code=10\naccount id=2 ledger=700 code=10\ntransfers 2000\ntransfer id=10 debit_account_id=1 credit_account_id=2 amount=100 ledger=700 code=1 flags=2\ntransfers 3000\ntransfer id=11 pending_id=10 flags=8\ntransfers 4000\ntransfer id=12 pending_id=10 flags=8\n",
-        printed: "batch 1: 0 0\nbatch 2: 0\nbatch 3: 0\nbatch 4: 27\nsubscriber 1 applied 2 last 3000 ended yes closed no\naccount 1 0 0 0 0\naccount 2 0 0 0 0\n",
-        status: 0,
-    },
-    Run {
-        what: "a post right before the end of a pending transfer",
-        report: Report::Books,
-        script: "subscriber all\naccounts 1000\naccount id=1 ledger=700 code=10\naccount id=2 ledger=700 code=10\ntransfers 2000\ntransfer id=10 debit_account_id=1 credit_account_id=2 amount=100 ledger=700 code=1 flags=2 timeout=1\ntransfers 1000001999\ntransfer id=11 pending_id=10 amount=340282366920938463463374607431768211455 flags=4\n",
-        printed: "batch 1: 0 0\nbatch 2: 0\nbatch 3: 0\nsubscriber 1 applied 2 last 1000001999 ended yes closed no\naccount 1 0 100 0 0\naccount 2 0 0 0 100\n",
-        status: 0,
-    },
-    Run {
-        what: "a post at the end of a pending transfer, and a pulse after it",
-        report: Report::Books,
-        script: "subscriber all\naccounts 1000\naccount id=1 ledger=700 code=10\naccount id=2 ledger=700 code=10\ntransfers 2000\ntransfer id=10 debit_account_id=1 credit_account_id=2 amount=100 ledger=700 code=1 flags=2 timeout=1\ntransfers 1000002000\ntransfer id=11 pending_id=10 amount=340282366920938463463374607431768211455 flags=4\npulse 1000003000\n",
-        printed: "batch 1: 0 0\nbatch 2: 0\nbatch 3: 28\nbatch 4: pulse 1\nsubscriber 1 applied 2 last 1000003000 ended yes closed no\naccount 1 0 0 0 0\naccount 2 0 0 0 0\n",
-        status: 0,
-    },
-    Run {
-        what: "transfers and posts that come again",
-        report: Report::Books,
-        script: "subscriber all\naccounts 1000\naccount id=1 ledger=700 code=10\naccount id=2 ledger=700 code=10\ntransfers 2000\ntransfer id=1 debit_account_id=1 credit_account_id=2 amount=100 ledger=700 code=1\ntransfer id=1 debit_account_id=1 credit_account_id=2 amount=100 ledger=700 code=1\ntransfer id=1 debit_account_id=1 credit_account_id=2 amount=101 ledger=700 code=1\ntransfers 3000\ntransfer id=10 debit_account_id=1 credit_account_id=2 amount=100 ledger=700 code=1 flags=2\ntransfer id=11 pending_id=10 amount=340282366920938463463374607431768211455 flags=4\ntransfer id=11 pending_id=10 amount=340282366920938463463374607431768211455 flags=4\ntransfer id=11 pending_id=10 amount=100 flags=4\ntransfer id=11 pending_id=10 amount=99 flags=4\n",
-        printed: "batch 1: 0 0\nbatch 2: 0 13 12\nbatch 3: 0 0 13 13 12\nsubscriber 1 applied 3 last 3001 ended yes closed no\naccount 1 0 200 0 0\naccount 2 0 0 0 200\n",
-        status: 0,
-    },
-    Run {
-        what: "what is pending and what is posted would overflow together",
-        report: Report::Books,
-        script: "subscriber all\naccounts 1000\naccount id=1 ledger=700 code=10\naccount id=2 ledger=700 code=10\ntransfers 2000\ntransfer id=1 debit_account_id=1 credit_account_id=2 amount=340282366920938463463374607431768211455 ledger=700 code=1 flags=2\ntransfer id=2 debit_account_id=1 credit_account_id=2 amount=1 ledger=700 code=1\n",
-        printed: "batch 1: 0 0\nbatch 2: 0 33\nsubscriber 1 applied 1 last 2000 ended yes closed no\naccount 1 340282366920938463463374607431768211455 0 0 0\naccount 2 0 0 340282366920938463463374607431768211455 0\n",
-        status: 0,
-    },
-    Run {
-        what: "a pending transfer that would end too late",
-        report: Report::Books,
-        script: "subscriber all\naccounts 1000\naccount id=1 ledger=700 code=10\naccount id=2 ledger=700 code=10\ntransfers 9000000000000000000\ntransfer id=1 debit_account_id=1 credit_account_id=2 amount=1 ledger=700 code=1 flags=2 timeout=4294967295\n",
-        printed: "batch 1: 0 0\nbatch 2: 35\nsubscriber 1 applied 0 last 0 ended yes closed no\n",
-        status: 0,
-    },
-    Run {
-        what: "each fault of a transfer's own fields, and of what it names",
-        report: Report::Books,
-        script: "subscriber all\naccounts 1000\naccount id=1 ledger=700 code=10\naccount id=2 ledger=700 code=10\ntransfers 2000\ntransfer id=0\ntransfer id=340282366920938463463374607431768211455\ntransfer id=1 flags=6\ntransfer id=1 pending_id=9\ntransfer id=1 flags=4\ntransfer id=1 flags=4 pending_id=1\ntransfer id=1 timeout=1\ntransfer id=1\ntransfer id=1 ledger=700\ntransfer id=1 debit_account_id=1 credit_account_id=1 amount=1 ledger=700 code=1\ntransfer id=1 debit_account_id=3 credit_account_id=2 amount=1 ledger=700 code=1\ntransfer id=1 debit_account_id=1 credit_account_id=3 amount=1 ledger=700 code=1\ntransfer id=1 debit_account_id=1 credit_account_id=2 amount=1 ledger=701 code=1\ntransfer id=1 flags=16\ntransfer id=1 flags=4 pending_id=9\n",
-        printed: "batch 1: 0 0\nbatch 2: 2 3 4 5 6 7 8 9 10 11 14 15 17 1 18\nsubscriber 1 applied 0 last 0 ended yes closed no\n",
-        status: 0,
-    },
-    Run {
-        what: "the pending transfer that ends first expires first",
-        report: Report::Books,
-        script: "subscriber all\naccounts 1000\naccount id=1 ledger=700 code=10\naccount id=2 ledger=700 code=10\ntransfers 2000\ntransfer id=10 debit_account_id=1 credit_account_id=2 amount=1 ledger=700 code=1 flags=2 timeout=2\ntransfer id=11 debit_account_id=1 credit_account_id=2 amount=2 ledger=700 code=1 flags=2 timeout=1\npulse 3000000000\n",
-        printed: "batch 1: 0 0\nbatch 2: 0 0\nbatch 3: pulse 2\nsubscriber 1 applied 4 last 3000000001 ended yes closed no\naccount 1 0 0 0 0\naccount 2 0 0 0 0\n",
-        status: 0,
-    },
-    Run {
-        what: "three bindings of one pair of keys",
-        report: Report::Books,
-        script: "subscriber any ledger=700 event_type=two_phase_voided\nsubscriber all ledger=700 event_type=two_phase_voided\nsubscriber any\naccounts 1000\naccount id=1 ledger=700 code=10\naccount id=2 ledger=700 code=10\ntransfers 2000\ntransfer id=10 debit_account_id=1 credit_account_id=2 amount=100 ledger=700 code=1 flags=2\ntransfers 3000\ntransfer id=11 pending_id=10 flags=8\ntransfers 4000\ntransfer id=12 pending_id=10 flags=8\n",
-        printed: "batch 1: 0 0\nbatch 2: 0\nbatch 3: 0\nbatch 4: 27\nsubscriber 1 applied 2 last 3000 ended yes closed no\naccount 1 0 0 0 0\naccount 2 0 0 0 0\nsubscriber 2 applied 1 last 3000 ended yes closed no\naccount 1 0 0 0 0\naccount 2 0 0 0 0\nsubscriber 3 applied 0 last 0 ended yes closed no\n",
-        status: 0,
-    },
-    Run {
-        what: "a subscriber of every event, and one of posts alone",
-        report: Report::Books,
-        script: "subscriber all\nsubscriber all event_type=two_phase_posted\naccounts 1000\naccount id=1 ledger=700 code=10\naccount id=2 ledger=700 code=10\ntransfers 2000\ntransfer id=10 debit_account_id=1 credit_account_id=2 amount=100 ledger=700 code=1 flags=2\ntransfers 3000\ntransfer id=11 pending_id=10 amount=40 flags=4\ntransfer id=12 debit_account_id=2 credit_account_id=1 amount=5 ledger=700 code=1\n",
-        printed: "batch 1: 0 0\nbatch 2: 0\nbatch 3: 0 0\nsubscriber 1 applied 3 last 3001 ended yes closed no\naccount 1 0 40 0 5\naccount 2 0 5 0 40\nsubscriber 2 applied 1 last 3000 ended yes closed no\naccount 1 0 40 0 0\naccount 2 0 0 0 40\n",
-        status: 0,
     },
 ];
 
@@ -478,15 +491,35 @@ fn holds(rt: &HostRuntime, case: &Run) -> bool {
     false
 }
 
-#[test]
-fn runs_of_scripts(rt: HostRuntime) {
+/// How many of the runs don't hold; each of them is named.
+fn failing(rt: &HostRuntime, runs: &[Run]) -> usize {
     let mut failed = 0usize;
-    for case in RUNS.iter() {
-        if !holds(&rt, case) {
+    for case in runs {
+        if !holds(rt, case) {
             failed = failed.saturating_add(1);
         }
     }
-    assert_eq!(rt; failed, 0, "rows that fail");
+    failed
+}
+
+#[test]
+fn reports_of_scripts(rt: HostRuntime) {
+    assert_eq!(rt; failing(&rt, &REPORTS), 0, "rows that fail");
+}
+
+#[test]
+fn reports_of_two_phases(rt: HostRuntime) {
+    assert_eq!(rt; failing(&rt, &TWO_PHASES), 0, "rows that fail");
+}
+
+#[test]
+fn faults_of_scripts(rt: HostRuntime) {
+    assert_eq!(rt; failing(&rt, &FAULTS), 0, "rows that fail");
+}
+
+#[test]
+fn faults_of_subscriber_lines(rt: HostRuntime) {
+    assert_eq!(rt; failing(&rt, &BINDING_FAULTS), 0, "rows that fail");
 }
 
 /// Whether a script has exactly the bindings that these words say.
