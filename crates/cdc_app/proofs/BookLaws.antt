@@ -1,6 +1,6 @@
 -- The book of a ledger's events holds the ledger's balances as of the last of them.
-use Rattle.std.proofs.Common.{◌≡◌, ℕ, ◌<◌, ◌≤◌, Bool, true, false, cond, List, [], ◌∷◌, ◌++◌, map, refl, sym, ap, ◌∙◌, append_assoc, append-nil, add-zero, arith, inl, inr}
-use Rattle.std.proofs.lemmas.Bool.{ne_eqb, eq-eqb}
+use Rattle.std.proofs.Common.{◌≡◌, ℕ, ◌<◌, ◌≤◌, Bool, true, false, cond, List, [], ◌∷◌, ◌++◌, map, refl, sym, subst, ap, ◌∙◌, append_assoc, append-nil, arith, inl, inr}
+use Rattle.std.proofs.lemmas.Bool.{eq-eqb}
 use Rattle.std.proofs.lemmas.Bool.Decides.{eqb_tells}
 use Rattle.std.proofs.lemmas.Grind.{flat_map-append}
 use Rattle.std.proofs.lemmas.List.{reverse-append}
@@ -11,16 +11,14 @@ use Rattle.std.specs.List.{AllByRecursion, flat_map}
 use Rattle.cdc_types.specs.declared.accounts.Balances.{Balances}
 use Rattle.cdc_types.specs.declared.events.Entry.{Entry}
 use Rattle.cdc_types.specs.declared.events.Event.{Event}
-use Rattle.cdc_types.specs.declared.events.EventKind.TheVariants.{SinglePhase}
-use Rattle.cdc_types.specs.declared.transfers.Transfer.{Transfer}
 use Rattle.cdc_log.specs.Log.{last_from, last_timestamp_of}
 use Rattle.cdc_ledger.specs.History.{Opened, History, opened}
 use Rattle.cdc_ledger.specs.Balances.{balances}
 use Rattle.cdc_ledger.specs.Events.{events, event_of, nobody}
 use Rattle.cdc_ledger.specs.Sound.{RiseFrom, HasAccounts, IsSound}
-use Rattle.cdc_ledger.proofs.Changes.{pushed, IsUpTo, added}
+use Rattle.cdc_ledger.proofs.Changes.{pushed, IsUpTo}
 use Rattle.cdc_ledger.proofs.Elements.{AllByRecursion_push, AllByRecursion-weaker, map_same}
-use Rattle.cdc_ledger.proofs.BalanceLaws.{balances-pushed}
+use Rattle.cdc_ledger.proofs.OtherLaws.{HasSidesOf, sides_of_all, balances-pushed_other}
 use Rattle.cdc_ledger.proofs.EventLaws.{events-pushed}
 use Rattle.cdc_ledger.proofs.OpenedLaws.{opened_id}
 use Rattle.cdc_app.specs.declared.book.BookEntry.{BookEntry}
@@ -66,17 +64,12 @@ id_found : (h : History) (id : ℕ) (o : Option Opened) → opened h id ≡ o �
 id_found h id None is found = cc
 id_found h id (Some x) is found = opened_id h x id is
 
--- a transfer leaves the balances of other accounts
-added_other : (x : Transfer) (account : ℕ) (sums : Balances) → x.debit_account_id ≢ account → x.credit_account_id ≢ account → added x account sums ≡ sums
-added_other x account sums debit credit =
-    rw (ne_eqb x.debit_account_id account debit, ne_eqb x.credit_account_id account credit) (simp add-zero)
-
 -- what each account's last event shows of it are its balances at the last timestamp
 abbrev ShowsLast : History → Type 0
 ShowsLast h = (id : ℕ) (b : BookEntry) → seen id (events h) ≡ Some b → b ≡ entry_as_of h h.last id
 
-ShowsLast-pushed : (h : History) (e : Entry) → ShowsLast h → IsUpTo h.last h → h.last < e.timestamp → e.kind ≡ SinglePhase → HasAccounts h e → ShowsLast (pushed h e)
-ShowsLast-pushed h e shows within after single known id b found =
+ShowsLast-pushed : (h : History) (e : Entry) → ShowsLast h → IsUpTo h.last h → h.last < e.timestamp → AllByRecursion (HasSidesOf e) h.entries → HasAccounts h e → ShowsLast (pushed h e)
+ShowsLast-pushed h e shows within after sides known id b found =
     let all = rw (events-pushed h e within after, seen-push id (events h) (event_of (pushed h e) e)) at found in
     at_last (tells id (event_of (pushed h e) e) (seen id (events h)) b all)
   where
@@ -88,8 +81,8 @@ ShowsLast-pushed h e shows within after single known id b found =
         let own = id_found h e.transfer.debit_account_id _ refl known.0 in
         is ∙ ap (λ (n : ℕ). record { id = n; balances = balances (pushed h e) e.transfer.debit_account_id e.timestamp }) own ∙ ap (λ (n : ℕ). entry_as_of (pushed h e) e.timestamp n) (sym own ∙ same)
     at_last (left credit debit was) =
-        let other = added_other e.transfer id (balances h id h.last) (λ same. debit (id_found h e.transfer.debit_account_id _ refl known.0 ∙ same)) (λ same. credit (id_found h e.transfer.credit_account_id _ refl known.1 ∙ same)) in
-        shows id b was ∙ ap (λ (sums : Balances). record { id = id; balances = sums }) (sym (balances-pushed h e id within after single ∙ other))
+        let other = balances-pushed_other h e id within after sides (λ same. debit (id_found h e.transfer.debit_account_id _ refl known.0 ∙ same)) (λ same. credit (id_found h e.transfer.credit_account_id _ refl known.1 ∙ same)) in
+        shows id b was ∙ ap (λ (sums : Balances). record { id = id; balances = sums }) (sym other)
 
 -- where the entries end
 abbrev end_of : ℕ → List Entry → ℕ
@@ -100,13 +93,20 @@ end_of t (e ∷ es) = end_of e.timestamp es
 abbrev followed : History → List Entry → History
 followed h es = record h { entries = h.entries ++ es; last = end_of h.last es }
 
-ShowsLast-followed : (h : History) (es : List Entry) → ShowsLast h → IsUpTo h.last h → RiseFrom h.last es → AllByRecursion (λ e. e.kind ≡ SinglePhase) es → AllByRecursion (HasAccounts h) es → ShowsLast (followed h es)
-ShowsLast-followed h [] shows within rise single known = rw append-nil shows
-ShowsLast-followed h (e ∷ es) shows within rise single known =
+all_front : (P : Entry → Type 0) (xs ys : List Entry) → AllByRecursion P (xs ++ ys) → AllByRecursion P xs
+all_front P [] ys all = tt
+all_front P (x ∷ xs) ys all = (all.0, all_front P xs ys all.1)
+
+-- the entries es are the last ones of all
+ShowsLast-followed : (all : List Entry) (h : History) (es : List Entry) → h.entries ++ es ≡ all → ShowsLast h → IsUpTo h.last h → RiseFrom h.last es
+    → AllByRecursion (λ e. AllByRecursion (HasSidesOf e) all) es → AllByRecursion (HasAccounts h) es → ShowsLast (followed h es)
+ShowsLast-followed all h [] whole shows within rise sides known = rw append-nil shows
+ShowsLast-followed all h (e ∷ es) whole shows within rise sides known =
     let within' = AllByRecursion_push (λ x. x.timestamp ≤ e.timestamp) h.entries e (AllByRecursion-weaker (λ x. x.timestamp ≤ h.last) (λ x. x.timestamp ≤ e.timestamp) (λ x early. omega arith) h.entries within) (omega arith) in
-    let next = ShowsLast-pushed h e shows within rise.0 single.0 known.0 in
-    let all = ShowsLast-followed (pushed h e) es next within' rise.1 single.1 known.1 in
-    rw append_assoc at all
+    let before = all_front (HasSidesOf e) h.entries (e ∷ es) (subst (AllByRecursion (HasSidesOf e)) (sym whole) sides.0) in
+    let next = ShowsLast-pushed h e shows within rise.0 before known.0 in
+    let rest = ShowsLast-followed all (pushed h e) es (append_assoc h.entries (e ∷ []) es ∙ whole) next within' rise.1 sides.1 known.1 in
+    rw append_assoc at rest
 
 -- the moment of the last event is where the entries end
 last_from-events : (h : History) (t : ℕ) (es : List Entry) → last_from t (map (event_of h) es) ≡ end_of t es
@@ -117,7 +117,7 @@ last_from-events h t (e ∷ es) = last_from-events h e.timestamp es
 seen-as_of : (h : History) → IsSound h → (id : ℕ) (b : BookEntry) → seen id (events h) ≡ Some b → b ≡ entry_as_of h (last_timestamp_of (events h)) id
 seen-as_of h sound id b found =
     let start : History = record h { entries = []; last = 0 } in
-    let shows = ShowsLast-followed start h.entries (λ n c none. cc) tt sound.rising sound.single sound.known in
+    let shows = ShowsLast-followed h.entries start h.entries refl (λ n c none. cc) tt sound.rising (sides_of_all h sound) sound.known in
     rw (last_from-events h 0 h.entries) (shows id b found)
 
 -- what holds of numbers holds of their first appearances

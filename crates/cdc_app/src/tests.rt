@@ -16,7 +16,7 @@ struct Run {
     ending: Ending,
 }
 
-static RUNS: [Run; 33] = [
+static RUNS: [Run; 43] = [
     Run {
         what: "a subscriber alone",
         script: "subscriber all\n",
@@ -45,6 +45,66 @@ static RUNS: [Run; 33] = [
         what: "sums that would overflow",
         script: "subscriber all\naccounts 1000\naccount id=1 ledger=700 code=10\naccount id=2 ledger=700 code=10\ntransfers 2000\ntransfer id=1 debit_account_id=1 credit_account_id=2 amount=340282366920938463463374607431768211455 ledger=700 code=1\ntransfer id=2 debit_account_id=1 credit_account_id=2 amount=1 ledger=700 code=1\n",
         printed: "batch 1: 0 0\nbatch 2: 0 31\nsubscriber 1 applied 1 last 2000 ended yes closed no\naccount 1 0 340282366920938463463374607431768211455 0 0\naccount 2 0 0 0 340282366920938463463374607431768211455\n",
+        ending: Ending::Done,
+    },
+    Run {
+        what: "a part of a pending transfer is posted",
+        script: "subscriber all\naccounts 1000\naccount id=1 ledger=700 code=10\naccount id=2 ledger=700 code=10\ntransfers 2000\ntransfer id=10 debit_account_id=1 credit_account_id=2 amount=100 ledger=700 code=1 flags=2\ntransfers 3000\ntransfer id=11 pending_id=10 amount=40 flags=4\n",
+        printed: "batch 1: 0 0\nbatch 2: 0\nbatch 3: 0\nsubscriber 1 applied 2 last 3000 ended yes closed no\naccount 1 0 40 0 0\naccount 2 0 0 0 40\n",
+        ending: Ending::Done,
+    },
+    Run {
+        what: "more than what is pending, and then the whole",
+        script: "subscriber all\naccounts 1000\naccount id=1 ledger=700 code=10\naccount id=2 ledger=700 code=10\ntransfers 2000\ntransfer id=10 debit_account_id=1 credit_account_id=2 amount=100 ledger=700 code=1 flags=2\ntransfers 3000\ntransfer id=12 pending_id=10 amount=101 flags=4\ntransfers 4000\ntransfer id=11 pending_id=10 amount=340282366920938463463374607431768211455 flags=4\n",
+        printed: "batch 1: 0 0\nbatch 2: 0\nbatch 3: 24\nbatch 4: 0\nsubscriber 1 applied 2 last 4000 ended yes closed no\naccount 1 0 100 0 0\naccount 2 0 0 0 100\n",
+        ending: Ending::Done,
+    },
+    Run {
+        what: "a pending transfer is voided once",
+        script: "subscriber all\naccounts 1000\naccount id=1 ledger=700 code=10\naccount id=2 ledger=700 code=10\ntransfers 2000\ntransfer id=10 debit_account_id=1 credit_account_id=2 amount=100 ledger=700 code=1 flags=2\ntransfers 3000\ntransfer id=11 pending_id=10 flags=8\ntransfers 4000\ntransfer id=12 pending_id=10 flags=8\n",
+        printed: "batch 1: 0 0\nbatch 2: 0\nbatch 3: 0\nbatch 4: 27\nsubscriber 1 applied 2 last 3000 ended yes closed no\naccount 1 0 0 0 0\naccount 2 0 0 0 0\n",
+        ending: Ending::Done,
+    },
+    Run {
+        what: "a post right before the end of a pending transfer",
+        script: "subscriber all\naccounts 1000\naccount id=1 ledger=700 code=10\naccount id=2 ledger=700 code=10\ntransfers 2000\ntransfer id=10 debit_account_id=1 credit_account_id=2 amount=100 ledger=700 code=1 flags=2 timeout=1\ntransfers 1000001999\ntransfer id=11 pending_id=10 amount=340282366920938463463374607431768211455 flags=4\n",
+        printed: "batch 1: 0 0\nbatch 2: 0\nbatch 3: 0\nsubscriber 1 applied 2 last 1000001999 ended yes closed no\naccount 1 0 100 0 0\naccount 2 0 0 0 100\n",
+        ending: Ending::Done,
+    },
+    Run {
+        what: "a post at the end of a pending transfer, and a pulse after it",
+        script: "subscriber all\naccounts 1000\naccount id=1 ledger=700 code=10\naccount id=2 ledger=700 code=10\ntransfers 2000\ntransfer id=10 debit_account_id=1 credit_account_id=2 amount=100 ledger=700 code=1 flags=2 timeout=1\ntransfers 1000002000\ntransfer id=11 pending_id=10 amount=340282366920938463463374607431768211455 flags=4\npulse 1000003000\n",
+        printed: "batch 1: 0 0\nbatch 2: 0\nbatch 3: 28\nbatch 4: pulse 1\nsubscriber 1 applied 2 last 1000003000 ended yes closed no\naccount 1 0 0 0 0\naccount 2 0 0 0 0\n",
+        ending: Ending::Done,
+    },
+    Run {
+        what: "transfers and posts that come again",
+        script: "subscriber all\naccounts 1000\naccount id=1 ledger=700 code=10\naccount id=2 ledger=700 code=10\ntransfers 2000\ntransfer id=1 debit_account_id=1 credit_account_id=2 amount=100 ledger=700 code=1\ntransfer id=1 debit_account_id=1 credit_account_id=2 amount=100 ledger=700 code=1\ntransfer id=1 debit_account_id=1 credit_account_id=2 amount=101 ledger=700 code=1\ntransfers 3000\ntransfer id=10 debit_account_id=1 credit_account_id=2 amount=100 ledger=700 code=1 flags=2\ntransfer id=11 pending_id=10 amount=340282366920938463463374607431768211455 flags=4\ntransfer id=11 pending_id=10 amount=340282366920938463463374607431768211455 flags=4\ntransfer id=11 pending_id=10 amount=100 flags=4\ntransfer id=11 pending_id=10 amount=99 flags=4\n",
+        printed: "batch 1: 0 0\nbatch 2: 0 13 12\nbatch 3: 0 0 13 13 12\nsubscriber 1 applied 3 last 3001 ended yes closed no\naccount 1 0 200 0 0\naccount 2 0 0 0 200\n",
+        ending: Ending::Done,
+    },
+    Run {
+        what: "what is pending and what is posted would overflow together",
+        script: "subscriber all\naccounts 1000\naccount id=1 ledger=700 code=10\naccount id=2 ledger=700 code=10\ntransfers 2000\ntransfer id=1 debit_account_id=1 credit_account_id=2 amount=340282366920938463463374607431768211455 ledger=700 code=1 flags=2\ntransfer id=2 debit_account_id=1 credit_account_id=2 amount=1 ledger=700 code=1\n",
+        printed: "batch 1: 0 0\nbatch 2: 0 33\nsubscriber 1 applied 1 last 2000 ended yes closed no\naccount 1 340282366920938463463374607431768211455 0 0 0\naccount 2 0 0 340282366920938463463374607431768211455 0\n",
+        ending: Ending::Done,
+    },
+    Run {
+        what: "a pending transfer that would end too late",
+        script: "subscriber all\naccounts 1000\naccount id=1 ledger=700 code=10\naccount id=2 ledger=700 code=10\ntransfers 9000000000000000000\ntransfer id=1 debit_account_id=1 credit_account_id=2 amount=1 ledger=700 code=1 flags=2 timeout=4294967295\n",
+        printed: "batch 1: 0 0\nbatch 2: 35\nsubscriber 1 applied 0 last 0 ended yes closed no\n",
+        ending: Ending::Done,
+    },
+    Run {
+        what: "each fault of a transfer's own fields, and of what it names",
+        script: "subscriber all\naccounts 1000\naccount id=1 ledger=700 code=10\naccount id=2 ledger=700 code=10\ntransfers 2000\ntransfer id=0\ntransfer id=340282366920938463463374607431768211455\ntransfer id=1 flags=6\ntransfer id=1 pending_id=9\ntransfer id=1 flags=4\ntransfer id=1 flags=4 pending_id=1\ntransfer id=1 timeout=1\ntransfer id=1\ntransfer id=1 ledger=700\ntransfer id=1 debit_account_id=1 credit_account_id=1 amount=1 ledger=700 code=1\ntransfer id=1 debit_account_id=3 credit_account_id=2 amount=1 ledger=700 code=1\ntransfer id=1 debit_account_id=1 credit_account_id=3 amount=1 ledger=700 code=1\ntransfer id=1 debit_account_id=1 credit_account_id=2 amount=1 ledger=701 code=1\ntransfer id=1 flags=16\ntransfer id=1 flags=4 pending_id=9\n",
+        printed: "batch 1: 0 0\nbatch 2: 2 3 4 5 6 7 8 9 10 11 14 15 17 1 18\nsubscriber 1 applied 0 last 0 ended yes closed no\n",
+        ending: Ending::Done,
+    },
+    Run {
+        what: "the pending transfer that ends first expires first",
+        script: "subscriber all\naccounts 1000\naccount id=1 ledger=700 code=10\naccount id=2 ledger=700 code=10\ntransfers 2000\ntransfer id=10 debit_account_id=1 credit_account_id=2 amount=1 ledger=700 code=1 flags=2 timeout=2\ntransfer id=11 debit_account_id=1 credit_account_id=2 amount=2 ledger=700 code=1 flags=2 timeout=1\npulse 3000000000\n",
+        printed: "batch 1: 0 0\nbatch 2: 0 0\nbatch 3: pulse 2\nsubscriber 1 applied 4 last 3000000001 ended yes closed no\naccount 1 0 0 0 0\naccount 2 0 0 0 0\n",
         ending: Ending::Done,
     },
     Run {

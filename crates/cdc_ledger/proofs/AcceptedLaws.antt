@@ -1,30 +1,38 @@
--- What it takes that a request is accepted: no line of its table applies.
-use Rattle.std.proofs.Common.{ℕ, ◌+◌, ◌≤◌, Bool, true, false, not, ◌&&◌, List, [], ◌∷◌, ◌++◌, ◌≡◌, ◌≢◌, Option, Some, None, refl, sym, ap, ◌∙◌}
-use Rattle.std.specs.Prelude.{◌==◌, if◌then◌else◌, unwrap_or, bit_and}
-use Rattle.std.specs.List.{list_all}
+-- What it takes that a request is accepted: no line of its table applies. Then its entry may come next.
+use Rattle.std.proofs.Common.{ℕ, ◌+◌, ◌<◌, ◌≤◌, Bool, true, false, not, ◌&&◌, ◌||◌, List, [], ◌∷◌, ◌++◌, ◌≡◌, ◌≢◌, Option, Some, None, refl, sym, ap, subst, ◌∙◌, arith}
+use Rattle.std.specs.Prelude.{◌==◌, if◌then◌else◌, unwrap_or, nat_lt, nat_le}
+use Rattle.std.specs.List.{list_all, list_any}
 use Rattle.std.specs.Option.{IsSome}
-use Rattle.std.proofs.lemmas.Bool.{and_parts, and_from, not-true, not-false, eqb-true, eq-eqb, ltb-false, both_ways, or_from, false≢true}
+use Rattle.std.proofs.lemmas.Bool.{and_parts, and_from, not-true, not-false, eqb-true, eq-eqb, ne_eqb, ltb-false, both_ways, or_from, or_parts, false≢true}
 use Rattle.std.proofs.lemmas.List.Folds.{list_all-append}
-use Rattle.std.proofs.lemmas.Nat.{and_assoc}
+use Rattle.cdc_types.specs.declared.accounts.Balances.{Balances}
 use Rattle.cdc_types.specs.declared.accounts.NewAccount.{NewAccount}
 use Rattle.cdc_types.specs.declared.events.Entry.{Entry}
-use Rattle.cdc_types.specs.declared.events.EventKind.TheVariants.{SinglePhase, TwoPhasePending, TwoPhasePosted, TwoPhaseVoided}
+use Rattle.cdc_types.specs.declared.events.EventKind.{EventKind}
+use Rattle.cdc_types.specs.declared.events.EventKind.TheVariants.{SinglePhase, TwoPhasePending, TwoPhasePosted, TwoPhaseVoided, TwoPhaseExpired}
 use Rattle.cdc_types.specs.declared.results.AccountResult.{AccountResult}
 use Rattle.cdc_types.specs.declared.results.AccountResult.TheVariants as account
 use Rattle.cdc_types.specs.declared.results.TransferResult.{TransferResult}
 use Rattle.cdc_types.specs.declared.results.TransferResult.TheVariants as transfer
 use Rattle.cdc_types.specs.declared.transfers.NewTransfer.{NewTransfer}
-use Rattle.cdc_types.specs.Features.{Features, features}
-use Rattle.cdc_types.specs.Flags.{has_flag, is_pending_request, is_post_request, is_void_request, is_plain_request}
+use Rattle.cdc_types.specs.declared.transfers.Transfer.{Transfer}
+use Rattle.cdc_types.specs.Features.{Features}
+use Rattle.cdc_types.specs.Flags.{is_pending_request, is_post_request, is_void_request, is_plain_request}
 use Rattle.cdc_types.specs.Lines.{first_line}
 use Rattle.cdc_types.specs.Results.{account_number, transfer_number}
-use Rattle.cdc_types.specs.Shapes.{max_128, account_shape_lines, transfer_shape_lines}
+use Rattle.cdc_types.specs.Shapes.{max_128, account_shape_lines, asks_for_two_kinds, transfer_shape_lines}
+use Rattle.cdc_ledger.specs.Balances.{balances, resolved, resolves, some_by}
+use Rattle.cdc_ledger.specs.Filling.{stored, filled, filled_by, filled_from, as_asked, or_own, settled_amount, expires_at}
+use Rattle.cdc_ledger.specs.Follows.{Follows}
 use Rattle.cdc_ledger.specs.History.{Opened, History, opened}
-use Rattle.cdc_ledger.specs.Balances.{balances}
-use Rattle.cdc_ledger.specs.Filling.{stored, filled, filled_by, as_asked}
-use Rattle.cdc_ledger.specs.Submit.{kind_of}
-use Rattle.cdc_ledger.specs.Verdict.{known_account_lines, account_verdict, known_transfer_lines, plain_lines, settling_lines, transfer_lines, transfer_verdict}
+use Rattle.cdc_ledger.specs.Kinds.{holds, settles, settled_id, posts, voids, expires}
+use Rattle.cdc_ledger.specs.Sound.{HasAccounts, Stands, IsSound}
+use Rattle.cdc_ledger.specs.Submit.{kind_of, entry_of}
+use Rattle.cdc_ledger.specs.Changes.{expiry}
+use Rattle.cdc_ledger.specs.Verdict.{max_timestamp, is_other, is_over, known_account_lines, account_verdict, known_transfer_lines, plain_lines, settling_lines, transfer_lines, transfer_verdict}
+use Rattle.cdc_ledger.proofs.BalanceLaws.{balances_later, resolved_later}
 use Rattle.cdc_ledger.proofs.LineLaws.{first_line_append_none_parts, none_applies}
+use Rattle.cdc_ledger.proofs.StoredLaws.{stored_has}
 
 -- each line refuses: its result isn't the acceptance, whose number is 0
 module _ {R : Type 0} (number : R → ℕ) (accepted : R) where
@@ -105,78 +113,235 @@ no_line_from_accepted offered h r t zero =
     no_line transfer_number transfer.Accepted (transfer_lines offered h r t)
     (refuse-append transfer_number transfer.Accepted (transfer_shape_lines offered r) (known ++ own_lines h r t) refl rest_refuse) zero
 
-no_transfer_line : (offered : Features) (h : History) (r : NewTransfer) (t : ℕ) → (transfer_number (transfer_verdict offered h r t) == 0) ≡ true
+-- the three parts of the table, of which no line applies
+no_line_parts : (offered : Features) (h : History) (r : NewTransfer) (t : ℕ) → first_line (transfer_lines offered h r t) ≡ None
     → (first_line (transfer_shape_lines offered r) ≡ None) × (stored h r.id ≡ None) × (first_line (own_lines h r t) ≡ None)
-no_transfer_line offered h r t zero =
+no_line_parts offered h r t none =
     let known : List (Bool × TransferResult) = known_transfer_lines (stored h r.id) h r in
     let parts : (first_line (transfer_shape_lines offered r) ≡ None) × (first_line (known ++ own_lines h r t) ≡ None) =
-    first_line_append_none_parts (transfer_shape_lines offered r) (known ++ own_lines h r t) (no_line_from_accepted offered h r t zero) in
+    first_line_append_none_parts (transfer_shape_lines offered r) (known ++ own_lines h r t) none in
     let two : (first_line known ≡ None) × (first_line (own_lines h r t) ≡ None) = first_line_append_none_parts known (own_lines h r t) parts.1 in
     (parts.0, known_transfer_none (stored h r.id) h r two.0, two.1)
 
--- no flag of a transfer is offered today, so each one is single-phase
-pub flags_none : (r : NewTransfer) → first_line (transfer_shape_lines features r) ≡ None → bit_and r.flags 65535 ≡ 0
-flags_none r none = eqb-true (bit_and r.flags 65535) 0 (not-false _ (none_applies (transfer_shape_lines features r) none).0)
+-- the tests of a request's own fields, each of which fails
+record ShapePasses (r : NewTransfer) : Type 0 where
+  one_kind : asks_for_two_kinds r ≡ false
+  endless : (not (is_pending_request r) && not (r.timeout == 0)) ≡ false
+  apart : (is_plain_request r && (r.debit_account_id == r.credit_account_id)) ≡ false
 
-pub flag_off : (flags bits : ℕ) → bit_and flags 65535 ≡ 0 → bit_and 65535 bits ≡ bits → has_flag flags bits ≡ false
-flag_off flags bits none within = ap (λ n. not (n == 0)) (ap (bit_and flags) (sym within) ∙ (sym (and_assoc bits flags 65535) ∙ ap (λ n. bit_and n bits) none))
+shape_passes : (offered : Features) (r : NewTransfer) → first_line (transfer_shape_lines offered r) ≡ None → ShapePasses r
+shape_passes offered r none =
+    let from_flag = none_applies (transfer_shape_lines offered r) none in
+    let from_kinds = from_flag.1.1.1 in
+    let from_timeout = from_kinds.1.1.1.1 in
+    let from_apart = from_timeout.1.1.1 in
+    record { one_kind = from_kinds.0; endless = from_timeout.0; apart = from_apart.0 }
 
--- so the transfer names its accounts itself
-pub plain_from : (r : NewTransfer) → first_line (transfer_shape_lines features r) ≡ None → is_plain_request r ≡ true
-plain_from r none = ap not (or_from (is_post_request r) (is_void_request r) (flag_off r.flags 4 (flags_none r none) refl) (flag_off r.flags 8 (flags_none r none) refl))
+-- the accounts of a single-phase or a pending transfer are there, both sums fit, and so does the end
+record PlainPasses (debited credited : Option Opened) (h : History) (r : NewTransfer) (t : ℕ) : Type 0 where
+  debit_there : IsSome debited
+  credit_there : IsSome credited
+  debits : (balances h r.debit_account_id t).debits_pending + (balances h r.debit_account_id t).debits_posted + r.amount ≤ max_128
+  credits : (balances h r.credit_account_id t).credits_pending + (balances h r.credit_account_id t).credits_posted + r.amount ≤ max_128
+  timely : r.timeout ≢ 0 → expires_at (as_asked r t) ≤ max_timestamp
 
-kind_single : (pending post void : Bool) → pending ≡ false → post ≡ false → void ≡ false
-    → (if pending then TwoPhasePending else if post then TwoPhasePosted else if void then TwoPhaseVoided else SinglePhase) ≡ SinglePhase
-kind_single pending post void p q w = rw (p, q, w)
+ends_in_time : (r : NewTransfer) (t : ℕ) → (not (r.timeout == 0) && nat_lt max_timestamp (expires_at (as_asked r t))) ≡ false → r.timeout ≢ 0 → expires_at (as_asked r t) ≤ max_timestamp
+ends_in_time r t line some = ltb-false max_timestamp (expires_at (as_asked r t)) (sym (ap (λ b. not b && nat_lt max_timestamp (expires_at (as_asked r t))) (ne_eqb r.timeout 0 some)) ∙ line)
 
--- what is known of a transfer that is accepted
-pub record IsAccepted (h : History) (r : NewTransfer) (t : ℕ) : Type 0 where
-  pub kind : kind_of r ≡ SinglePhase
-  pub asked : filled h r t ≡ as_asked r t
-  pub fresh : stored h r.id ≡ None
-  pub apart : r.debit_account_id ≢ r.credit_account_id
-  pub debited : IsSome (opened h r.debit_account_id)
-  pub credited : IsSome (opened h r.credit_account_id)
-  pub debit : (balances h r.debit_account_id t).debits_pending + (balances h r.debit_account_id t).debits_posted + r.amount ≤ max_128
-  pub credit : (balances h r.credit_account_id t).credits_pending + (balances h r.credit_account_id t).credits_posted + r.amount ≤ max_128
+plain_passes : (d c : Option Opened) (h : History) (r : NewTransfer) (t : ℕ) → first_line (plain_lines d c h r t) ≡ None → PlainPasses d c h r t
+plain_passes None c h r t none = absurd (false≢true (sym (none_applies (plain_lines None c h r t) none).0))
+plain_passes (Some d) None h r t none = absurd (false≢true (sym (none_applies (plain_lines (Some d) None h r t) none).0))
+plain_passes (Some d) (Some c) h r t none =
+    let from_ledgers = none_applies (plain_lines (Some d) (Some c) h r t) none in
+    let from_pending_sums = from_ledgers.1.1 in
+    let from_posted_sums = from_pending_sums.1.1 in
+    let from_sums = from_posted_sums.1.1 in
+    let from_timeout = from_sums.1.1 in
+    record {
+      debit_there = refl;
+      credit_there = refl;
+      debits = ltb-false max_128 _ from_sums.0;
+      credits = ltb-false max_128 _ from_sums.1.0;
+      timely = ends_in_time r t from_timeout.0;
+    }
 
--- both accounts are there, and both sums fit
-record Room (d c : Option Opened) (h : History) (r : NewTransfer) (t : ℕ) : Type 0 where
-  debited : IsSome d
-  credited : IsSome c
-  debit : (balances h r.debit_account_id t).debits_pending + (balances h r.debit_account_id t).debits_posted + r.amount ≤ max_128
-  credit : (balances h r.credit_account_id t).credits_pending + (balances h r.credit_account_id t).credits_posted + r.amount ≤ max_128
+-- the entry that a post or a void names is a pending one, which nothing settled; what is given of it is its own
+record SettlingPasses (named : Option Entry) (h : History) (r : NewTransfer) (t : ℕ) : Type 0 where
+  pending : Entry
+  there : named ≡ Some pending
+  holding : holds pending.kind ≡ true
+  debit : is_other r.debit_account_id pending.transfer.debit_account_id ≡ false
+  credit : is_other r.credit_account_id pending.transfer.credit_account_id ≡ false
+  within : settled_amount r pending.transfer ≤ pending.transfer.amount
+  unposted : some_by h t (λ x. posts x.kind x.transfer pending.transfer) ≡ false
+  unvoided : some_by h t (λ x. voids x.kind x.transfer pending.transfer) ≡ false
+  going_on : is_over h pending.transfer t ≡ false
 
-plain_room : (d c : Option Opened) (h : History) (r : NewTransfer) (t : ℕ) → first_line (plain_lines d c h r t) ≡ None → Room d c h r t
-plain_room None c h r t none = absurd (false≢true (sym (none_applies (plain_lines None c h r t) none).0))
-plain_room (Some d) None h r t none = absurd (false≢true (sym (none_applies (plain_lines (Some d) None h r t) none).0))
-plain_room (Some d) (Some c) h r t none = record {
-  debited = refl;
-  credited = refl;
-  debit = ltb-false max_128 _ (none_applies (plain_lines (Some d) (Some c) h r t) none).1.1.1.1.1.1.0;
-  credit = ltb-false max_128 _ (none_applies (plain_lines (Some d) (Some c) h r t) none).1.1.1.1.1.1.1.0;
+settling_passes : (named : Option Entry) (h : History) (r : NewTransfer) (t : ℕ) → first_line (settling_lines named h r t) ≡ None → SettlingPasses named h r t
+settling_passes None h r t none = absurd (false≢true (sym (none_applies (settling_lines None h r t) none).0))
+settling_passes (Some x) h r t none =
+    let from_kind = none_applies (settling_lines (Some x) h r t) none in
+    let from_debit = from_kind.1 in
+    let from_credit = from_debit.1 in
+    let from_amount = from_credit.1.1.1 in
+    let from_posted = from_amount.1.1 in
+    let from_voided = from_posted.1 in
+    let from_over = from_voided.1 in
+    record {
+      pending = x;
+      there = refl;
+      holding = not-false (holds x.kind) from_kind.0;
+      debit = from_debit.0;
+      credit = from_credit.0;
+      within = ltb-false x.transfer.amount (settled_amount r x.transfer) from_amount.0;
+      unposted = from_posted.0;
+      unvoided = from_voided.0;
+      going_on = from_over.0;
+    }
+
+-- nothing posted, voided or ended the transfer, so nothing resolved it
+none_of_three : (p : Transfer) (t : ℕ) (es : List Entry) → list_any (λ e. nat_le e.timestamp t && posts e.kind e.transfer p) es ≡ false → list_any (λ e. nat_le e.timestamp t && voids e.kind e.transfer p) es ≡ false
+    → list_any (λ e. nat_le e.timestamp t && expires e.kind e.transfer p) es ≡ false → list_any (λ e. nat_le e.timestamp t && resolves p e) es ≡ false
+none_of_three p t [] posted voided expired = refl
+none_of_three p t (e ∷ es) posted voided expired =
+    let post = or_parts (nat_le e.timestamp t && posts e.kind e.transfer p) (list_any (λ x. nat_le x.timestamp t && posts x.kind x.transfer p) es) posted in
+    let void = or_parts (nat_le e.timestamp t && voids e.kind e.transfer p) (list_any (λ x. nat_le x.timestamp t && voids x.kind x.transfer p) es) voided in
+    let expire = or_parts (nat_le e.timestamp t && expires e.kind e.transfer p) (list_any (λ x. nat_le x.timestamp t && expires x.kind x.transfer p) es) expired in
+    or_from (nat_le e.timestamp t && resolves p e) (list_any (λ x. nat_le x.timestamp t && resolves p x) es)
+    (three (nat_le e.timestamp t) (posts e.kind e.transfer p) (voids e.kind e.transfer p) (expires e.kind e.transfer p) post.0 void.0 expire.0)
+    (none_of_three p t es post.1 void.1 expire.1)
+  where
+    three : (seen a b c : Bool) → (seen && a) ≡ false → (seen && b) ≡ false → (seen && c) ≡ false → (seen && (a || b || c)) ≡ false
+    three true a b c p q r = or_from (a || b) c (or_from a b p q) r
+    three false a b c p q r = refl
+
+unresolved_from : (h : History) (p : Transfer) (t : ℕ) → some_by h t (λ x. posts x.kind x.transfer p) ≡ false → some_by h t (λ x. voids x.kind x.transfer p) ≡ false → is_over h p t ≡ false → resolved h p t ≡ false
+unresolved_from h p t posted voided over =
+    none_of_three p t h.entries posted voided (or_parts (some_by h t (λ x. expires x.kind x.transfer p)) (not (p.timeout == 0) && nat_le (expires_at p) t) over).0
+
+-- what is given and isn't another than the pending transfer's own is its own
+own_given : (given own : ℕ) → is_other given own ≡ false → or_own given own ≡ own
+own_given given own line = by (given == 0) (given == own) refl line
+  where
+    by : (none same : Bool) → (given == own) ≡ same → (not none && not same) ≡ false → (if none then own else given) ≡ own
+    by true same is other = refl
+    by false true is other = eqb-true given own is
+    by false false is other = absurd (false≢true (sym other))
+
+-- an entry at its moment
+abbrev entry_with : EventKind → Transfer → ℕ → Entry
+entry_with k x t = record { timestamp = t; kind = k; transfer = x }
+
+-- a single-phase or a pending transfer
+Follows-plain : (k : EventKind) (h : History) (r : NewTransfer) (t : ℕ) → IsSound h → h.last < t → settles k ≡ false → stored h r.id ≡ None → r.debit_account_id ≢ r.credit_account_id
+    → PlainPasses (opened h r.debit_account_id) (opened h r.credit_account_id) h r t → Follows h (entry_with k (as_asked r t) t)
+Follows-plain k h r t sound later plain new apart passes = record {
+  accounts = (passes.debit_there, passes.credit_there);
+  apart = apart;
+  fresh = λ is. new;
+  dated = λ is. refl;
+  timely = λ is some. passes.timely some;
+  room = λ is. record {
+    debit = subst (λ (b : Balances). b.debits_pending + b.debits_posted + r.amount ≤ max_128) (balances_later h r.debit_account_id h.last t sound.past (omega arith)) passes.debits;
+    credit = subst (λ (b : Balances). b.credits_pending + b.credits_posted + r.amount ≤ max_128) (balances_later h r.credit_account_id h.last t sound.past (omega arith)) passes.credits;
+  };
+  settling = λ is. absurd (false≢true (sym plain ∙ is));
 }
+
+-- the kinds that a request settles by
+record IsRequested (k : EventKind) : Type 0 where
+  settling : settles k ≡ true
+  holding : holds k ≡ false
+  named : (x : Transfer) → settled_id k x ≡ x.pending_id
+  unexpired : k ≢ TwoPhaseExpired
+
+-- a post or a void
+Follows-settling : (k : EventKind) (h : History) (r : NewTransfer) (t : ℕ) → IsSound h → h.last < t → IsRequested k → stored h r.id ≡ None
+    → (passes : SettlingPasses (stored h r.pending_id) h r t) → Follows h (entry_with k (filled_from passes.pending.transfer r t) t)
+Follows-settling k h r t sound later requested new passes =
+    let x : Entry = passes.pending in
+    let debit : or_own r.debit_account_id x.transfer.debit_account_id ≡ x.transfer.debit_account_id = own_given r.debit_account_id x.transfer.debit_account_id passes.debit in
+    let credit : or_own r.credit_account_id x.transfer.credit_account_id ≡ x.transfer.credit_account_id = own_given r.credit_account_id x.transfer.credit_account_id passes.credit in
+    let known : HasAccounts h x = stored_has (HasAccounts h) h r.pending_id x sound.known passes.there in
+    let stands : Stands h x = stored_has (Stands h) h r.pending_id x sound.standing passes.there in
+    record {
+      accounts = (subst (λ id. IsSome (opened h id)) (sym debit) known.0, subst (λ id. IsSome (opened h id)) (sym credit) known.1);
+      apart = λ same. stands.apart (sym debit ∙ same ∙ credit);
+      fresh = λ is. new;
+      dated = λ is. refl;
+      timely = λ is. absurd (false≢true (sym requested.holding ∙ is));
+      room = λ is. absurd (false≢true (sym is ∙ requested.settling));
+      settling = λ is. record {
+        pending = x;
+        settles = record {
+          named = ap (stored h) (requested.named (filled_from x.transfer r t)) ∙ passes.there;
+          pending = passes.holding;
+          debit = debit;
+          credit = credit;
+          within = passes.within;
+          shown = λ same. absurd (requested.unexpired same);
+        };
+        unsettled = sym (resolved_later h x.transfer h.last t sound.past (omega arith)) ∙ unresolved_from h x.transfer t passes.unposted passes.unvoided passes.going_on;
+      };
+    }
+
+-- the end of a pending transfer that nothing settled
+pub Follows-expiry : (h : History) (x : Entry) (t : ℕ) → IsSound h → stored h x.transfer.id ≡ Some x → holds x.kind ≡ true → resolved h x.transfer h.last ≡ false → Follows h (expiry x.transfer t)
+Follows-expiry h x t sound there holding unsettled =
+    let stands : Stands h x = stored_has (Stands h) h x.transfer.id x sound.standing there in
+    record {
+      accounts = stored_has (HasAccounts h) h x.transfer.id x sound.known there;
+      apart = stands.apart;
+      fresh = λ is. absurd (false≢true is);
+      dated = λ is. absurd (false≢true is);
+      timely = λ is. absurd (false≢true is);
+      room = λ is. absurd (false≢true (sym is));
+      settling = λ is. record {
+        pending = x;
+        settles = record { named = there; pending = holding; debit = refl; credit = refl; within = omega arith; shown = λ same. refl };
+        unsettled = unsettled;
+      };
+    }
+
+-- what a request asks for, by its flags
+plain_kind : (pending post void : Bool) → not (post || void) ≡ true
+    → settles (if pending then TwoPhasePending else if post then TwoPhasePosted else if void then TwoPhaseVoided else SinglePhase) ≡ false
+plain_kind true post void plain = refl
+plain_kind false true void plain = absurd (false≢true plain)
+plain_kind false false true plain = absurd (false≢true plain)
+plain_kind false false false plain = refl
+
+settling_kind : (pending post void : Bool) → not (post || void) ≡ false → ((pending && post) || (pending && void) || (post && void)) ≡ false
+    → IsRequested (if pending then TwoPhasePending else if post then TwoPhasePosted else if void then TwoPhaseVoided else SinglePhase)
+settling_kind true true void plain one = absurd (false≢true (sym one))
+settling_kind true false true plain one = absurd (false≢true (sym one))
+settling_kind true false false plain one = absurd (false≢true (sym plain))
+settling_kind false true void plain one = record { settling = refl; holding = refl; named = λ x. refl; unexpired = λ same. cc }
+settling_kind false false true plain one = record { settling = refl; holding = refl; named = λ x. refl; unexpired = λ same. cc }
+settling_kind false false false plain one = absurd (false≢true (sym plain))
 
 apart_from : (r : NewTransfer) → is_plain_request r ≡ true → (is_plain_request r && (r.debit_account_id == r.credit_account_id)) ≡ false → r.debit_account_id ≢ r.credit_account_id
 apart_from r plain line same = false≢true (sym line ∙ and_from _ _ plain (eq-eqb r.debit_account_id r.credit_account_id same))
 
-pub accepted_transfer : (h : History) (r : NewTransfer) (t : ℕ) → (transfer_number (transfer_verdict features h r t) == 0) ≡ true → IsAccepted h r t
-accepted_transfer h r t zero =
-    let none : (first_line (transfer_shape_lines features r) ≡ None) × (stored h r.id ≡ None) × (first_line (own_lines h r t) ≡ None) = no_transfer_line features h r t zero in
-    let flags : bit_and r.flags 65535 ≡ 0 = flags_none r none.0 in
-    let post : is_post_request r ≡ false = flag_off r.flags 4 flags refl in
-    let void : is_void_request r ≡ false = flag_off r.flags 8 flags refl in
-    let plain : is_plain_request r ≡ true = plain_from r none.0 in
-    let room : Room (opened h r.debit_account_id) (opened h r.credit_account_id) h r t =
-    plain_room (opened h r.debit_account_id) (opened h r.credit_account_id) h r t
-    (sym (ap (λ b. first_line (if b then plain_lines (opened h r.debit_account_id) (opened h r.credit_account_id) h r t else settling_lines (stored h r.pending_id) h r t)) plain) ∙ none.2) in
-    record {
-      kind = kind_single (is_pending_request r) (is_post_request r) (is_void_request r) (flag_off r.flags 2 flags refl) post void;
-      asked = ap (λ b. if b then as_asked r t else filled_by (stored h r.pending_id) r t) plain;
-      fresh = none.1;
-      apart = apart_from r plain (none_applies (transfer_shape_lines features r) none.0).1.1.1.1.1.1.1.1.1.1.0;
-      debited = room.debited;
-      credited = room.credited;
-      debit = room.debit;
-      credit = room.credit;
-    }
+-- a request that no line refuses: its entry may come next
+pub Follows-accepted : (offered : Features) (h : History) (r : NewTransfer) (t : ℕ) → IsSound h → h.last < t → first_line (transfer_lines offered h r t) ≡ None → Follows h (entry_of h r t)
+Follows-accepted offered h r t sound later none =
+    let parts : (first_line (transfer_shape_lines offered r) ≡ None) × (stored h r.id ≡ None) × (first_line (own_lines h r t) ≡ None) = no_line_parts offered h r t none in
+    by (is_plain_request r) refl (shape_passes offered r parts.0) parts.1 parts.2
+  where
+    by : (plain : Bool) → is_plain_request r ≡ plain → ShapePasses r → stored h r.id ≡ None → first_line (own_lines h r t) ≡ None → Follows h (entry_of h r t)
+    by true is shape new own =
+        let passes : PlainPasses (opened h r.debit_account_id) (opened h r.credit_account_id) h r t =
+        plain_passes (opened h r.debit_account_id) (opened h r.credit_account_id) h r t
+        (sym (ap (λ b. first_line (if b then plain_lines (opened h r.debit_account_id) (opened h r.credit_account_id) h r t else settling_lines (stored h r.pending_id) h r t)) is) ∙ own) in
+        let asked : filled h r t ≡ as_asked r t = ap (λ b. if b then as_asked r t else filled_by (stored h r.pending_id) r t) is in
+        subst (λ (x : Transfer). Follows h (entry_with (kind_of r) x t)) (sym asked)
+        (Follows-plain (kind_of r) h r t sound later (plain_kind (is_pending_request r) (is_post_request r) (is_void_request r) is) new (apart_from r is shape.apart) passes)
+    by false is shape new own =
+        let passes : SettlingPasses (stored h r.pending_id) h r t =
+        settling_passes (stored h r.pending_id) h r t
+        (sym (ap (λ b. first_line (if b then plain_lines (opened h r.debit_account_id) (opened h r.credit_account_id) h r t else settling_lines (stored h r.pending_id) h r t)) is) ∙ own) in
+        let asked : filled h r t ≡ filled_from passes.pending.transfer r t =
+        ap (λ b. if b then as_asked r t else filled_by (stored h r.pending_id) r t) is ∙ ap (λ o. filled_by o r t) passes.there in
+        subst (λ (x : Transfer). Follows h (entry_with (kind_of r) x t)) (sym asked)
+        (Follows-settling (kind_of r) h r t sound later (settling_kind (is_pending_request r) (is_post_request r) (is_void_request r) is shape.one_kind) new passes)

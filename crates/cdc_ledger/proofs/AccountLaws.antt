@@ -4,11 +4,11 @@ use Rattle.std.specs.List.{AllByRecursion}
 use Rattle.std.proofs.lemmas.List.{map_push}
 use Rattle.cdc_types.specs.declared.accounts.Account.{Account}
 use Rattle.cdc_types.specs.declared.events.Entry.{Entry}
-use Rattle.cdc_types.specs.declared.events.EventKind.TheVariants.{SinglePhase}
 use Rattle.cdc_ledger.specs.History.{Opened, History, opened}
 use Rattle.cdc_ledger.specs.Events.{accounts_now, account_now, account_with}
-use Rattle.cdc_ledger.specs.Sound.{HasAccounts}
-use Rattle.cdc_ledger.proofs.Changes.{pushed, with_account, timed, IsUpTo, account_added, no_balances}
+use Rattle.cdc_ledger.specs.Follows.{Follows}
+use Rattle.cdc_ledger.specs.Sound.{HasAccounts, IsSound}
+use Rattle.cdc_ledger.proofs.Changes.{pushed, with_account, timed, IsUpTo, account_changed, effect_of, no_balances}
 use Rattle.cdc_ledger.proofs.Elements.{AllByRecursion-every, map_same, map-map}
 use Rattle.cdc_ledger.proofs.BalanceLaws.{balances_later, balances-pushed, balances_none}
 
@@ -19,12 +19,16 @@ pub accounts_now-timed : (h : History) (t : ℕ) → IsUpTo h.last h → h.last 
 accounts_now-timed h t within later = map_every (account_now (timed h t)) (account_now h)
     (λ o. ap (account_with o) (balances_later h o.request.id h.last t within later)) h.accounts
 
-pub accounts_now-pushed : (h : History) (e : Entry) → IsUpTo h.last h → h.last < e.timestamp → e.kind ≡ SinglePhase
-    → accounts_now (pushed h e) ≡ map (account_added e.transfer) (accounts_now h)
-accounts_now-pushed h e within after single =
-    map_every (account_now (pushed h e)) (λ o. account_added e.transfer (account_now h o))
-    (λ o. ap (account_with o) (balances-pushed h e o.request.id within after single)) h.accounts
-    ∙ sym (map-map (account_added e.transfer) (account_now h) h.accounts)
+-- the account after the entry e
+abbrev pub account_after : History → Entry → Account → Account
+account_after h e = account_changed (effect_of h e) e.transfer.debit_account_id e.transfer.credit_account_id
+
+pub accounts_now-pushed : (h : History) (e : Entry) → IsSound h → Follows h e → h.last < e.timestamp
+    → accounts_now (pushed h e) ≡ map (account_after h e) (accounts_now h)
+accounts_now-pushed h e sound follows after =
+    map_every (account_now (pushed h e)) (λ o. account_after h e (account_now h o))
+    (λ o. ap (account_with o) (balances-pushed h e o.request.id sound follows after)) h.accounts
+    ∙ sym (map-map (account_after h e) (account_now h) h.accounts)
 
 pub accounts_now-with_account : (h : History) (o : Opened) → IsUpTo h.last h → AllByRecursion (HasAccounts h) h.entries
     → opened h o.request.id ≡ None → h.last ≤ o.timestamp → accounts_now (with_account h o) ≡ accounts_now h ++ account_with o no_balances ∷ []

@@ -1,23 +1,17 @@
--- The history after a request for a transfer, by whether a line refuses it.
-use Rattle.std.proofs.Common.{ℕ, Bool, true, false, [], ◌∷◌, ◌++◌, ◌≡◌, Some, None, refl, ap, ap₂, ◌∙◌}
+-- The history after a request for a transfer that a line refuses.
+use Rattle.std.proofs.Common.{ℕ, Bool, true, false, ◌≡◌, Some, None, refl, ap, ◌∙◌}
 use Rattle.std.specs.Prelude.{◌==◌, if◌then◌else◌, unwrap_or}
-use Rattle.cdc_types.specs.declared.events.Entry.{Entry}
-use Rattle.cdc_types.specs.declared.events.EventKind.{EventKind}
 use Rattle.cdc_types.specs.declared.results.TransferResult.{TransferResult}
 use Rattle.cdc_types.specs.declared.results.TransferResult.TheVariants.{Accepted}
 use Rattle.cdc_types.specs.declared.transfers.NewTransfer.{NewTransfer}
-use Rattle.cdc_types.specs.declared.transfers.Transfer.{Transfer}
 use Rattle.cdc_types.specs.Features.{features}
 use Rattle.cdc_types.specs.Lines.{first_line}
 use Rattle.cdc_types.specs.Results.{transfer_number}
 use Rattle.cdc_ledger.specs.Changes.{pushed, timed}
-use Rattle.cdc_ledger.specs.Entries.{single_entry}
-use Rattle.cdc_ledger.specs.Filling.{filled}
 use Rattle.cdc_ledger.specs.History.{History}
-use Rattle.cdc_ledger.specs.Submit.{after_transfer, kind_of}
+use Rattle.cdc_ledger.specs.Submit.{after_transfer, entry_of}
 use Rattle.cdc_ledger.specs.Verdict.{transfer_lines}
-use Rattle.cdc_ledger.proofs.AcceptedLaws.{IsAccepted, no_line_from_accepted}
-use Rattle.cdc_ledger.proofs.Stored.{IsAccepted-no_line}
+use Rattle.cdc_ledger.proofs.AcceptedLaws.{no_line_from_accepted}
 
 -- a request that a line refuses isn't accepted
 number_from : (h : History) (r : NewTransfer) (t : ℕ) (x : TransferResult) (b : Bool) → (transfer_number x == 0) ≡ b
@@ -28,15 +22,7 @@ number_from h r t x true zero e =
     cc
 number_from h r t x false zero e = refl
 
-pub after_transfer-refused : (h : History) (r : NewTransfer) (t : ℕ) (x : TransferResult) → first_line (transfer_lines features h r t) ≡ Some x
-    → after_transfer h r t x ≡ timed h t
+pub after_transfer-refused : (h : History) (r : NewTransfer) (t : ℕ) (x : TransferResult)
+    → first_line (transfer_lines features h r t) ≡ Some x → after_transfer h r t x ≡ timed h t
 after_transfer-refused h r t x e =
-    let entry : Entry = record { timestamp = t; kind = kind_of r; transfer = filled h r t } in
-    ap (λ b. record h { entries = if b then h.entries ++ entry ∷ [] else h.entries; last = t }) (number_from h r t x (transfer_number x == 0) refl e)
-
-pub after_transfer-accepted : (h : History) (r : NewTransfer) (t : ℕ) → first_line (transfer_lines features h r t) ≡ None
-    → after_transfer h r t Accepted ≡ pushed h (single_entry r t)
-after_transfer-accepted h r t none =
-    let accepted : IsAccepted h r t = IsAccepted-no_line h r t none in
-    let after : EventKind → Transfer → History = λ kind x. pushed h (record { timestamp = t; kind = kind; transfer = x }) in
-    ap₂ after accepted.kind accepted.asked
+    ap (λ b. if b then pushed h (entry_of h r t) else timed h t) (number_from h r t x (transfer_number x == 0) refl e)

@@ -1,30 +1,35 @@
 -- Balances at a later moment, after one more entry, and of an account that no entry names.
-use Rattle.std.proofs.Common.{ℕ, ◌+◌, ◌<◌, ◌≤◌, Bool, true, false, List, [], ◌∷◌, ◌++◌, ◌≡◌, None, refl, ap, ap₂, sym, ◌∙◌, arith, le-leb, add-zero}
-use Rattle.std.specs.Prelude.{◌==◌, ◌&&◌, ◌||◌, not, nat_le, if◌then◌else◌, sum_by}
+use Rattle.std.proofs.Common.{ℕ, ◌+◌, ◌-◌, ◌<◌, ◌≤◌, Bool, true, false, List, [], ◌∷◌, ◌++◌, ◌≡◌, Option, Some, None, refl, ap, ap₂, sym, subst, ◌∙◌, arith, le-leb, add-zero}
+use Rattle.std.specs.Prelude.{◌==◌, ◌&&◌, ◌||◌, not, nat_le, if◌then◌else◌, sum_by, option_map}
 use Rattle.std.specs.List.{AllByRecursion}
 use Rattle.std.specs.Option.{IsSome, is_some}
 use Rattle.std.proofs.lemmas.List.Folds.{list_any-append}
-use Rattle.std.proofs.lemmas.List.Sums.{sum_by_push}
-use Rattle.std.proofs.lemmas.Bool.{and_right, false≢true, ne_eqb, lt-leb}
+use Rattle.std.proofs.lemmas.List.Sums.{sum_by_push, sum_by-cons}
+use Rattle.std.proofs.lemmas.Bool.{and_parts, and_right, eqb-true, eqb-false, eq-eqb, false≢true, ne_eqb, lt-leb}
 use Rattle.cdc_types.specs.declared.accounts.Balances.{Balances}
 use Rattle.cdc_types.specs.declared.events.Entry.{Entry}
-use Rattle.cdc_types.specs.declared.events.EventKind.TheVariants.{SinglePhase}
+use Rattle.cdc_types.specs.declared.events.EventKind.{EventKind}
+use Rattle.cdc_types.specs.declared.events.EventKind.TheVariants.{SinglePhase, TwoPhasePending, TwoPhasePosted, TwoPhaseVoided, TwoPhaseExpired}
 use Rattle.cdc_types.specs.declared.transfers.Transfer.{Transfer}
 use Rattle.cdc_ledger.specs.History.{History, opened}
-use Rattle.cdc_ledger.specs.Kinds.{holds, moves, posts, voids, expires}
+use Rattle.cdc_ledger.specs.Kinds.{holds, stores, settles, settled_id, posts, voids, expires}
 use Rattle.cdc_ledger.specs.Balances.{balances, resolves, resolved, held, moved, share, debit_side, credit_side}
-use Rattle.cdc_ledger.specs.Sound.{HasAccounts}
-use Rattle.cdc_ledger.proofs.Changes.{pushed, IsUpTo, added, part, no_balances}
-use Rattle.cdc_ledger.proofs.Elements.{AllByRecursion-weaker, sum_by_same, sum_by_every, sum_by_zero, list_any_same}
+use Rattle.cdc_ledger.specs.Effects.{amount_of, settled_by, settled_in}
+use Rattle.cdc_ledger.specs.Filling.{stored_in, stored}
+use Rattle.cdc_ledger.specs.Follows.{Follows, SettlesOpen}
+use Rattle.cdc_ledger.specs.Sound.{HasAccounts, AreApart, stored_ids, Settles, Stands, IsSound}
+use Rattle.cdc_ledger.proofs.Changes.{pushed, IsUpTo, part, changed_by, effect_of, no_balances}
+use Rattle.cdc_ledger.proofs.Elements.{AllByRecursion-weaker, AllByRecursion-both, sum_by_same, sum_by_every, sum_by_zero, list_any_same, list_any_none}
+use Rattle.cdc_ledger.proofs.StoredLaws.{is_stored, stored_has, apart-cons}
 
 -- `balances` reads the entries alone, so a change of accounts, last or closed leaves it by computation
 
-same_balances : (x y z w x' y' z' w' : ℕ) → x ≡ x' → y ≡ y' → z ≡ z' → w ≡ w'
+pub same_balances : (x y z w x' y' z' w' : ℕ) → x ≡ x' → y ≡ y' → z ≡ z' → w ≡ w'
     → ◌≡◌ {A = Balances} (record { debits_pending = x; debits_posted = y; credits_pending = z; credits_posted = w }) (record { debits_pending = x'; debits_posted = y'; credits_pending = z'; credits_posted = w' })
 same_balances x y z w x' y' z' w' a b c d = cc
 
 -- two moments at which the same of the entries count
-seen_alike : (e : Entry) (s t : ℕ) → e.timestamp ≤ s → s ≤ t → nat_le e.timestamp t ≡ nat_le e.timestamp s
+pub seen_alike : (e : Entry) (s t : ℕ) → e.timestamp ≤ s → s ≤ t → nat_le e.timestamp t ≡ nat_le e.timestamp s
 seen_alike e s t within later = le-leb e.timestamp t (omega arith) ∙ sym (le-leb e.timestamp s within)
 
 pub resolved_later : (h : History) (p : Transfer) (s t : ℕ) → IsUpTo s h → s ≤ t → resolved h p t ≡ resolved h p s
@@ -34,7 +39,7 @@ resolved_later h p s t within later =
     (λ e at. ap (λ b. b && resolves p e) (seen_alike e s t at later)) h.entries within)
 
 -- what an entry holds back, resolved or not
-abbrev held_by : Bool → Entry → ℕ
+abbrev pub held_by : Bool → Entry → ℕ
 held_by done e = if holds e.kind && not done then e.transfer.amount else 0
 
 -- a share of what agrees on the entries
@@ -54,7 +59,7 @@ module _ (h : History) (a s t : ℕ) (within : IsUpTo s h) (later : s ≤ t) whe
       (AllByRecursion-weaker (λ e. e.timestamp ≤ s) (λ e. (held h t e ≡ held h s e) × (nat_le e.timestamp t ≡ nat_le e.timestamp s))
       (λ e at. (held_later e, seen_alike e s t at later)) h.entries within)
 
-  moved_agree : (side : Transfer → ℕ) → sum_by (share moved side a t) h.entries ≡ sum_by (share moved side a s) h.entries
+  pub moved_agree : (side : Transfer → ℕ) → sum_by (share moved side a t) h.entries ≡ sum_by (share moved side a s) h.entries
   moved_agree side = share_same moved moved side a s t h.entries
       (AllByRecursion-weaker (λ e. e.timestamp ≤ s) (λ e. (moved e ≡ moved e) × (nat_le e.timestamp t ≡ nat_le e.timestamp s))
       (λ e at. (refl, seen_alike e s t at later)) h.entries within)
@@ -101,34 +106,274 @@ balances-pushed_before h e a t after =
     λ side. sum_by_push (share moved side a t) h.entries e ∙ (ap (λ n. sum_by (share moved side a t) h.entries + n) (share_after moved side a t e after) ∙ add-zero _) in
     same_balances _ _ _ _ _ _ _ _ (held_same debit_side) (moved_same debit_side) (held_same credit_side) (moved_same credit_side)
 
--- at the moment of a single-phase entry
-module _ (h : History) (e : Entry) (a : ℕ) (within : IsUpTo h.last h) (after : h.last < e.timestamp) (single : e.kind ≡ SinglePhase) where
-  resolves_none : (p : Transfer) → (nat_le e.timestamp e.timestamp && resolves p e) ≡ false
-  resolves_none p = and_right (nat_le e.timestamp e.timestamp) (resolves p e)
-      (ap (λ k. posts k e.transfer p || voids k e.transfer p || expires k e.transfer p) single)
+-- two of the four sums are what is left of the others
+same_changed : (x y z w dr dh dm cr ch cm : ℕ) (b : Balances) → x + dr ≡ b.debits_pending + dh → y ≡ b.debits_posted + dm → z + cr ≡ b.credits_pending + ch → w ≡ b.credits_posted + cm
+    → ◌≡◌ {A = Balances} (record { debits_pending = x; debits_posted = y; credits_pending = z; credits_posted = w })
+    (record { debits_pending = b.debits_pending + dh - dr; debits_posted = b.debits_posted + dm; credits_pending = b.credits_pending + ch - cr; credits_posted = b.credits_posted + cm })
+same_changed x y z w dr dh dm cr ch cm b p q r s =
+    let debits : x ≡ b.debits_pending + dh - dr = omega arith in
+    let credits : z ≡ b.credits_pending + ch - cr = omega arith in
+    same_balances _ _ _ _ _ _ _ _ debits q credits s
 
-  holds_none : (side : Transfer → ℕ) → share (held h e.timestamp) side a e.timestamp e ≡ 0
-  holds_none side = ap (λ n. if nat_le e.timestamp e.timestamp && (side e.transfer == a) then n else 0)
-      (ap (λ k. if holds k && not (resolved h e.transfer e.timestamp) then e.transfer.amount else 0) single) ∙ zero_both _
+-- what each kind brings to its end
+first_alone : (b : Bool) → (b || false || false) ≡ b
+first_alone true = refl
+first_alone false = refl
+
+resolves_kind : (k : EventKind) (x p : Transfer) → (posts k x p || voids k x p || expires k x p) ≡ (settles k && (settled_id k x == p.id))
+resolves_kind SinglePhase x p = refl
+resolves_kind TwoPhasePending x p = refl
+resolves_kind TwoPhasePosted x p = first_alone (x.pending_id == p.id)
+resolves_kind TwoPhaseVoided x p = or_none (x.pending_id == p.id) false refl
+resolves_kind TwoPhaseExpired x p = refl
+
+pub resolves_is : (e : Entry) (p : Transfer) → resolves p e ≡ (settles e.kind && (settled_id e.kind e.transfer == p.id))
+resolves_is e p = resolves_kind e.kind e.transfer p
+
+-- the pending transfer that an entry settles is the one that it names
+settled_kind : (k : EventKind) (h : History) (y : Transfer) (x : Entry) → settles k ≡ true → stored h (settled_id k y) ≡ Some x → (k ≡ TwoPhaseExpired → y ≡ x.transfer)
+    → settled_in k h y ≡ Some x.transfer
+settled_kind SinglePhase h y x is named shown = absurd (false≢true is)
+settled_kind TwoPhasePending h y x is named shown = absurd (false≢true is)
+settled_kind TwoPhasePosted h y x is named shown = ap (option_map (λ (e : Entry). e.transfer)) named
+settled_kind TwoPhaseVoided h y x is named shown = ap (option_map (λ (e : Entry). e.transfer)) named
+settled_kind TwoPhaseExpired h y x is named shown = ap (λ (p : Transfer). Some p) (shown refl)
+
+pub settled_by_is : (h : History) (e x : Entry) → settles e.kind ≡ true → Settles h e x → settled_by h e ≡ Some x.transfer
+settled_by_is h e x is of = settled_kind e.kind h e.transfer x is of.named of.shown
+
+settled_kind_none : (k : EventKind) (h : History) (y : Transfer) → settles k ≡ false → settled_in k h y ≡ None
+settled_kind_none SinglePhase h y none = refl
+settled_kind_none TwoPhasePending h y none = refl
+settled_kind_none TwoPhasePosted h y none = absurd (false≢true (sym none))
+settled_kind_none TwoPhaseVoided h y none = absurd (false≢true (sym none))
+settled_kind_none TwoPhaseExpired h y none = absurd (false≢true (sym none))
+
+pub settled_by_none : (h : History) (e : Entry) → settles e.kind ≡ false → settled_by h e ≡ None
+settled_by_none h e none = settled_kind_none e.kind h e.transfer none
+
+pub holds-settles : (k : EventKind) → settles k ≡ true → holds k ≡ false
+holds-settles SinglePhase is = refl
+holds-settles TwoPhasePending is = absurd (false≢true is)
+holds-settles TwoPhasePosted is = refl
+holds-settles TwoPhaseVoided is = refl
+holds-settles TwoPhaseExpired is = refl
+
+pub stores-holds : (k : EventKind) → holds k ≡ true → stores k ≡ true
+stores-holds SinglePhase is = absurd (false≢true is)
+stores-holds TwoPhasePending is = refl
+stores-holds TwoPhasePosted is = absurd (false≢true is)
+stores-holds TwoPhaseVoided is = absurd (false≢true is)
+stores-holds TwoPhaseExpired is = absurd (false≢true is)
+
+-- what is resolved right after an entry: what was, and what it brings to its end
+pub resolved_then : (h : History) (e : Entry) (p : Transfer) → IsUpTo h.last h → h.last < e.timestamp
+    → resolved (pushed h e) p e.timestamp ≡ (resolved h p h.last || (settles e.kind && (settled_id e.kind e.transfer == p.id)))
+resolved_then h e p within after =
+    resolved-pushed h e p e.timestamp
+    ∙ ap₂ (λ b c. b || c) (resolved_later h p h.last e.timestamp within (omega arith))
+    (ap (λ b. b && resolves p e) (le-leb e.timestamp e.timestamp (omega arith)) ∙ resolves_is e p)
+
+-- nothing resolved a transfer whose id is new
+module _ (h : History) (p : Transfer) (t : ℕ) (standing : AllByRecursion (Stands h) h.entries) (fresh : stored h p.id ≡ None) where
+  names_other : (x : Entry) (b : Bool) → settles x.kind ≡ b → Stands h x → resolves p x ≡ false
+  names_other x false is stands = resolves_is x p ∙ ap (λ b. b && (settled_id x.kind x.transfer == p.id)) is
+  names_other x true is stands =
+      let named : (y : Entry) × Settles h x y = stands.settling is in
+      resolves_is x p ∙ and_right (settles x.kind) (settled_id x.kind x.transfer == p.id)
+      (ne_eqb (settled_id x.kind x.transfer) p.id (λ same. let none : stored h (settled_id x.kind x.transfer) ≡ None = ap (stored h) same ∙ fresh in
+      let some : stored h (settled_id x.kind x.transfer) ≡ Some named.0 = named.1.named in
+      let clash : ◌≡◌ {A = Option Entry} None (Some named.0) = sym none ∙ some in
+      cc))
+
+  pub resolved_none : resolved h p t ≡ false
+  resolved_none = list_any_none (λ x. nat_le x.timestamp t && resolves p x) h.entries
+      (AllByRecursion-weaker (Stands h) (λ x. (nat_le x.timestamp t && resolves p x) ≡ false)
+      (λ x stands. and_right (nat_le x.timestamp t) (resolves p x) (names_other x (settles x.kind) refl stands)) h.entries standing)
+
+-- a sum in which the one entry that stored the transfer of an id no longer counts
+module _ (id : ℕ) (before now : Entry → ℕ) where
+  abbrev Falls : Entry → Type 0
+  Falls y = now y ≡ (if is_stored id y then 0 else before y)
+
+  none_falls : (ys : List Entry) → AllByRecursion (λ y. is_stored id y ≡ false) ys → AllByRecursion Falls ys → sum_by now ys ≡ sum_by before ys
+  none_falls ys others falls = sum_by_same now before ys
+      (AllByRecursion-weaker (λ y. (is_stored id y ≡ false) × Falls y) (λ y. now y ≡ before y) (λ y at. at.1 ∙ ap (λ b. if b then 0 else before y) at.0) ys
+      (AllByRecursion-both (λ y. is_stored id y ≡ false) Falls ys others falls))
+
+  first_falls : (b : Bool) (y x : Entry) (ys : List Entry) → is_stored id y ≡ b → AreApart (stored_ids (y ∷ ys)) → Falls y → AllByRecursion Falls ys
+      → (stored_in ys id ≡ Some x → sum_by now ys + before x ≡ sum_by before ys)
+      → (if b then Some y else stored_in ys id) ≡ Some x → (now y + sum_by now ys) + before x ≡ before y + sum_by before ys
+  first_falls true y x ys is apart here falls rest there =
+      let same : y ≡ x = cc in
+      let both : (stores y.kind ≡ true) × ((y.transfer.id == id) ≡ true) = and_parts (stores y.kind) (y.transfer.id == id) is in
+      let others : AllByRecursion (λ z. is_stored id z ≡ false) ys = subst (λ n. AllByRecursion (λ z. is_stored n z ≡ false) ys) (eqb-true y.transfer.id id both.1) ((apart-cons y ys apart).1 both.0) in
+      let gone : now y ≡ 0 = here ∙ ap (λ b. if b then 0 else before y) is in
+      let tail : sum_by now ys ≡ sum_by before ys = none_falls ys others falls in
+      let held : before x ≡ before y = ap before (sym same) in
+      omega arith
+  first_falls false y x ys is apart here falls rest there =
+      let tail : sum_by now ys + before x ≡ sum_by before ys = rest there in
+      let kept : now y ≡ before y = here ∙ ap (λ b. if b then 0 else before y) is in
+      omega arith
+
+  pub one_falls : (ys : List Entry) (x : Entry) → AreApart (stored_ids ys) → stored_in ys id ≡ Some x → AllByRecursion Falls ys → sum_by now ys + before x ≡ sum_by before ys
+  one_falls [] x apart there falls = cc
+  one_falls (y ∷ ys) x apart there falls =
+      ap (λ n. n + before x) (sum_by-cons now y ys)
+      ∙ (first_falls (is_stored id y) y x ys refl apart falls.0 falls.1 (λ later. one_falls ys x (apart-cons y ys apart).0 later falls.1) there
+      ∙ sym (sum_by-cons before y ys))
+
+-- what an entry holds, once the transfer of an id is resolved too
+held_falls : (k : EventKind) (done same : Bool) (n : ℕ) → (if holds k && not (done || same) then n else 0) ≡ (if stores k && same then 0 else (if holds k && not done then n else 0))
+held_falls SinglePhase done true n = refl
+held_falls SinglePhase done false n = refl
+held_falls TwoPhasePending true true n = refl
+held_falls TwoPhasePending true false n = refl
+held_falls TwoPhasePending false true n = refl
+held_falls TwoPhasePending false false n = refl
+held_falls TwoPhasePosted done true n = refl
+held_falls TwoPhasePosted done false n = refl
+held_falls TwoPhaseVoided done true n = refl
+held_falls TwoPhaseVoided done false n = refl
+held_falls TwoPhaseExpired done same n = refl
+
+share_falls : (sees gone : Bool) (n : ℕ) → (if sees then (if gone then 0 else n) else 0) ≡ (if gone then 0 else (if sees then n else 0))
+share_falls true gone n = refl
+share_falls false true n = refl
+share_falls false false n = refl
+
+eqb_swap : (m n : ℕ) → (m == n) ≡ (n == m)
+eqb_swap m n = by (m == n) refl
+  where
+    by : (b : Bool) → (m == n) ≡ b → (m == n) ≡ (n == m)
+    by true is = is ∙ sym (eq-eqb n m (sym (eqb-true m n is)))
+    by false is = is ∙ sym (ne_eqb n m (λ same. eqb-false m n is (sym same)))
+
+-- the sums of what is pending on one side of an account, before an entry and right after it
+module _ (h : History) (e : Entry) (a : ℕ) (sound : IsSound h) (follows : Follows h e) (after : h.last < e.timestamp) where
+  abbrev before : (Transfer → ℕ) → Entry → ℕ
+  before side x = share (held h h.last) side a h.last x
+
+  abbrev right_after : (Transfer → ℕ) → Entry → ℕ
+  right_after side x = share (held (pushed h e) e.timestamp) side a e.timestamp x
+
+  -- its own amount
+  own_unresolved : holds e.kind ≡ true → resolved (pushed h e) e.transfer e.timestamp ≡ false
+  own_unresolved is =
+      resolved_then h e e.transfer sound.past after
+      ∙ ap₂ (λ b c. b || (c && (settled_id e.kind e.transfer == e.transfer.id)))
+      (resolved_none h e.transfer h.last sound.standing (follows.fresh (stores-holds e.kind is)))
+      (settles-holds e.kind is)
     where
-      zero_both : (b : Bool) → ◌≡◌ {A = ℕ} (if b then 0 else 0) 0
-      zero_both true = refl
-      zero_both false = refl
+      settles-holds : (k : EventKind) → holds k ≡ true → settles k ≡ false
+      settles-holds SinglePhase is = refl
+      settles-holds TwoPhasePending is = refl
+      settles-holds TwoPhasePosted is = absurd (false≢true is)
+      settles-holds TwoPhaseVoided is = absurd (false≢true is)
+      settles-holds TwoPhaseExpired is = absurd (false≢true is)
 
-  moves_all : (side : Transfer → ℕ) → share moved side a e.timestamp e ≡ part (side e.transfer) a e.transfer.amount
-  moves_all side = ap₂ (λ b n. if b && (side e.transfer == a) then n else 0) (le-leb e.timestamp e.timestamp (omega arith))
-      (ap (λ k. if moves k then e.transfer.amount else 0) single)
+  own_held : (b : Bool) → holds e.kind ≡ b → (if holds e.kind && not (resolved (pushed h e) e.transfer e.timestamp) then e.transfer.amount else 0) ≡ (if holds e.kind then e.transfer.amount else 0)
+  own_held true is = ap₂ (λ b c. if b && not c then e.transfer.amount else 0) is (own_unresolved is) ∙ sym (ap (λ b. if b then e.transfer.amount else 0) is)
+  own_held false is = ap (λ b. if b && not (resolved (pushed h e) e.transfer e.timestamp) then e.transfer.amount else 0) is ∙ sym (ap (λ b. if b then e.transfer.amount else 0) is)
 
-  held_then : (side : Transfer → ℕ) → sum_by (share (held (pushed h e) e.timestamp) side a e.timestamp) (h.entries ++ e ∷ []) ≡ sum_by (share (held h h.last) side a h.last) h.entries
-  held_then side = share-pushed h e a e.timestamp resolves_none side
-      ∙ (ap₂ (λ m n. m + n) (held_agree h a h.last e.timestamp within (omega arith) side) (holds_none side) ∙ add-zero _)
+  own : (side : Transfer → ℕ) → right_after side e ≡ part (side e.transfer) a (effect_of h e).held
+  own side = ap₂ (λ b n. if b && (side e.transfer == a) then n else 0) (le-leb e.timestamp e.timestamp (omega arith)) (own_held (holds e.kind) refl)
 
-  moved_then : (side : Transfer → ℕ) → sum_by (share moved side a e.timestamp) (h.entries ++ e ∷ []) ≡ sum_by (share moved side a h.last) h.entries + part (side e.transfer) a e.transfer.amount
+  then_sum : (side : Transfer → ℕ) → sum_by (right_after side) (h.entries ++ e ∷ []) ≡ sum_by (right_after side) h.entries + part (side e.transfer) a (effect_of h e).held
+  then_sum side = sum_by_push (right_after side) h.entries e ∙ ap (λ n. sum_by (right_after side) h.entries + n) (own side)
+
+  -- where it settles nothing, all others hold what they held
+  unchanged : settles e.kind ≡ false → (side : Transfer → ℕ) → sum_by (right_after side) h.entries ≡ sum_by (before side) h.entries
+  unchanged none side = share_same (held (pushed h e) e.timestamp) (held h h.last) side a h.last e.timestamp h.entries
+      (AllByRecursion-weaker (λ x. x.timestamp ≤ h.last) (λ x. (held (pushed h e) e.timestamp x ≡ held h h.last x) × (nat_le x.timestamp e.timestamp ≡ nat_le x.timestamp h.last))
+      (λ x at. (ap (λ b. held_by b x) (resolved_then h e x.transfer sound.past after ∙ ap (λ b. resolved h x.transfer h.last || (b && (settled_id e.kind e.transfer == x.transfer.id))) none ∙ or_none (resolved h x.transfer h.last) false refl), seen_alike x h.last e.timestamp at (omega arith)))
+      h.entries sound.past)
+
+  -- where it settles one, that one holds nothing any more
+  falls_one : settles e.kind ≡ true → (side : Transfer → ℕ) (x : Entry) → x.timestamp ≤ h.last → Falls (settled_id e.kind e.transfer) (before side) (right_after side) x
+  falls_one is side x at =
+      let sees : nat_le x.timestamp e.timestamp ≡ nat_le x.timestamp h.last = seen_alike x h.last e.timestamp at (omega arith) in
+      let done : resolved (pushed h e) x.transfer e.timestamp ≡ (resolved h x.transfer h.last || (x.transfer.id == settled_id e.kind e.transfer)) =
+      resolved_then h e x.transfer sound.past after ∙ ap₂ (λ b c. resolved h x.transfer h.last || (b && c)) is (eqb_swap (settled_id e.kind e.transfer) x.transfer.id) in
+      ap₂ (λ b c. if b && (side x.transfer == a) then held_by c x else 0) sees done
+      ∙ (ap (λ n. if nat_le x.timestamp h.last && (side x.transfer == a) then n else 0) (held_falls x.kind (resolved h x.transfer h.last) (x.transfer.id == settled_id e.kind e.transfer) x.transfer.amount)
+      ∙ share_falls (nat_le x.timestamp h.last && (side x.transfer == a)) (is_stored (settled_id e.kind e.transfer) x) (held h h.last x))
+
+  released_one : (side : Transfer → ℕ) (x : Entry) → stored h (settled_id e.kind e.transfer) ≡ Some x → holds x.kind ≡ true → resolved h x.transfer h.last ≡ false
+      → before side x ≡ part (side x.transfer) a x.transfer.amount
+  released_one side x named is unsettled =
+      ap₂ (λ b c. if b && (side x.transfer == a) then c else 0)
+      (le-leb x.timestamp h.last (stored_has (λ y. y.timestamp ≤ h.last) h (settled_id e.kind e.transfer) x sound.past named))
+      (ap₂ (λ b c. if b && not c then x.transfer.amount else 0) is unsettled)
+
+  pub settled_sum : (side : Transfer → ℕ) → settles e.kind ≡ true → (x : Entry) → Settles h e x → resolved h x.transfer h.last ≡ false → side e.transfer ≡ side x.transfer
+      → sum_by (right_after side) h.entries + part (side e.transfer) a (effect_of h e).released ≡ sum_by (before side) h.entries
+  settled_sum side is x of unsettled sides =
+      let amount : (effect_of h e).released ≡ x.transfer.amount = ap amount_of (settled_by_is h e x is of) in
+      let taken : part (side e.transfer) a (effect_of h e).released ≡ before side x =
+      ap₂ (λ s n. part s a n) sides amount ∙ sym (released_one side x of.named of.pending unsettled) in
+      ap (λ n. sum_by (right_after side) h.entries + n) taken
+      ∙ one_falls (settled_id e.kind e.transfer) (before side) (right_after side) h.entries x sound.once of.named
+      (AllByRecursion-weaker (λ y. y.timestamp ≤ h.last) (Falls (settled_id e.kind e.transfer) (before side) (right_after side)) (falls_one is side) h.entries sound.past)
+
+  nothing : (b : Bool) → ◌≡◌ {A = ℕ} (if b then 0 else 0) 0
+  nothing true = refl
+  nothing false = refl
+
+  -- what leaves was there
+  abbrev Fits : (Transfer → ℕ) → Type 0
+  Fits side = (sum_by (right_after side) h.entries + part (side e.transfer) a (effect_of h e).released ≡ sum_by (before side) h.entries)
+
+  taken_out : (b : Bool) → settles e.kind ≡ b → Fits debit_side × Fits credit_side
+  taken_out true is =
+      let of : SettlesOpen h e = follows.settling is in
+      (settled_sum debit_side is of.pending of.settles of.unsettled of.settles.debit, settled_sum credit_side is of.pending of.settles of.unsettled of.settles.credit)
+  taken_out false is =
+      let none : (effect_of h e).released ≡ 0 = ap amount_of (settled_by_none h e is) in
+      (nothing_out debit_side none, nothing_out credit_side none)
+    where
+      nothing_out : (side : Transfer → ℕ) → (effect_of h e).released ≡ 0 → Fits side
+      nothing_out side none =
+          let zero_out : part (side e.transfer) a (effect_of h e).released ≡ 0 = ap (part (side e.transfer) a) none ∙ nothing (side e.transfer == a) in
+          let same : sum_by (right_after side) h.entries ≡ sum_by (before side) h.entries = unchanged is side in
+          omega arith
+
+  pub pending_then : (side : Transfer → ℕ) → Fits side → sum_by (right_after side) (h.entries ++ e ∷ []) + part (side e.transfer) a (effect_of h e).released ≡ sum_by (before side) h.entries + part (side e.transfer) a (effect_of h e).held
+  pending_then side fits =
+      let all : sum_by (right_after side) (h.entries ++ e ∷ []) ≡ sum_by (right_after side) h.entries + part (side e.transfer) a (effect_of h e).held = then_sum side in
+      omega arith
+
+  moved_then : (side : Transfer → ℕ) → sum_by (share moved side a e.timestamp) (h.entries ++ e ∷ []) ≡ sum_by (share moved side a h.last) h.entries + part (side e.transfer) a (effect_of h e).moved
   moved_then side = sum_by_push (share moved side a e.timestamp) h.entries e
-      ∙ ap₂ (λ m n. m + n) (moved_agree h a h.last e.timestamp within (omega arith) side) (moves_all side)
+      ∙ ap₂ (λ m n. m + n) (moved_agree h a h.last e.timestamp sound.past (omega arith) side)
+      (ap (λ b. if b && (side e.transfer == a) then moved e else 0) (le-leb e.timestamp e.timestamp (omega arith)))
 
-  pub balances-pushed : balances (pushed h e) a e.timestamp ≡ added e.transfer a (balances h a h.last)
-  balances-pushed = same_balances _ _ _ _ _ _ _ _ (held_then debit_side) (moved_then debit_side) (held_then credit_side) (moved_then credit_side)
+  -- the balances right after an entry of any kind
+  pub balances-pushed : balances (pushed h e) a e.timestamp ≡ changed_by h e a (balances h a h.last)
+  balances-pushed =
+      let both : Fits debit_side × Fits credit_side = taken_out (settles e.kind) refl in
+      same_changed _ _ _ _ _ _ _ _ _ _ (balances h a h.last) (pending_then debit_side both.0) (moved_then debit_side) (pending_then credit_side both.1) (moved_then credit_side)
+
+  -- what leaves the pending sums was in them
+  pub released_fits : (part e.transfer.debit_account_id a (effect_of h e).released ≤ (balances h a h.last).debits_pending)
+      × (part e.transfer.credit_account_id a (effect_of h e).released ≤ (balances h a h.last).credits_pending)
+  released_fits =
+      let both : Fits debit_side × Fits credit_side = taken_out (settles e.kind) refl in
+      (omega (arith, both.0), omega (arith, both.1))
+
+-- what leaves the pending sums of the two accounts
+pub released_debit : (h : History) (e : Entry) → IsSound h → Follows h e → h.last < e.timestamp → (effect_of h e).released ≤ (balances h e.transfer.debit_account_id h.last).debits_pending
+released_debit h e sound follows after =
+    subst (λ b. (if b then (effect_of h e).released else 0) ≤ (balances h e.transfer.debit_account_id h.last).debits_pending)
+    (eq-eqb e.transfer.debit_account_id e.transfer.debit_account_id refl)
+    (released_fits h e e.transfer.debit_account_id sound follows after).0
+
+pub released_credit : (h : History) (e : Entry) → IsSound h → Follows h e → h.last < e.timestamp → (effect_of h e).released ≤ (balances h e.transfer.credit_account_id h.last).credits_pending
+released_credit h e sound follows after =
+    subst (λ b. (if b then (effect_of h e).released else 0) ≤ (balances h e.transfer.credit_account_id h.last).credits_pending)
+    (eq-eqb e.transfer.credit_account_id e.transfer.credit_account_id refl)
+    (released_fits h e e.transfer.credit_account_id sound follows after).1
 
 -- an account that isn't opened is named by no entry
 module _ (h : History) (a t : ℕ) (known : AllByRecursion (HasAccounts h) h.entries) (free : opened h a ≡ None) where

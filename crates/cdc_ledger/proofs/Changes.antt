@@ -1,8 +1,9 @@
--- The changes of a history, one at a time, and what a transfer adds to balances.
+-- The changes of a history, one at a time, and what an entry makes of balances.
 use Rattle.std.proofs.Common.{ℕ, ◌≤◌}
 use Rattle.std.specs.List.{AllByRecursion}
 use Rattle.cdc_ledger.specs.History.{History}
-pub use Rattle.cdc_ledger.specs.Accounts.{no_balances, part, added, account_added}
+pub use Rattle.cdc_ledger.specs.Accounts.{no_balances}
+pub use Rattle.cdc_ledger.specs.Effects.{part, changed, changed_by, account_changed, effect_of}
 pub use Rattle.cdc_ledger.specs.Changes.{pushed, with_account, timed}
 
 -- every entry is at or before the moment t

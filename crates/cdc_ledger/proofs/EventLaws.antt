@@ -7,12 +7,12 @@ use Rattle.cdc_types.specs.declared.events.Entry.{Entry}
 use Rattle.cdc_types.specs.declared.events.Event.{Event}
 use Rattle.cdc_types.specs.declared.events.EventAccount.{EventAccount}
 use Rattle.cdc_types.specs.declared.accounts.Balances.{Balances}
-use Rattle.cdc_types.specs.declared.events.EventKind.TheVariants.{SinglePhase}
 use Rattle.cdc_ledger.specs.History.{Opened, History, opened}
 use Rattle.cdc_ledger.specs.Balances.{balances}
 use Rattle.cdc_ledger.specs.Events.{event_of, events, shown_account, shown_transfer, nobody}
-use Rattle.cdc_ledger.specs.Sound.{HasAccounts}
-use Rattle.cdc_ledger.proofs.Changes.{pushed, with_account, IsUpTo, added}
+use Rattle.cdc_ledger.specs.Follows.{Follows}
+use Rattle.cdc_ledger.specs.Sound.{HasAccounts, IsSound}
+use Rattle.cdc_ledger.proofs.Changes.{pushed, with_account, IsUpTo, changed_by}
 use Rattle.cdc_ledger.proofs.Elements.{AllByRecursion-weaker, map_same, map-map}
 use Rattle.cdc_ledger.proofs.BalanceLaws.{balances-pushed, balances-pushed_before}
 use Rattle.cdc_ledger.proofs.OpenedLaws.{opened-with_account_same}
@@ -45,22 +45,22 @@ events-pushed h e within after =
     (λ x at. same_balances x (opened h x.transfer.debit_account_id) (opened h x.transfer.credit_account_id) _ _ _ _ (balances-pushed_before h e x.transfer.debit_account_id x.timestamp (omega arith)) (balances-pushed_before h e x.transfer.credit_account_id x.timestamp (omega arith)))
     h.entries within))
 
--- how the account stands right after a single-phase transfer
-abbrev pub account_after : History → Entry → ℕ → EventAccount
-account_after h e id = shown_account (unwrap_or (opened h id) nobody) (added e.transfer id (balances h id h.last))
+-- how the account stands right after an entry
+abbrev pub account_shown : History → Entry → ℕ → EventAccount
+account_shown h e id = shown_account (unwrap_or (opened h id) nobody) (changed_by h e id (balances h id h.last))
 
--- the event of a single-phase entry, by the balances before it
-pub event_of-pushed : (h : History) (e : Entry) → IsUpTo h.last h → h.last < e.timestamp → e.kind ≡ SinglePhase
+-- the event of an entry, by the balances before it
+pub event_of-pushed : (h : History) (e : Entry) → IsSound h → Follows h e → h.last < e.timestamp
     → event_of (pushed h e) e ≡ record {
       timestamp = e.timestamp;
       kind = e.kind;
       ledger = e.transfer.ledger;
       transfer = shown_transfer e.transfer;
-      debit_account = account_after h e e.transfer.debit_account_id;
-      credit_account = account_after h e e.transfer.credit_account_id;
+      debit_account = account_shown h e e.transfer.debit_account_id;
+      credit_account = account_shown h e e.transfer.credit_account_id;
     }
-event_of-pushed h e within after single = same_balances e (opened h e.transfer.debit_account_id) (opened h e.transfer.credit_account_id) _ _ _ _
-    (balances-pushed h e e.transfer.debit_account_id within after single) (balances-pushed h e e.transfer.credit_account_id within after single)
+event_of-pushed h e sound follows after = same_balances e (opened h e.transfer.debit_account_id) (opened h e.transfer.credit_account_id) _ _ _ _
+    (balances-pushed h e e.transfer.debit_account_id sound follows after) (balances-pushed h e e.transfer.credit_account_id sound follows after)
 
 -- one more account, where each entry's accounts were there
 pub events-with_account : (h : History) (o : Opened) → AllByRecursion (HasAccounts h) h.entries → events (with_account h o) ≡ events h

@@ -12,7 +12,7 @@ use Rattle.cdc_types.specs.declared.events.Event.{Event}
 use Rattle.cdc_types.specs.declared.events.EventKind.{EventKind}
 use Rattle.cdc_types.specs.declared.events.EventKind.TheVariants.{SinglePhase, TwoPhasePending, TwoPhasePosted, TwoPhaseVoided, TwoPhaseExpired}
 use Rattle.cdc_types.specs.declared.transfers.NewTransfer.{NewTransfer}
-use Rattle.cdc_types.specs.Features.{all_features, features}
+use Rattle.cdc_types.specs.Features.{features}
 use Rattle.cdc_types.specs.Results.{account_number, transfer_number}
 use Rattle.cdc_ledger.specs.declared.errors.BatchError.{BatchError}
 use Rattle.cdc_ledger.specs.BatchErrors.{batch_error_number}
@@ -68,7 +68,7 @@ numbers (Ok answer) = numbers_of answer.0
 -- the numbers of each batch in turn
 abbrev answers : History → List Batch → List (List ℕ)
 answers h [] = []
-answers h (b ∷ bs) = numbers (submit_by all_features h b) ∷ answers (history_or h (submit_by all_features h b)) bs
+answers h (b ∷ bs) = numbers (submit_by features h b) ∷ answers (history_or h (submit_by features h b)) bs
 
 -- the four sums of an account
 abbrev sums : ℕ → ℕ → ℕ → ℕ → Balances
@@ -80,7 +80,7 @@ told e =
     (e.timestamp, e.kind, e.transfer.amount, sums e.debit_account.debits_pending e.debit_account.debits_posted e.debit_account.credits_pending e.debit_account.credits_posted, sums e.credit_account.debits_pending e.credit_account.debits_posted e.credit_account.credits_pending e.credit_account.credits_posted)
 
 abbrev history : List Batch → History
-history = after_batches all_features empty_history
+history = after_batches features empty_history
 
 -- one transfer of 100: its event shows the balances after it
 abbrev one_transfer : List Batch
@@ -205,7 +205,3 @@ faulty =
 
 faulty-answers : answers empty_history (two_accounts ∷ batch.Transfers 2000 faulty ∷ []) ≡ (0 ∷ 0 ∷ []) ∷ (2 ∷ 3 ∷ 4 ∷ 5 ∷ 6 ∷ 7 ∷ 8 ∷ 9 ∷ 10 ∷ 11 ∷ 14 ∷ 15 ∷ 17 ∷ 1 ∷ 18 ∷ []) ∷ []
 faulty-answers = refl
-
--- today neither two-phase transfers nor timeouts are offered
-offered_today : (numbers (submit_by features (history (two_accounts ∷ [])) (batch.Transfers 2000 (pending 1 1 0 ∷ record (transfer 1 1 2 1) { timeout = 1 } ∷ []))) ≡ 1 ∷ 8 ∷ []) × ((history (two_accounts ∷ [])).last ≡ 1001)
-offered_today = (refl, refl)

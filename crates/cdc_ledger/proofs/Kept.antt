@@ -1,24 +1,33 @@
 -- What is kept of the tables stays kept.
-use Rattle.std.proofs.Common.{ℕ, ◌≤◌, [], ◌∷◌, ◌++◌, ◌≡◌, None, ap, ◌∙◌, sym, subst, map}
+use Rattle.std.proofs.Common.{ℕ, ◌≤◌, Bool, List, [], ◌∷◌, ◌++◌, ◌≡◌, None, ap, ◌∙◌, sym, subst, map}
 use Rattle.std.proofs.lemmas.List.{map_push}
+use Rattle.std.specs.FinSet.{from_list}
 use Rattle.cdc_types.specs.declared.accounts.NewAccount.{NewAccount}
 use Rattle.cdc_ledger.specs.declared.tables.Tables.{Tables}
 use Rattle.cdc_ledger.specs.Accounts.{opened_as, fresh_account}
 use Rattle.cdc_ledger.specs.Changes.{with_account}
 use Rattle.cdc_ledger.specs.Events.{accounts_now, events}
 use Rattle.cdc_ledger.specs.History.{History, Opened, opened}
+use Rattle.cdc_ledger.specs.OpenTriples.{index_of}
 use Rattle.cdc_ledger.specs.Sound.{IsSound}
 use Rattle.cdc_ledger.specs.Tables.{IsKept, history_of}
 use Rattle.cdc_ledger.specs.Verdict.{max_timestamp}
 use Rattle.cdc_ledger.proofs.AccountLaws.{accounts_now-timed, accounts_now-with_account}
 use Rattle.cdc_ledger.proofs.EventLaws.{events-with_account}
+use Rattle.cdc_ledger.proofs.IndexLaws.{open_triples-later}
 use Rattle.cdc_ledger.proofs.SoundLaws.{IsSound-timed, IsSound-with_account}
 
+-- the index doesn't change with time and accounts alone
+index_of-later : (h : History) (accounts : List Opened) (t : ℕ) (closed : Bool) → IsSound h → h.last ≤ t
+    → index_of (record { accounts = accounts; entries = h.entries; last = t; closed = closed }) ≡ index_of h
+index_of-later h accounts t closed sound later = ap from_list (open_triples-later h accounts t closed sound later)
+
 -- from the history that the tables hold
-pub IsKept-from : (t : Tables) (h : History) → history_of t ≡ h → t.accounts.items ≡ accounts_now h → t.log.events ≡ events h → IsSound h → IsKept t
-IsKept-from t h same balanced logged sound = record {
+pub IsKept-from : (t : Tables) (h : History) → history_of t ≡ h → t.accounts.items ≡ accounts_now h → t.log.events ≡ events h → t.index.triples ≡ index_of h → IsSound h → IsKept t
+IsKept-from t h same balanced logged indexed sound = record {
   balanced = balanced ∙ ap accounts_now (sym same);
   logged = logged ∙ ap events (sym same);
+  indexed = indexed ∙ ap index_of (sym same);
   sound = subst IsSound (sym same) sound;
 }
 
@@ -26,6 +35,7 @@ pub IsKept-timed : (t : Tables) (n : ℕ) → IsKept t → t.last ≤ n → n �
 IsKept-timed t n kept later within = record {
   balanced = kept.balanced ∙ sym (accounts_now-timed (history_of t) n kept.sound.past later);
   logged = kept.logged;
+  indexed = kept.indexed ∙ sym (index_of-later (history_of t) (history_of t).accounts n t.closed kept.sound later);
   sound = IsSound-timed (history_of t) n kept.sound later within;
 }
 
@@ -38,12 +48,13 @@ history-opened t t' r n accounts entries last closed =
     cc
 
 pub IsKept-opened : (t t' : Tables) (r : NewAccount) (n : ℕ) → IsKept t → opened (history_of t) r.id ≡ None → t.last ≤ n → n ≤ max_timestamp
-    → t'.accounts.items ≡ t.accounts.items ++ fresh_account r n ∷ [] → t'.log.events ≡ t.log.events
+    → t'.accounts.items ≡ t.accounts.items ++ fresh_account r n ∷ [] → t'.log.events ≡ t.log.events → t'.index.triples ≡ t.index.triples
     → history_of t' ≡ with_account (history_of t) (record { request = r; timestamp = n }) → IsKept t'
-IsKept-opened t t' r n kept free later within accounts log same =
+IsKept-opened t t' r n kept free later within accounts log index same =
     let h : History = history_of t in
     let o : Opened = record { request = r; timestamp = n } in
     IsKept-from t' (with_account h o) same
     (accounts ∙ ap (λ xs. xs ++ fresh_account r n ∷ []) kept.balanced ∙ sym (accounts_now-with_account h o kept.sound.past kept.sound.known free later))
     (log ∙ kept.logged ∙ sym (events-with_account h o kept.sound.known))
+    (index ∙ kept.indexed ∙ sym (index_of-later h (with_account h o).accounts n h.closed kept.sound later))
     (IsSound-with_account h o kept.sound free later within)

@@ -1,6 +1,6 @@
 -- What the answer to a batch keeps of the ledger's history.
 use Rattle.std.proofs.Common.{◌≡◌, Result, Ok, Err, Option, Some, None, ℕ, ◌+◌, ◌≤◌, refl, ap, sym, subst}
-use Rattle.std.specs.Prelude.{IfSome, option_map}
+use Rattle.std.specs.Prelude.{IfSome, OnOk, option_map}
 use Rattle.cdc_types.specs.declared.accounts.Account.{Account}
 use Rattle.cdc_types.specs.declared.accounts.Balances.{Balances}
 use Rattle.cdc_types.specs.declared.batches.Batch.{Batch}
@@ -11,20 +11,26 @@ use Rattle.cdc_ledger.specs.declared.errors.BatchError.TheVariants.{LedgerClosed
 use Rattle.cdc_ledger.specs.Answers.{Answers}
 use Rattle.cdc_ledger.specs.Balances.{balances}
 use Rattle.cdc_ledger.specs.Events.{account_now}
+use Rattle.cdc_ledger.specs.Fits.{BatchFits}
 use Rattle.cdc_ledger.specs.History.{History, Opened, opened}
 use Rattle.cdc_ledger.specs.Sound.{IsBounded}
 use Rattle.cdc_ledger.specs.Submit.{IsLegal}
 use Rattle.cdc_ledger.proofs.LegalLaws.{IsLegal-submit}
 use Rattle.cdc_ledger.proofs.OpenedLaws.{opened_id}
 
+-- what holds anyway holds where the answer isn't a refusal
+pub on_ok : {A E : Type 0} (P : Type 0) (r : Result A E) → P → OnOk r P
+on_ok P (Ok x) holds = holds
+on_ok P (Err e) holds = tt
+
 module _ {A : Type 0} (shown : A → BatchResults) (h g : History) (b : Batch) where
   -- it stays legal, whatever the answer
-  pub IsLegal-answered : (r : Result A BatchError) → IsLegal h → Answers shown h b r g → IsLegal g
-  IsLegal-answered (Ok results) legal answers = IsLegal-submit h g b (shown results) legal answers
-  IsLegal-answered (Err LedgerClosed) legal answers = subst IsLegal (sym answers.1) legal
-  IsLegal-answered (Err BatchTooLarge) legal answers = subst IsLegal (sym answers.1) legal
-  IsLegal-answered (Err TimestampsExhausted) legal answers = subst IsLegal (sym answers.1) legal
-  IsLegal-answered (Err OutOfMemory) legal answers = subst IsLegal (sym answers.1) legal
+  pub IsLegal-answered : (r : Result A BatchError) → IsLegal h → OnOk r (BatchFits b) → Answers shown h b r g → IsLegal g
+  IsLegal-answered (Ok results) legal fit answers = IsLegal-submit h g b (shown results) fit legal answers
+  IsLegal-answered (Err LedgerClosed) legal fit answers = subst IsLegal (sym answers.1) legal
+  IsLegal-answered (Err BatchTooLarge) legal fit answers = subst IsLegal (sym answers.1) legal
+  IsLegal-answered (Err TimestampsExhausted) legal fit answers = subst IsLegal (sym answers.1) legal
+  IsLegal-answered (Err OutOfMemory) legal fit answers = subst IsLegal (sym answers.1) legal
 
 balances_found : (h : History) (id : ℕ) (found : Option Opened) → opened h id ≡ found
     → option_map (λ (a : Account). a.balances) (option_map (account_now h) found) ≡ option_map (λ (o : Opened). balances h id h.last) found

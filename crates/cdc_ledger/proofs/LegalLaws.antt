@@ -7,12 +7,14 @@ use Rattle.cdc_types.specs.declared.batches.BatchResults.{BatchResults}
 use Rattle.cdc_types.specs.Features.{Features, features}
 use Rattle.cdc_ledger.specs.declared.errors.BatchError.{BatchError}
 use Rattle.cdc_ledger.specs.declared.errors.BatchError.TheVariants.{LedgerClosed, BatchTooLarge, TimestampsExhausted}
+use Rattle.cdc_ledger.specs.Fits.{BatchFits}
 use Rattle.cdc_ledger.specs.History.{History, empty_history}
 use Rattle.cdc_ledger.specs.Submit.{submit, submit_by, refusal_of, is_too_large, is_past_the_end, moment, items_of, taken, answered, history_or, after_batches, closed_if, Extends, IsLegal}
+use Rattle.cdc_ledger.proofs.Elements.{AllByRecursion_push}
 use Rattle.cdc_ledger.proofs.LineLaws.{first_line_none_parts}
 
 pub Extends_same : (h : History) → Extends h h
-Extends_same h = ([], false, refl)
+Extends_same h = record { batches = []; close = false; fit = tt; made = refl }
 
 pub answered_ok : (refusal : Option BatchError) (answer found : BatchResults × History) → answered refusal answer ≡ Ok found → refusal ≡ None
 answered_ok None answer found e = refl
@@ -29,22 +31,32 @@ pub after_batches_push : (offered : Features) (h : History) (bs : List Batch) (b
 after_batches_push offered h [] b = refl
 after_batches_push offered h (x ∷ bs) b = after_batches_push offered (history_or h (submit_by offered h x)) bs b
 
-pub Extends-submit : (g h k : History) (b : Batch) (r : BatchResults) → Extends g h → submit g b ≡ Ok (r, k) → Extends k h
-Extends-submit g h k b r made e =
-    let before : History = after_batches features h made.0 in
-    let shut : made.1 || before.closed ≡ false = sym (ap (λ x. x.closed) made.2) ∙ submit_open g b (r, k) e in
-    let same : g ≡ before = made.2 ∙ ap (λ c. closed_if c before) (or_parts made.1 before.closed shut).0 in
+pub Extends-submit : (g h k : History) (b : Batch) (r : BatchResults) → BatchFits b → Extends g h → submit g b ≡ Ok (r, k) → Extends k h
+Extends-submit g h k b r fits from e =
+    let before : History = after_batches features h from.batches in
+    let shut : from.close || before.closed ≡ false = sym (ap (λ x. x.closed) from.made) ∙ submit_open g b (r, k) e in
+    let same : g ≡ before = from.made ∙ ap (λ c. closed_if c before) (or_parts from.close before.closed shut).0 in
     let taken_now : submit before b ≡ Ok (r, k) = sym (ap (λ x. submit x b) same) ∙ e in
-    (made.0 ++ b ∷ [], false, sym (after_batches_push features h made.0 b ∙ ap (history_or before) taken_now))
+    record {
+      batches = from.batches ++ b ∷ [];
+      close = false;
+      fit = AllByRecursion_push BatchFits from.batches b from.fit fits;
+      made = sym (after_batches_push features h from.batches b ∙ ap (history_or before) taken_now);
+    }
 
 pub Extends-closed : (g h : History) → Extends g h → Extends (record g { closed = true }) h
-Extends-closed g h made = (made.0, true, ap (λ (x : History). record x { closed = true }) made.2)
+Extends-closed g h from = record {
+  batches = from.batches;
+  close = true;
+  fit = from.fit;
+  made = ap (λ (x : History). record x { closed = true }) from.made;
+}
 
 pub IsLegal-empty : IsLegal empty_history
 IsLegal-empty = Extends_same empty_history
 
-pub IsLegal-submit : (h g : History) (b : Batch) (r : BatchResults) → IsLegal h → submit h b ≡ Ok (r, g) → IsLegal g
-IsLegal-submit h g b r made e = Extends-submit h empty_history g b r made e
+pub IsLegal-submit : (h g : History) (b : Batch) (r : BatchResults) → BatchFits b → IsLegal h → submit h b ≡ Ok (r, g) → IsLegal g
+IsLegal-submit h g b r fits legal e = Extends-submit h empty_history g b r fits legal e
 
 pub IsLegal-closed : (h : History) → IsLegal h → IsLegal (record h { closed = true })
 IsLegal-closed h made = Extends-closed h empty_history made

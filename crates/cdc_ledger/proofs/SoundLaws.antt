@@ -1,20 +1,25 @@
 -- Each change keeps what holds of every history.
-use Rattle.std.proofs.Common.{ℕ, ◌+◌, ◌<◌, ◌≤◌, Bool, true, false, List, [], ◌∷◌, ◌++◌, ◌≡◌, None, refl, sym, subst, arith}
+use Rattle.std.proofs.Common.{ℕ, ◌+◌, ◌-◌, ◌<◌, ◌≤◌, Bool, true, false, List, [], ◌∷◌, ◌++◌, ◌≡◌, None, refl, ap, sym, subst, arith}
 use Rattle.std.specs.Prelude.{◌==◌, if◌then◌else◌}
 use Rattle.std.specs.List.{AllByRecursion}
-use Rattle.std.proofs.lemmas.Bool.{eqb-true}
+use Rattle.std.proofs.lemmas.Bool.{eqb-true, false≢true}
 use Rattle.cdc_types.specs.declared.accounts.Balances.{Balances}
 use Rattle.cdc_types.specs.declared.events.Entry.{Entry}
-use Rattle.cdc_types.specs.declared.events.EventKind.TheVariants.{SinglePhase}
+use Rattle.cdc_types.specs.declared.events.EventKind.{EventKind}
+use Rattle.cdc_types.specs.declared.events.EventKind.TheVariants.{SinglePhase, TwoPhasePending, TwoPhasePosted, TwoPhaseVoided, TwoPhaseExpired}
 use Rattle.cdc_types.specs.Shapes.{max_128}
-use Rattle.cdc_ledger.specs.History.{Opened, History, opened, empty_history}
 use Rattle.cdc_ledger.specs.Balances.{balances}
-use Rattle.cdc_ledger.specs.Sound.{RiseFrom, HasAccounts, IsSound}
+use Rattle.cdc_ledger.specs.Effects.{amount_of}
+use Rattle.cdc_ledger.specs.Follows.{Follows, HasRoom, SettlesOpen}
+use Rattle.cdc_ledger.specs.History.{Opened, History, opened, empty_history}
+use Rattle.cdc_ledger.specs.Kinds.{holds, moves, settles}
+use Rattle.cdc_ledger.specs.Sound.{RiseFrom, HasAccounts, Settles, Stands, IsSound}
 use Rattle.cdc_ledger.specs.Verdict.{max_timestamp}
-use Rattle.cdc_ledger.proofs.Changes.{pushed, with_account, timed, IsUpTo}
+use Rattle.cdc_ledger.proofs.Changes.{pushed, with_account, timed, IsUpTo, part, changed_by, effect_of}
 use Rattle.cdc_ledger.proofs.Elements.{AllByRecursion-weaker, AllByRecursion_push}
-use Rattle.cdc_ledger.proofs.BalanceLaws.{balances_later, balances-pushed}
+use Rattle.cdc_ledger.proofs.BalanceLaws.{balances_later, balances-pushed, released_fits, settled_by_is, settled_by_none, holds-settles}
 use Rattle.cdc_ledger.proofs.OpenedLaws.{AreApart-with_account, HasAccounts-with_account}
+use Rattle.cdc_ledger.proofs.StoredLaws.{stored-pushed_kept, once-pushed}
 
 -- pending and posted together fit 128 bits on each side
 abbrev FitBoth : Balances → Type 0
@@ -26,8 +31,57 @@ bounded_later h t sound later id = subst FitBoth (sym (balances_later h id h.las
 IsUpTo-later : (h : History) (s t : ℕ) → IsUpTo s h → s ≤ t → IsUpTo t h
 IsUpTo-later h s t within later = AllByRecursion-weaker (λ e. e.timestamp ≤ s) (λ e. e.timestamp ≤ t) (λ e at. omega arith) h.entries within
 
+-- a change that stores no transfer, or stores one more
+Settles-again : (h g : History) (e x : Entry) → g.entries ≡ h.entries → Settles h e x → Settles g e x
+Settles-again h g e x same of = record {
+  named = cc;
+  pending = of.pending;
+  debit = of.debit;
+  credit = of.credit;
+  within = of.within;
+  shown = of.shown;
+}
+
+Stands-again : (h g : History) (e : Entry) → g.entries ≡ h.entries → Stands h e → Stands g e
+Stands-again h g e same stands = record {
+  apart = stands.apart;
+  dated = stands.dated;
+  timely = stands.timely;
+  settling = λ is. ((stands.settling is).0, Settles-again h g e (stands.settling is).0 same (stands.settling is).1);
+}
+
+standing_again : (h g : History) (es : List Entry) → g.entries ≡ h.entries → AllByRecursion (Stands h) es → AllByRecursion (Stands g) es
+standing_again h g es same standing = AllByRecursion-weaker (Stands h) (Stands g) (λ e stands. Stands-again h g e same stands) es standing
+
+Settles-pushed : (h : History) (new e x : Entry) → Settles h e x → Settles (pushed h new) e x
+Settles-pushed h new e x of = record {
+  named = stored-pushed_kept h new x _ of.named;
+  pending = of.pending;
+  debit = of.debit;
+  credit = of.credit;
+  within = of.within;
+  shown = of.shown;
+}
+
+pub Stands-pushed : (h : History) (new e : Entry) → Stands h e → Stands (pushed h new) e
+Stands-pushed h new e stands = record {
+  apart = stands.apart;
+  dated = stands.dated;
+  timely = stands.timely;
+  settling = λ is. ((stands.settling is).0, Settles-pushed h new e (stands.settling is).0 (stands.settling is).1);
+}
+
 pub IsSound-empty : IsSound empty_history
-IsSound-empty = record { rising = tt; past = tt; known = tt; unique = tt; single = tt; bounded = λ id. (omega arith, omega arith); within = omega arith }
+IsSound-empty = record {
+  rising = tt;
+  past = tt;
+  known = tt;
+  unique = tt;
+  once = tt;
+  standing = tt;
+  bounded = λ id. (omega arith, omega arith);
+  within = omega arith;
+}
 
 pub IsSound-timed : (h : History) (t : ℕ) → IsSound h → h.last ≤ t → t ≤ max_timestamp → IsSound (timed h t)
 IsSound-timed h t sound later fits = record {
@@ -35,21 +89,27 @@ IsSound-timed h t sound later fits = record {
   past = IsUpTo-later h h.last t sound.past later;
   known = sound.known;
   unique = sound.unique;
-  single = sound.single;
+  once = sound.once;
+  standing = standing_again h (timed h t) h.entries refl sound.standing;
   bounded = bounded_later h t sound later;
   within = fits;
 }
 
-pub IsSound-closed : (h : History) → IsSound h → IsSound (record h { closed = true })
-IsSound-closed h sound = record {
+-- closed or not
+pub IsSound-shut : (h : History) (closed : Bool) → IsSound h → IsSound (record h { closed = closed })
+IsSound-shut h closed sound = record {
   rising = sound.rising;
   past = sound.past;
   known = sound.known;
   unique = sound.unique;
-  single = sound.single;
+  once = sound.once;
+  standing = standing_again h (record h { closed = closed }) h.entries refl sound.standing;
   bounded = sound.bounded;
   within = sound.within;
 }
+
+pub IsSound-closed : (h : History) → IsSound h → IsSound (record h { closed = true })
+IsSound-closed h sound = IsSound-shut h true sound
 
 pub IsSound-with_account : (h : History) (o : Opened) → IsSound h → opened h o.request.id ≡ None → h.last ≤ o.timestamp → o.timestamp ≤ max_timestamp
     → IsSound (with_account h o)
@@ -58,42 +118,82 @@ IsSound-with_account h o sound free later fits = record {
   past = IsUpTo-later h h.last o.timestamp sound.past later;
   known = AllByRecursion-weaker (HasAccounts h) (HasAccounts (with_account h o)) (HasAccounts-with_account h o) h.entries sound.known;
   unique = AreApart-with_account h o sound.unique free;
-  single = sound.single;
+  once = sound.once;
+  standing = standing_again h (with_account h o) h.entries refl sound.standing;
   bounded = bounded_later h o.timestamp sound later;
   within = fits;
 }
-
--- a further amount fits on this side of the account
-abbrev DebitFits : History → ℕ → ℕ → Type 0
-DebitFits h amount a = (balances h a h.last).debits_pending + (balances h a h.last).debits_posted + amount ≤ max_128
-
-abbrev CreditFits : History → ℕ → ℕ → Type 0
-CreditFits h amount a = (balances h a h.last).credits_pending + (balances h a h.last).credits_posted + amount ≤ max_128
-
--- the amount of an entry fits on both sides
-pub record HasRoom (h : History) (e : Entry) : Type 0 where
-  pub debit : (balances h e.transfer.debit_account_id h.last).debits_pending + (balances h e.transfer.debit_account_id h.last).debits_posted + e.transfer.amount ≤ max_128
-  pub credit : (balances h e.transfer.credit_account_id h.last).credits_pending + (balances h e.transfer.credit_account_id h.last).credits_posted + e.transfer.amount ≤ max_128
 
 RiseFrom_push : (t m : ℕ) (es : List Entry) (e : Entry) → RiseFrom t es → AllByRecursion (λ x. x.timestamp ≤ m) es → t ≤ m → m < e.timestamp → RiseFrom t (es ++ e ∷ [])
 RiseFrom_push t m [] e rising past before after = (omega arith, tt)
 RiseFrom_push t m (x ∷ es) e rising past before after = (rising.0, RiseFrom_push x.timestamp m es e rising.1 past.1 past.0 after)
 
-part_fits : (m n amount side account top : ℕ) (b : Bool) → (side == account) ≡ b → m + n ≤ top → (side ≡ account → m + n + amount ≤ top) → m + (n + (if b then amount else 0)) ≤ top
-part_fits m n amount side account top true same small fits = let more : m + n + amount ≤ top = fits (eqb-true side account same) in omega arith
-part_fits m n amount side account top false same small fits = omega arith
+-- an entry holds its amount or moves it, and not both
+one_amount : (k : EventKind) (n : ℕ) → (if holds k then n else 0) + (if moves k then n else 0) ≤ n
+one_amount SinglePhase n = omega arith
+one_amount TwoPhasePending n = omega arith
+one_amount TwoPhasePosted n = omega arith
+one_amount TwoPhaseVoided n = omega arith
+one_amount TwoPhaseExpired n = omega arith
 
-pub IsSound-pushed : (h : History) (e : Entry) → IsSound h → e.kind ≡ SinglePhase → h.last < e.timestamp → e.timestamp ≤ max_timestamp
-    → HasAccounts h e → HasRoom h e → IsSound (pushed h e)
-IsSound-pushed h e sound single after top has fits = record {
+-- what joins the sums of an account fits in the place of what leaves them
+module _ (h : History) (e : Entry) (sound : IsSound h) (follows : Follows h e) where
+  abbrev pub DebitFits : ℕ → Type 0
+  DebitFits a = (balances h a h.last).debits_pending + (balances h a h.last).debits_posted + (effect_of h e).held + (effect_of h e).moved ≤ max_128 + (effect_of h e).released
+
+  abbrev pub CreditFits : ℕ → Type 0
+  CreditFits a = (balances h a h.last).credits_pending + (balances h a h.last).credits_posted + (effect_of h e).held + (effect_of h e).moved ≤ max_128 + (effect_of h e).released
+
+  pub both_fit : (b : Bool) → settles e.kind ≡ b → DebitFits e.transfer.debit_account_id × CreditFits e.transfer.credit_account_id
+  both_fit true is =
+      let of : SettlesOpen h e = follows.settling is in
+      let out : (effect_of h e).released ≡ of.pending.transfer.amount = ap amount_of (settled_by_is h e of.pending is of.settles) in
+      let less : e.transfer.amount ≤ of.pending.transfer.amount = of.settles.within in
+      let one : (effect_of h e).held + (effect_of h e).moved ≤ e.transfer.amount = one_amount e.kind e.transfer.amount in
+      let debits : FitBoth (balances h e.transfer.debit_account_id h.last) = sound.bounded e.transfer.debit_account_id in
+      let credits : FitBoth (balances h e.transfer.credit_account_id h.last) = sound.bounded e.transfer.credit_account_id in
+      (omega (arith, debits.0), omega (arith, credits.1))
+  both_fit false is =
+      let room : HasRoom h e = follows.room is in
+      let one : (effect_of h e).held + (effect_of h e).moved ≤ e.transfer.amount = one_amount e.kind e.transfer.amount in
+      (omega (arith, room.debit), omega (arith, room.credit))
+
+part_fits : (m n held moved released side account top : ℕ) (b : Bool) → (side == account) ≡ b → m + n ≤ top → (if b then released else 0) ≤ m → (side ≡ account → m + n + held + moved ≤ top + released)
+    → (m + (if b then held else 0) - (if b then released else 0)) + (n + (if b then moved else 0)) ≤ top
+part_fits m n held moved released side account top true same small enough fits = let more : m + n + held + moved ≤ top + released = fits (eqb-true side account same) in omega arith
+part_fits m n held moved released side account top false same small enough fits = omega arith
+
+bounded-pushed : (h : History) (e : Entry) → IsSound h → Follows h e → h.last < e.timestamp → (id : ℕ) → FitBoth (balances (pushed h e) id e.timestamp)
+bounded-pushed h e sound follows after id =
+    let fits : DebitFits h e sound follows e.transfer.debit_account_id × CreditFits h e sound follows e.transfer.credit_account_id = both_fit h e sound follows (settles e.kind) refl in
+    let f = effect_of h e in
+    let now = balances h id h.last in
+    let was : FitBoth now = sound.bounded id in
+    let enough = released_fits h e id sound follows after in
+    subst FitBoth (sym (balances-pushed h e id sound follows after)) (
+      part_fits now.debits_pending now.debits_posted f.held f.moved f.released e.transfer.debit_account_id id max_128 (e.transfer.debit_account_id == id) refl was.0 enough.0 (λ same. subst (DebitFits h e sound follows) same fits.0),
+      part_fits now.credits_pending now.credits_posted f.held f.moved f.released e.transfer.credit_account_id id max_128 (e.transfer.credit_account_id == id) refl was.1 enough.1 (λ same. subst (CreditFits h e sound follows) same fits.1),
+    )
+
+-- the new entry stands too
+Stands-new : (h : History) (e : Entry) → Follows h e → Stands (pushed h e) e
+Stands-new h e follows = record {
+  apart = follows.apart;
+  dated = follows.dated;
+  timely = follows.timely;
+  settling = λ is. ((follows.settling is).pending, Settles-pushed h e e (follows.settling is).pending (follows.settling is).settles);
+}
+
+pub IsSound-pushed : (h : History) (e : Entry) → IsSound h → Follows h e → h.last < e.timestamp → e.timestamp ≤ max_timestamp → IsSound (pushed h e)
+IsSound-pushed h e sound follows after top = record {
   rising = RiseFrom_push 0 h.last h.entries e sound.rising sound.past (omega arith) after;
   past = AllByRecursion_push (λ x. x.timestamp ≤ e.timestamp) h.entries e (IsUpTo-later h h.last e.timestamp sound.past (omega arith)) (omega arith);
-  known = AllByRecursion_push (HasAccounts h) h.entries e sound.known has;
+  known = AllByRecursion_push (HasAccounts h) h.entries e sound.known follows.accounts;
   unique = sound.unique;
-  single = AllByRecursion_push (λ x. x.kind ≡ SinglePhase) h.entries e sound.single single;
-  bounded = λ id. subst FitBoth (sym (balances-pushed h e id sound.past after single)) (
-    part_fits (balances h id h.last).debits_pending (balances h id h.last).debits_posted e.transfer.amount e.transfer.debit_account_id id max_128 (e.transfer.debit_account_id == id) refl (sound.bounded id).0 (λ same. subst (DebitFits h e.transfer.amount) same fits.debit),
-    part_fits (balances h id h.last).credits_pending (balances h id h.last).credits_posted e.transfer.amount e.transfer.credit_account_id id max_128 (e.transfer.credit_account_id == id) refl (sound.bounded id).1 (λ same. subst (CreditFits h e.transfer.amount) same fits.credit),
-  );
+  once = once-pushed h e sound.once follows.fresh;
+  standing = AllByRecursion_push (Stands (pushed h e)) h.entries e
+      (AllByRecursion-weaker (Stands h) (Stands (pushed h e)) (Stands-pushed h e) h.entries sound.standing)
+      (Stands-new h e follows);
+  bounded = bounded-pushed h e sound follows after;
   within = top;
 }

@@ -11,9 +11,13 @@ use Rattle.cdc_ledger.specs.Kinds.{holds, moves, posts, voids, expires}
 abbrev pub resolves : Transfer → Entry → Bool
 resolves p e = posts e.kind e.transfer p || voids e.kind e.transfer p || expires e.kind e.transfer p
 
+-- the test holds of some entry up to the moment t
+abbrev pub some_by : History → ℕ → (Entry → Bool) → Bool
+some_by h t test = list_any (λ e. nat_le e.timestamp t && test e) h.entries
+
 -- some entry up to the moment t resolves the pending transfer p
 abbrev pub resolved : History → Transfer → ℕ → Bool
-resolved h p t = list_any (λ e. nat_le e.timestamp t && resolves p e) h.entries
+resolved h p t = some_by h t (resolves p)
 
 -- what the entry still holds back at the moment t
 abbrev pub held : History → ℕ → Entry → ℕ

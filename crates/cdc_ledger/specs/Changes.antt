@@ -1,6 +1,8 @@
 -- The changes of a history, one at a time.
 use Rattle.std.specs.Prelude.{ℕ, ◌++◌, [], ◌∷◌}
 use Rattle.cdc_types.specs.declared.events.Entry.{Entry}
+use Rattle.cdc_types.specs.declared.events.EventKind.TheVariants.{TwoPhaseExpired}
+use Rattle.cdc_types.specs.declared.transfers.Transfer.{Transfer}
 use Rattle.cdc_ledger.specs.History.{Opened, History}
 
 -- one more entry, at its timestamp
@@ -14,3 +16,7 @@ with_account h o = record h { accounts = h.accounts ++ o ∷ []; last = o.timest
 -- a timestamp is taken, and nothing else
 abbrev pub timed : History → ℕ → History
 timed h t = record h { last = t }
+
+-- the pending transfer p comes to its end at the moment t
+abbrev pub expiry : Transfer → ℕ → Entry
+expiry p t = record { timestamp = t; kind = TwoPhaseExpired; transfer = p }

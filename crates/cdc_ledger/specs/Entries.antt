@@ -1,20 +1,15 @@
--- Entries as the ledger keeps them.
-use Rattle.std.specs.Prelude.{ℕ, ◌==◌, ◌&&◌, Option, List, find, if◌then◌else◌}
+-- Entries as the ledger keeps them (for private contracts and the laws).
+use Rattle.std.specs.Prelude.{ℕ, if◌then◌else◌}
 use Rattle.cdc_types.specs.declared.events.Entry.{Entry}
 use Rattle.cdc_types.specs.declared.events.EventKind.TheVariants.{SinglePhase}
 use Rattle.cdc_types.specs.declared.results.TransferResult.{TransferResult}
 use Rattle.cdc_types.specs.declared.results.TransferResult.TheVariants as transfer
 use Rattle.cdc_types.specs.declared.transfers.NewTransfer.{NewTransfer}
 use Rattle.cdc_ledger.specs.Filling.{as_asked, is_same_transfer}
-use Rattle.cdc_ledger.specs.Kinds.{stores}
 
 -- the entry of a single-phase transfer that is asked for at this moment
 abbrev pub single_entry : NewTransfer → ℕ → Entry
 single_entry r t = record { timestamp = t; kind = SinglePhase; transfer = as_asked r t }
-
--- the first of the entries that stored a transfer of this id
-abbrev pub stored_in : List Entry → ℕ → Option Entry
-stored_in entries id = find (λ e. stores e.kind && (e.transfer.id == id)) entries
 
 -- what a plain request is answered whose id was taken by this entry
 abbrev pub known_result : Entry → NewTransfer → TransferResult

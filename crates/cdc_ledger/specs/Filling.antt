@@ -1,6 +1,6 @@
 -- The transfer that is stored for a request: as it was asked for, or filled in from the pending transfer that it
 -- posts or voids (TigerBeetle, Two-Phase Transfers).
-use Rattle.std.specs.Prelude.{ℕ, ◌+◌, ◌*◌, Bool, ◌==◌, ◌&&◌, Option, Some, None, if◌then◌else◌, find}
+use Rattle.std.specs.Prelude.{ℕ, ◌+◌, ◌*◌, Bool, ◌==◌, ◌&&◌, Option, Some, None, List, if◌then◌else◌, find}
 use Rattle.cdc_types.specs.declared.events.Entry.{Entry}
 use Rattle.cdc_types.specs.declared.transfers.NewTransfer.{NewTransfer}
 use Rattle.cdc_types.specs.declared.transfers.Transfer.{Transfer}
@@ -9,9 +9,13 @@ use Rattle.cdc_types.specs.Shapes.{max_128}
 use Rattle.cdc_ledger.specs.History.{History}
 use Rattle.cdc_ledger.specs.Kinds.{stores}
 
+-- the first of the entries that stored a transfer of this id
+abbrev pub stored_in : List Entry → ℕ → Option Entry
+stored_in entries id = find (λ e. stores e.kind && (e.transfer.id == id)) entries
+
 -- the entry that stored the transfer of this id
 abbrev pub stored : History → ℕ → Option Entry
-stored h id = find (λ e. stores e.kind && (e.transfer.id == id)) h.entries
+stored h id = stored_in h.entries id
 
 -- the request with its timestamp
 abbrev pub as_asked : NewTransfer → ℕ → Transfer

@@ -1,5 +1,5 @@
 -- What each kind of entry does to its transfer (TigerBeetle, Two-Phase Transfers).
-use Rattle.std.specs.Prelude.{Bool, true, false, ◌==◌}
+use Rattle.std.specs.Prelude.{ℕ, Bool, true, false, ◌==◌}
 use Rattle.cdc_types.specs.declared.transfers.Transfer.{Transfer}
 use Rattle.cdc_types.specs.declared.events.EventKind.{EventKind}
 use Rattle.cdc_types.specs.declared.events.EventKind.TheVariants.{SinglePhase, TwoPhasePending, TwoPhasePosted, TwoPhaseVoided, TwoPhaseExpired}
@@ -27,6 +27,22 @@ stores TwoPhasePending = true
 stores TwoPhasePosted = true
 stores TwoPhaseVoided = true
 stores TwoPhaseExpired = false
+
+-- the entry brings a pending transfer to its end: it posts it, voids it, or lets it expire
+abbrev pub settles : EventKind → Bool
+settles SinglePhase = false
+settles TwoPhasePending = false
+settles TwoPhasePosted = true
+settles TwoPhaseVoided = true
+settles TwoPhaseExpired = true
+
+-- the id of the pending transfer that an entry of this kind with this transfer brings to its end
+abbrev pub settled_id : EventKind → Transfer → ℕ
+settled_id SinglePhase x = 0
+settled_id TwoPhasePending x = 0
+settled_id TwoPhasePosted x = x.pending_id
+settled_id TwoPhaseVoided x = x.pending_id
+settled_id TwoPhaseExpired x = x.id
 
 -- an entry of this kind with this transfer posts the pending transfer p
 abbrev pub posts : EventKind → Transfer → Transfer → Bool

@@ -1,15 +1,23 @@
-pub mod Accounts
+-- what has to be believed
 pub mod Answers
 pub mod Balances
 pub mod BatchErrors
 pub mod Changes
 pub mod Due
-pub mod Entries
 pub mod Events
 pub mod Filling
+pub mod Fits
 pub mod History
 pub mod Kinds
-pub mod Sound
 pub mod Submit
-pub mod Tables
 pub mod Verdict
+-- what only private contracts and the laws cite
+pub mod Accounts
+pub mod Effects
+pub mod Entries
+pub mod Follows
+pub mod Movements
+pub mod OpenTriples
+pub mod Parts
+pub mod Sound
+pub mod Tables

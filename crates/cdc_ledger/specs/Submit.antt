@@ -1,5 +1,6 @@
 -- What the ledger answers to a batch, and the history after it.
-use Rattle.std.specs.Prelude.{ℕ, ◌+◌, ◌-◌, max, Bool, false, ◌==◌, ◌&&◌, ◌||◌, nat_lt, Option, Some, None, Result, Ok, Err, List, [], ◌∷◌, ◌++◌, length, if◌then◌else◌, ◌≡◌}
+use Rattle.std.specs.Prelude.{ℕ, ◌+◌, ◌-◌, max, Bool, false, ◌==◌, ◌&&◌, ◌||◌, nat_lt, Option, Some, None, Result, Ok, Err, List, [], ◌∷◌, length, if◌then◌else◌, ◌≡◌}
+use Rattle.std.specs.List.{AllByRecursion}
 use Rattle.cdc_types.specs.declared.accounts.NewAccount.{NewAccount}
 use Rattle.cdc_types.specs.declared.batches.Batch.{Batch}
 use Rattle.cdc_types.specs.declared.batches.Batch.TheVariants as batch
@@ -7,7 +8,7 @@ use Rattle.cdc_types.specs.declared.batches.BatchResults.{BatchResults}
 use Rattle.cdc_types.specs.declared.batches.BatchResults.TheVariants as results
 use Rattle.cdc_types.specs.declared.events.Entry.{Entry}
 use Rattle.cdc_types.specs.declared.events.EventKind.{EventKind}
-use Rattle.cdc_types.specs.declared.events.EventKind.TheVariants.{SinglePhase, TwoPhasePending, TwoPhasePosted, TwoPhaseVoided, TwoPhaseExpired}
+use Rattle.cdc_types.specs.declared.events.EventKind.TheVariants.{SinglePhase, TwoPhasePending, TwoPhasePosted, TwoPhaseVoided}
 use Rattle.cdc_types.specs.declared.results.AccountResult.{AccountResult}
 use Rattle.cdc_types.specs.declared.results.TransferResult.{TransferResult}
 use Rattle.cdc_types.specs.declared.transfers.NewTransfer.{NewTransfer}
@@ -18,7 +19,9 @@ use Rattle.cdc_types.specs.Lines.{first_line}
 use Rattle.cdc_types.specs.Results.{account_number, transfer_number}
 use Rattle.cdc_ledger.specs.declared.errors.BatchError.{BatchError}
 use Rattle.cdc_ledger.specs.declared.errors.BatchError.TheVariants as refusal
-use Rattle.cdc_ledger.specs.History.{History, empty_history}
+use Rattle.cdc_ledger.specs.Changes.{pushed, with_account, timed, expiry}
+use Rattle.cdc_ledger.specs.Fits.{BatchFits}
+use Rattle.cdc_ledger.specs.History.{Opened, History, empty_history}
 use Rattle.cdc_ledger.specs.Filling.{filled}
 use Rattle.cdc_ledger.specs.Verdict.{max_timestamp, account_verdict, transfer_verdict}
 use Rattle.cdc_ledger.specs.Due.{due}
@@ -31,21 +34,21 @@ kind_of r =
     else if is_void_request r then TwoPhaseVoided
     else SinglePhase
 
+-- the account that a request opens at the moment t
+abbrev pub opened_by : NewAccount → ℕ → Opened
+opened_by a t = record { request = a; timestamp = t }
+
+-- the entry of a request for a transfer that is accepted at the moment t
+abbrev pub entry_of : History → NewTransfer → ℕ → Entry
+entry_of h r t = record { timestamp = t; kind = kind_of r; transfer = filled h r t }
+
 -- the history after a request for an account at the moment t: it takes its timestamp whether it is accepted or not
 abbrev pub after_account : History → NewAccount → ℕ → AccountResult → History
-after_account h a t verdict = record h {
-  accounts = if account_number verdict == 0 then h.accounts ++ record { request = a; timestamp = t } ∷ [] else h.accounts;
-  last = t;
-}
+after_account h a t verdict = if account_number verdict == 0 then with_account h (opened_by a t) else timed h t
 
 -- the history after a request for a transfer at the moment t
 abbrev pub after_transfer : History → NewTransfer → ℕ → TransferResult → History
-after_transfer h r t verdict = record h {
-  entries = if transfer_number verdict == 0
-      then h.entries ++ record { timestamp = t; kind = kind_of r; transfer = filled h r t } ∷ []
-      else h.entries;
-  last = t;
-}
+after_transfer h r t verdict = if transfer_number verdict == 0 then pushed h (entry_of h r t) else timed h t
 
 -- the answers to requests for accounts from the moment t on, each judged by what those before it left, and the
 -- history after them
@@ -67,9 +70,7 @@ transfers_from offered h t (r ∷ rest) =
 -- the history after these pending transfers came to their end, from the moment t on
 abbrev pub expiries_from : History → ℕ → List Transfer → History
 expiries_from h t [] = h
-expiries_from h t (p ∷ rest) =
-    let entry : Entry = record { timestamp = t; kind = TwoPhaseExpired; transfer = p } in
-    expiries_from (record h { entries = h.entries ++ entry ∷ []; last = t }) (t + 1) rest
+expiries_from h t (p ∷ rest) = expiries_from (pushed h (expiry p t)) (t + 1) rest
 
 -- the timestamp of the first item of a batch at the moment now
 abbrev pub base : History → ℕ → ℕ
@@ -98,24 +99,18 @@ abbrev pub is_past_the_end : History → ℕ → ℕ → Bool
 is_past_the_end h now n = nat_lt 0 n && nat_lt max_timestamp (base h now + n - 1)
 
 -- why a batch of n items at the moment now is refused as a whole, if it is
-abbrev pub refusal_at : History → ℕ → ℕ → Option BatchError
-refusal_at h now n =
+abbrev pub refusal_at : History → Bool → ℕ → ℕ → Option BatchError
+refusal_at h too_large now n =
     first_line (
     (h.closed, refusal.LedgerClosed) ∷
-    (nat_lt 1000 n, refusal.BatchTooLarge) ∷
+    (too_large, refusal.BatchTooLarge) ∷
     (is_past_the_end h now n, refusal.TimestampsExhausted) ∷
     []
     )
 
 -- why a batch is refused as a whole, if it is
 abbrev pub refusal_of : History → Batch → Option BatchError
-refusal_of h b =
-    first_line (
-    (h.closed, refusal.LedgerClosed) ∷
-    (is_too_large b, refusal.BatchTooLarge) ∷
-    (is_past_the_end h (moment b) (items_of h b), refusal.TimestampsExhausted) ∷
-    []
-    )
+refusal_of h b = refusal_at h (is_too_large b) (moment b) (items_of h b)
 
 -- the answer to a batch that isn't refused, and the history after it
 abbrev pub taken : Features → History → Batch → BatchResults × History
@@ -151,9 +146,12 @@ after_batches offered h (b ∷ bs) = after_batches offered (history_or h (submit
 abbrev pub closed_if : Bool → History → History
 closed_if close h = record h { closed = close || h.closed }
 
--- g is made of h by batches and at most one close
-abbrev pub Extends : History → History → Type 0
-Extends g h = (batches : List Batch) × (close : Bool) × (g ≡ closed_if close (after_batches features h batches))
+-- g is made of h by batches, of which each number is within the width of its field, and at most one close
+pub record Extends (g h : History) : Type 0 where
+  pub batches : List Batch
+  pub close : Bool
+  pub fit : AllByRecursion BatchFits batches
+  pub made : g ≡ closed_if close (after_batches features h batches)
 
 -- batches and at most one close make h of nothing
 abbrev pub IsLegal : History → Type 0

@@ -1,11 +1,19 @@
--- What the ledger's tables stand for, and what is kept of them between two calls.
-use Rattle.std.specs.Prelude.{ℕ, ◌-◌, ◌≡◌, min, map, vec_len, vec_capacity}
+-- What the ledger's tables stand for, and what is kept of them between two calls (for private contracts and the
+-- laws).
+use Rattle.std.specs.Prelude.{ℕ, ◌-◌, ◌≡◌, None, min, map, vec_len, vec_capacity}
+use Rattle.cdc_types.specs.declared.transfers.NewTransfer.{NewTransfer}
+use Rattle.cdc_types.specs.Features.{features}
+use Rattle.cdc_types.specs.Lines.{first_line}
+use Rattle.cdc_ledger.specs.declared.movements.Movement.{Movement}
 use Rattle.cdc_ledger.specs.declared.tables.Tables.{Tables}
 use Rattle.cdc_ledger.specs.Accounts.{opened_as}
 use Rattle.cdc_ledger.specs.Events.{accounts_now, events}
 use Rattle.cdc_ledger.specs.History.{History}
+use Rattle.cdc_ledger.specs.Movements.{IsMovement}
+use Rattle.cdc_ledger.specs.OpenTriples.{index_of}
 use Rattle.cdc_ledger.specs.Sound.{IsSound}
-use Rattle.cdc_ledger.specs.Submit.{IsLegal}
+use Rattle.cdc_ledger.specs.Submit.{IsLegal, entry_of}
+use Rattle.cdc_ledger.specs.Verdict.{transfer_lines}
 
 -- the history that the tables hold
 abbrev pub history_of : Tables → History
@@ -24,13 +32,21 @@ room_for_accounts t = vec_capacity t.accounts - vec_len t.accounts
 abbrev pub room_for_entries : Tables → ℕ
 room_for_entries t = min (vec_capacity t.entries - vec_len t.entries) t.log.room
 
--- the running balances are the sums over the entries, and the log has the events of the history
+-- the running balances are the sums over the entries, the log has the events of the history, and the index a triple
+-- for each pending transfer with a timeout that nothing brought to its end yet
 pub record IsKept (t : Tables) : Type 0 where
   pub balanced : t.accounts.items ≡ accounts_now (history_of t)
   pub logged : t.log.events ≡ events (history_of t)
+  pub indexed : t.index.triples ≡ index_of (history_of t)
   pub sound : IsSound (history_of t)
 
 -- the same, and batches and at most one close make the history
 pub record IsSoundlyKept (t : Tables) : Type 0 where
   pub kept : IsKept t
   pub legal : IsLegal (history_of t)
+
+-- no line refuses the request at the moment n, and the movement is that of its entry
+pub record IsJudged (t : Tables) (r : NewTransfer) (n : ℕ) (m : Movement) : Type 0 where
+  pub unrefused : first_line (transfer_lines features (history_of t) r n) ≡ None
+  pub entry : m.entry ≡ entry_of (history_of t) r n
+  pub movement : IsMovement t.accounts.items (history_of t) m

@@ -1,7 +1,6 @@
 -- What becomes of a request: the first line of its table that applies (TigerBeetle, `create_accounts` and
 -- `create_transfers`).
 use Rattle.std.specs.Prelude.{ℕ, ◌+◌, Bool, true, ◌==◌, ◌&&◌, ◌||◌, not, nat_lt, nat_le, Option, Some, None, unwrap_or, List, [], ◌∷◌, ◌++◌, if◌then◌else◌}
-use Rattle.std.specs.List.{list_any}
 use Rattle.cdc_types.specs.declared.accounts.Balances.{Balances}
 use Rattle.cdc_types.specs.declared.accounts.NewAccount.{NewAccount}
 use Rattle.cdc_types.specs.declared.events.Entry.{Entry}
@@ -17,7 +16,7 @@ use Rattle.cdc_types.specs.Lines.{first_line}
 use Rattle.cdc_types.specs.Shapes.{max_128, account_shape_lines, transfer_shape_lines}
 use Rattle.cdc_ledger.specs.History.{Opened, History, opened}
 use Rattle.cdc_ledger.specs.Kinds.{holds, posts, voids, expires}
-use Rattle.cdc_ledger.specs.Balances.{balances}
+use Rattle.cdc_ledger.specs.Balances.{balances, some_by}
 use Rattle.cdc_ledger.specs.Filling.{stored, settled_amount, filled, as_asked, is_same_transfer, expires_at}
 
 -- the greatest timestamp, in nanoseconds
@@ -44,7 +43,8 @@ account_lines offered h a = account_shape_lines offered a ++ known_account_lines
 abbrev pub account_verdict : Features → History → NewAccount → AccountResult
 account_verdict offered h a = unwrap_or (first_line (account_lines offered h a)) account.Accepted
 
--- the lines on a transfer that is there already
+-- the lines on a transfer that is there already: a post or a void is filled in before it is compared. Timestamps aren't
+-- compared, so the entry's own one, which fills the request in here, stands for any
 abbrev pub known_transfer_lines : Option Entry → History → NewTransfer → List (Bool × TransferResult)
 known_transfer_lines None h r = []
 known_transfer_lines (Some e) h r =
@@ -82,10 +82,10 @@ plain_lines (Some debited) (Some credited) h r t =
 abbrev pub is_other : ℕ → ℕ → Bool
 is_other given own = not (given == 0) && not (given == own)
 
--- the pending transfer has come to its end, swept or not
+-- the pending transfer has come to its end by the moment t, swept or not
 abbrev pub is_over : History → Transfer → ℕ → Bool
 is_over h p t =
-    list_any (λ e. expires e.kind e.transfer p) h.entries || (not (p.timeout == 0) && nat_le (expires_at p) t)
+    some_by h t (λ e. expires e.kind e.transfer p) || (not (p.timeout == 0) && nat_le (expires_at p) t)
 
 -- the lines on a post or a void and the entry of the pending transfer that it names
 abbrev pub settling_lines : Option Entry → History → NewTransfer → ℕ → List (Bool × TransferResult)
@@ -100,8 +100,8 @@ settling_lines (Some e) h r t =
     (is_other r.code p.code, transfer.PendingTransferHasDifferentCode) ∷
     (nat_lt p.amount amount, transfer.ExceedsPendingTransferAmount) ∷
     (is_void_request r && nat_lt amount p.amount, transfer.PendingTransferHasDifferentAmount) ∷
-    (list_any (λ x. posts x.kind x.transfer p) h.entries, transfer.PendingTransferAlreadyPosted) ∷
-    (list_any (λ x. voids x.kind x.transfer p) h.entries, transfer.PendingTransferAlreadyVoided) ∷
+    (some_by h t (λ x. posts x.kind x.transfer p), transfer.PendingTransferAlreadyPosted) ∷
+    (some_by h t (λ x. voids x.kind x.transfer p), transfer.PendingTransferAlreadyVoided) ∷
     (is_over h p t, transfer.PendingTransferExpired) ∷
     []
 

@@ -1,13 +1,11 @@
 //! The accounts of a ledger: a list in the order in which they were opened, searched from the front.
 
-ghost use Rattle.std.specs.Prelude.{◌≡◌, ◌==◌, find, map, IsSome};
+ghost use Rattle.std.specs.Prelude.{◌≡◌, ◌==◌, find, position};
 ghost use Rattle.std.specs.Option.{option_copied};
-ghost use Rattle.cdc_ledger.specs.Accounts.{Fits, fresh_account, account_added, event_from, shown_as, shown_in as shown_of, opened_as};
+ghost use Rattle.cdc_ledger.specs.Accounts.{fresh_account, shown_as, opened_as};
 ghost use Rattle.cdc_ledger.specs.Verdict.{is_same_account as same_account};
-ghost use Rattle.std.specs.List.{All};
 
-use crate::transfers::shown_transfer;
-use cdc_types::{Account, Balances, Entry, Event, EventAccount, NewAccount, Transfer};
+use cdc_types::{Account, Balances, EventAccount, NewAccount};
 
 /// A new account: all of its balances are 0.
 pub(crate) fn opened_account(request: &NewAccount, timestamp: u64) -> Account
@@ -71,50 +69,9 @@ pub(crate) fn find_account(accounts: &[Account], id: u128) -> Option<&Account>
     accounts.iter().find(|account| account.id == id)
 }
 
-/// Moves the amount of a single-phase transfer through this account, if it is one of the two sides.
-fn move_through(account: &mut Account, transfer: &Transfer)
-    requires { Fits transfer.now account.old }
-    ensures { account.new ≡ account_added transfer.now account.old }
+/// The place of the account of this id, from 0.
+pub(crate) fn find_place(accounts: &[Account], id: u128) -> Option<usize>
+    ensures { result ≡ position (λ a. a.id == id) accounts.now }
 {
-    if account.id == transfer.debit_account_id {
-        account.balances.debits_posted += transfer.amount;
-    }
-    if account.id == transfer.credit_account_id {
-        account.balances.credits_posted += transfer.amount;
-    }
-}
-
-/// Moves the amount of a single-phase transfer from its debit account to its credit account.
-pub(crate) fn move_amount(accounts: &mut [Account], transfer: &Transfer)
-    requires { All (Fits transfer.now) accounts.old }
-    ensures { accounts.new ≡ map (account_added transfer.now) accounts.old }
-{
-    for account in accounts.iter_mut() {
-        move_through(account, transfer);
-    }
-}
-
-/// The account of this id, which is there, as an event shows it.
-fn shown_in(accounts: &[Account], id: u128) -> EventAccount
-    requires { IsSome (find (λ a. a.id == id) accounts.now) }
-    ensures { result ≡ shown_of accounts.now id }
-{
-    shown_account(find_account(accounts, id).unwrap())
-}
-
-/// The event of an entry, from the accounts as they are after it.
-pub(crate) fn event_of(accounts: &[Account], entry: &Entry) -> Event
-    requires debit { IsSome (find (λ a. a.id == entry.now.transfer.debit_account_id) accounts.now) }
-    requires credit { IsSome (find (λ a. a.id == entry.now.transfer.credit_account_id) accounts.now) }
-    ensures { result ≡ event_from accounts.now entry.now }
-{
-    let transfer = &entry.transfer;
-    Event {
-        timestamp: entry.timestamp,
-        kind: entry.kind,
-        ledger: transfer.ledger,
-        transfer: shown_transfer(transfer),
-        debit_account: shown_in(accounts, transfer.debit_account_id),
-        credit_account: shown_in(accounts, transfer.credit_account_id),
-    }
+    accounts.iter().position(|account| account.id == id)
 }

@@ -3,7 +3,11 @@
 
 mod accounts;
 pub mod errors;
+mod judging;
 pub mod ledger;
+mod movements;
+mod settling;
+mod sums;
 mod tables;
 mod transfers;
 

@@ -1,36 +1,49 @@
 //! What the ledger keeps, and the steps that it takes.
 
-ghost use Rattle.std.specs.Prelude.{◌≡◌, ℕ, ◌+◌, ◌≤◌, ◌<◌, true, None, option_map, [], length, vec_capacity, OnOk, IfErr};
+ghost use Rattle.std.specs.Prelude.{◌≡◌, ℕ, ◌+◌, ◌≤◌, ◌<◌, true, false, None, Some, option_map, [], length, vec_capacity, OnOk, IfErr};
+ghost use Rattle.std.specs.List.{AllByRecursion};
 ghost use Rattle.std.specs.Option.{option_copied};
 ghost use Rattle.cdc_types.specs.Features.{features};
 ghost use Rattle.cdc_types.specs.Lines.{first_line};
-ghost use Rattle.cdc_ledger.specs.Accounts.{opened_by};
 ghost use Rattle.cdc_ledger.specs.Answers.{Answers};
-ghost use Rattle.cdc_ledger.specs.Changes.{pushed, with_account, timed};
-ghost use Rattle.cdc_ledger.specs.Entries.{single_entry};
+ghost use Rattle.cdc_ledger.specs.Changes.{pushed, with_account, timed, expiry};
+ghost use Rattle.cdc_ledger.specs.Due.{due};
+ghost use Rattle.cdc_ledger.specs.Effects.{settled_by};
 ghost use Rattle.cdc_ledger.specs.Events.{account_now};
 ghost use Rattle.cdc_ledger.specs.Filling.{stored};
+ghost use Rattle.cdc_ledger.specs.Fits.{BatchFits, NewAccountFits, NewTransferFits};
+ghost use Rattle.cdc_ledger.specs.Follows.{Follows};
 ghost use Rattle.cdc_ledger.specs.History.{empty_history, opened};
-ghost use Rattle.cdc_ledger.specs.Submit.{accounts_from, after_account, after_transfer, base as first_timestamp, refusal_at, transfers_from};
+ghost use Rattle.cdc_ledger.specs.Kinds as kinds;
+ghost use Rattle.cdc_ledger.specs.Movements.{IsMovement};
+ghost use Rattle.cdc_ledger.specs.OpenTriples.{index_of};
+ghost use Rattle.cdc_ledger.specs.Sound.{IsSound};
+ghost use Rattle.cdc_ledger.specs.Submit.{accounts_from, after_account, after_transfer, base as first_timestamp, expiries_from, opened_by, refusal_at, transfers_from};
 ghost use Rattle.cdc_ledger.specs.Tables.{IsKept, history_of, room_for_accounts, room_for_entries};
-ghost use Rattle.cdc_ledger.specs.Verdict.{max_timestamp, account_lines, account_verdict, transfer_lines, transfer_verdict};
+ghost use Rattle.cdc_ledger.specs.Verdict.{max_timestamp, account_lines, account_verdict, transfer_verdict};
 
-use crate::accounts::{event_of, find_account, is_same_account, move_amount, opened_account};
+use crate::accounts::{find_account, is_same_account, opened_account};
 use crate::errors::BatchError;
-use crate::transfers::{as_asked, find_entry, known_refusal, refusal_between};
+use crate::movements::Movement;
+use crate::transfers::{expires_at, find_entry};
+use cdc_expiry::{DueIndex, Triple};
 use cdc_log::EventLog;
 use cdc_types::{
     Account, AccountResult, Batch, BatchResults, Entry, EventKind, Limits, NewAccount, NewTransfer,
-    TransferResult,
+    Transfer, TransferResult,
 };
 use std::alloc::Global;
 
-/// The accounts with their running balances, the entries, their events, and how far the ledger has come.
+/// The accounts with their running balances, the entries, their events, the ends that may still come, and how far the
+/// ledger has come.
 #[derive(Drop)]
 pub(crate) struct Tables {
     pub(crate) accounts: Vec<Account>,
     pub(crate) entries: Vec<Entry>,
     pub(crate) log: EventLog,
+    /// A triple for each pending transfer with a timeout that is neither posted, voided nor expired; its slot is the
+    /// place of the entry.
+    pub(crate) index: DueIndex,
     pub(crate) last: u64,
     pub(crate) closed: bool,
 }
@@ -45,6 +58,7 @@ impl Tables {
             accounts: Vec::new(alloc),
             entries: Vec::new(alloc),
             log: EventLog::new(alloc),
+            index: DueIndex::new(alloc),
             last: 0,
             closed: false,
         }
@@ -110,91 +124,96 @@ impl Tables {
     }
 
     /// Takes a request for an account, for which there is room, at this moment.
-    fn take_account(&mut self, request: &NewAccount, timestamp: u64) -> AccountResult
+    fn take_account(&mut self, request: NewAccount, timestamp: u64) -> AccountResult
         requires kept { IsKept self.old }
         requires later { self.old.last < timestamp }
         requires within { timestamp ≤ max_timestamp }
         requires room { 0 < room_for_accounts self.old }
-        ensures result { result ≡ account_verdict features (history_of self.old) request.now }
-        ensures history { history_of self.new ≡ after_account (history_of self.old) request.now timestamp result }
+        ensures result { result ≡ account_verdict features (history_of self.old) request }
+        ensures history { history_of self.new ≡ after_account (history_of self.old) request timestamp result }
+        ensures fits { NewAccountFits request }
         ensures kept { IsKept self.new }
         ensures room { room_for_accounts self.old ≤ room_for_accounts self.new + 1 }
     {
-        match self.account_refusal(request) {
+        match self.account_refusal(&request) {
             Some(refusal) => {
                 self.take_timestamp(timestamp);
                 refusal
             }
             None => {
-                self.open_account(request, timestamp);
+                self.open_account(&request, timestamp);
                 AccountResult::Accepted
             }
         }
     }
 
-    /// The first line that refuses the request, if any does, at any moment from now on.
-    fn transfer_refusal(&self, request: &NewTransfer) -> Option<TransferResult>
-        requires { IsKept self.now }
-        ensures { (t : ℕ) → self.now.last ≤ t →
-            result ≡ first_line (transfer_lines features (history_of self.now) request.now t) }
+    /// Keeps the end that a pending transfer will come to, and forgets that of one that is settled.
+    fn follow_end(&mut self, movement: &Movement)
+        requires indexed { self.old.index.triples ≡ index_of (history_of self.old) }
+        requires sound { IsSound (history_of self.old) }
+        requires later { self.old.last < movement.now.entry.timestamp }
+        requires within { movement.now.entry.timestamp ≤ max_timestamp }
+        requires follows { Follows (history_of self.old) movement.now.entry }
+        requires settled { movement.now.settled ≡ settled_by (history_of self.old) movement.now.entry }
+        requires room { kinds.settles movement.now.entry.kind ≡ false → 0 < self.old.index.room }
+        ensures same { self.new ≡ record self.old { index = self.new.index } }
+        ensures indexed { self.new.index.triples ≡ index_of (pushed (history_of self.old) movement.now.entry) }
+        ensures room { self.old.index.room ≤ self.new.index.room + 1 }
     {
-        if let Some(refusal) = request.check_shape() {
-            return Some(refusal);
+        let entry = &movement.entry;
+        if let Some(pending) = movement.settled {
+            let _had_an_end = self.index.remove(expires_at(&pending), pending.timestamp);
+        } else if entry.kind == EventKind::TwoPhasePending && entry.transfer.timeout != 0 {
+            self.index.add(Triple {
+                expires_at: expires_at(&entry.transfer),
+                timestamp: entry.transfer.timestamp,
+                slot: self.entries.len(),
+            });
         }
-        if let Some(entry) = self.entry(request.id) {
-            return Some(known_refusal(entry, request));
-        }
-        let Some(debited) = self.account(request.debit_account_id) else {
-            return Some(TransferResult::DebitAccountNotFound);
-        };
-        let Some(credited) = self.account(request.credit_account_id) else {
-            return Some(TransferResult::CreditAccountNotFound);
-        };
-        refusal_between(debited, credited, request)
     }
 
-    /// Stores the transfer that is asked for, which no line refuses, and tells of it. There is room for it.
-    fn store_transfer(&mut self, request: &NewTransfer, timestamp: u64)
+    /// Takes the movement's entry and tells of it. There is room for it.
+    fn record(&mut self, movement: &Movement)
         requires kept { IsKept self.old }
-        requires later { self.old.last < timestamp }
-        requires within { timestamp ≤ max_timestamp }
-        requires accepted { first_line (transfer_lines features (history_of self.old) request.now timestamp) ≡ None }
+        requires later { self.old.last < movement.now.entry.timestamp }
+        requires within { movement.now.entry.timestamp ≤ max_timestamp }
+        requires follows { Follows (history_of self.old) movement.now.entry }
+        requires movement { IsMovement self.old.accounts.items (history_of self.old) movement.now }
         requires room { 0 < room_for_entries self.old }
-        ensures history { history_of self.new ≡ pushed (history_of self.old) (single_entry request.now timestamp) }
+        requires index_room { kinds.settles movement.now.entry.kind ≡ false → 0 < self.old.index.room }
+        ensures history { history_of self.new ≡ pushed (history_of self.old) movement.now.entry }
         ensures kept { IsKept self.new }
         ensures room { room_for_entries self.new + 1 ≡ room_for_entries self.old }
+        ensures index_room { self.old.index.room ≤ self.new.index.room + 1 }
     {
-        let transfer = as_asked(request, timestamp);
-        move_amount(self.accounts.as_mut_slice(), &transfer);
-        let entry = Entry {
-            timestamp,
-            kind: EventKind::SinglePhase,
-            transfer,
-        };
-        let event = event_of(self.accounts.as_slice(), &entry);
-        self.log.push(event);
-        self.entries.push_reserved(entry);
-        self.last = timestamp;
+        self.follow_end(movement);
+        movement.apply(self.accounts.as_mut_slice());
+        self.log.push(movement.event(self.accounts.as_slice()));
+        self.entries.push_reserved(movement.entry);
+        self.last = movement.entry.timestamp;
     }
 
     /// Takes a request for a transfer, for which there is room, at this moment.
-    fn take_transfer(&mut self, request: &NewTransfer, timestamp: u64) -> TransferResult
+    fn take_transfer(&mut self, request: NewTransfer, timestamp: u64) -> TransferResult
         requires kept { IsKept self.old }
         requires later { self.old.last < timestamp }
         requires within { timestamp ≤ max_timestamp }
         requires room { 0 < room_for_entries self.old }
-        ensures result { result ≡ transfer_verdict features (history_of self.old) request.now timestamp }
-        ensures history { history_of self.new ≡ after_transfer (history_of self.old) request.now timestamp result }
+        requires index_room { 0 < self.old.index.room }
+        ensures result { result ≡ transfer_verdict features (history_of self.old) request timestamp }
+        ensures history { history_of self.new ≡ after_transfer (history_of self.old) request timestamp result }
+        ensures fits { NewTransferFits request }
         ensures kept { IsKept self.new }
         ensures room { room_for_entries self.old ≤ room_for_entries self.new + 1 }
+        ensures index_room { self.old.index.room ≤ self.new.index.room + 1 }
     {
-        match self.transfer_refusal(request) {
-            Some(refusal) => {
+        match self.judge(&request, timestamp) {
+            Err(refusal) => {
                 self.take_timestamp(timestamp);
                 refusal
             }
-            None => {
-                self.store_transfer(request, timestamp);
+            Ok(movement) => {
+                self.record(&movement);
                 TransferResult::Accepted
             }
         }
@@ -209,13 +228,13 @@ impl Tables {
     }
 
     /// Why a batch of this many items at this moment is refused, if it is.
-    fn batch_refusal(&self, now: u64, items: usize) -> Option<BatchError>
+    fn batch_refusal(&self, too_large: bool, now: u64, items: usize) -> Option<BatchError>
         requires { self.now.last ≤ max_timestamp }
-        ensures { result ≡ refusal_at (history_of self.now) now items }
+        ensures { result ≡ refusal_at (history_of self.now) too_large now items }
     {
         if self.closed {
             Some(BatchError::LedgerClosed)
-        } else if items > Limits::BATCH_ITEMS {
+        } else if too_large {
             Some(BatchError::BatchTooLarge)
         } else if items > 0 && self.base(now).saturating_add(items as u64 - 1) > Limits::TIMESTAMP {
             Some(BatchError::TimestampsExhausted)
@@ -249,6 +268,20 @@ impl Tables {
         Ok(())
     }
 
+    /// Makes room for this many more transfers: their entries, their events and their ends.
+    fn reserve_transfers(&mut self, additional: usize) -> Result<(), BatchError>
+        requires { IsKept self.old }
+        ensures history { history_of self.new ≡ history_of self.old }
+        ensures kept { IsKept self.new }
+        ensures room { OnOk result (additional ≤ room_for_entries self.new) }
+        ensures index_room { OnOk result (additional ≤ self.new.index.room) }
+        ensures memory { IfErr result (λ e. e ≡ BatchError.OutOfMemory) }
+    {
+        self.reserve_entries(additional)?;
+        self.index.reserve(additional)?;
+        Ok(())
+    }
+
     /// Takes requests for accounts, for which there is room, from the moment `base` on.
     fn take_accounts(
         &mut self,
@@ -264,10 +297,11 @@ impl Tables {
         requires results_room { length requests.now ≤ vec_capacity results }
         ensures taken { accounts_from features (history_of self.old) base requests.now
             ≡ (result.items, history_of self.new) }
+        ensures fit { AllByRecursion NewAccountFits requests.now }
         ensures kept { IsKept self.new }
     {
         for (place, request) in requests.iter().enumerate() {
-            results.push_reserved(self.take_account(request, base + place as u64));
+            results.push_reserved(self.take_account(*request, base + place as u64));
         }
         results
     }
@@ -283,14 +317,16 @@ impl Tables {
         requires later { self.old.last < base }
         requires within { 0 < length requests.now → base + length requests.now ≤ max_timestamp + 1 }
         requires room { length requests.now ≤ room_for_entries self.old }
+        requires index_room { length requests.now ≤ self.old.index.room }
         requires empty { results.items ≡ [] }
         requires results_room { length requests.now ≤ vec_capacity results }
         ensures taken { transfers_from features (history_of self.old) base requests.now
             ≡ (result.items, history_of self.new) }
+        ensures fit { AllByRecursion NewTransferFits requests.now }
         ensures kept { IsKept self.new }
     {
         for (place, request) in requests.iter().enumerate() {
-            results.push_reserved(self.take_transfer(request, base + place as u64));
+            results.push_reserved(self.take_transfer(*request, base + place as u64));
         }
         results
     }
@@ -305,9 +341,14 @@ impl Tables {
         requires { IsKept self.old }
         ensures answers { Answers (λ v. BatchResults.Accounts v.items) (history_of self.old)
             (Batch.Accounts now requests.now) result (history_of self.new) }
+        ensures fit { OnOk result (BatchFits (Batch.Accounts now requests.now)) }
         ensures kept { IsKept self.new }
     {
-        if let Some(refusal) = self.batch_refusal(now, requests.len()) {
+        if let Some(refusal) = self.batch_refusal(
+            requests.len() > Limits::BATCH_ITEMS,
+            now,
+            requests.len(),
+        ) {
             return Err(refusal);
         }
         let results = Vec::with_capacity(alloc, requests.len())?;
@@ -326,26 +367,76 @@ impl Tables {
         requires { IsKept self.old }
         ensures answers { Answers (λ v. BatchResults.Transfers v.items) (history_of self.old)
             (Batch.Transfers now requests.now) result (history_of self.new) }
+        ensures fit { OnOk result (BatchFits (Batch.Transfers now requests.now)) }
         ensures kept { IsKept self.new }
     {
-        if let Some(refusal) = self.batch_refusal(now, requests.len()) {
+        if let Some(refusal) = self.batch_refusal(
+            requests.len() > Limits::BATCH_ITEMS,
+            now,
+            requests.len(),
+        ) {
             return Err(refusal);
         }
         let results = Vec::with_capacity(alloc, requests.len())?;
-        self.reserve_entries(requests.len())?;
+        self.reserve_transfers(requests.len())?;
         let base = self.base(now);
         Ok(self.take_transfers(base, requests, results))
     }
 
-    /// Brings the pending transfers whose time is up to their end. There are none today.
-    pub(crate) fn pulse(&self, now: u64) -> Result<u64, BatchError>
-        requires { IsKept self.now }
-        ensures { let h = history_of self.now in Answers BatchResults.Pulsed h (Batch.Pulse now) result h }
+    /// Brings the pending transfer, which nothing brought to its end yet, to its end. There is room for its entry.
+    fn expire(&mut self, pending: Transfer, timestamp: u64)
+        requires kept { IsKept self.old }
+        requires later { self.old.last < timestamp }
+        requires within { timestamp ≤ max_timestamp }
+        requires room { 0 < room_for_entries self.old }
+        requires follows { Follows (history_of self.old) (expiry pending timestamp) }
+        ensures history { history_of self.new ≡ pushed (history_of self.old) (expiry pending timestamp) }
+        ensures kept { IsKept self.new }
+        ensures room { room_for_entries self.new + 1 ≡ room_for_entries self.old }
     {
-        match self.batch_refusal(now, 0) {
-            Some(refusal) => Err(refusal),
-            None => Ok(0),
+        let entry = Entry {
+            timestamp,
+            kind: EventKind::TwoPhaseExpired,
+            transfer: pending,
+        };
+        let movement = self.settling(entry, pending);
+        self.record(&movement);
+    }
+
+    /// Brings this many pending transfers to their end, those whose time is up at the moment `now`, from the moment
+    /// `base` on. There is room for all of their entries.
+    fn expire_all(&mut self, now: u64, base: u64, count: usize)
+        requires kept { IsKept self.old }
+        requires later { self.old.last < base }
+        requires within { 0 < count → base + count ≤ max_timestamp + 1 }
+        requires room { count ≤ room_for_entries self.old }
+        requires count { count ≡ length (due (history_of self.old) now) }
+        ensures history { history_of self.new
+            ≡ expiries_from (history_of self.old) base (due (history_of self.old) now) }
+        ensures kept { IsKept self.new }
+    {
+        for place in 0..count {
+            let first = self.index.due(now).unwrap();
+            let pending = self.entries[first.slot].transfer;
+            self.expire(pending, base + place as u64);
         }
+    }
+
+    /// Brings the pending transfers whose time is up at the moment `now` to their end, and answers how many they were.
+    pub(crate) fn pulse(&mut self, now: u64) -> Result<u64, BatchError>
+        requires { IsKept self.old }
+        ensures answers { Answers BatchResults.Pulsed (history_of self.old) (Batch.Pulse now) result
+            (history_of self.new) }
+        ensures kept { IsKept self.new }
+    {
+        let count = self.index.due_count(now);
+        if let Some(refusal) = self.batch_refusal(false, now, count) {
+            return Err(refusal);
+        }
+        self.reserve_entries(count)?;
+        let base = self.base(now);
+        self.expire_all(now, base, count);
+        Ok(count as u64)
     }
 
     /// Takes no more batches.

@@ -1,20 +1,14 @@
-//! Transfers: what is stored for a request, and what the sums of its two accounts say of it.
+//! Transfers: what is stored for a request, and where a stored one is found.
 
-ghost use Rattle.std.specs.Prelude.{◌≡◌, ℕ, ◌+◌, ◌==◌, false, nat_lt};
+ghost use Rattle.std.specs.Prelude.{◌≡◌, ◌<◌, ◌^◌};
 ghost use Rattle.std.specs.Option.{option_copied};
-ghost use Rattle.cdc_types.specs.Flags.{is_pending_request};
-ghost use Rattle.cdc_types.specs.Lines.{first_line};
-ghost use Rattle.cdc_types.specs.Shapes.{max_128};
-ghost use Rattle.cdc_ledger.specs.Accounts.{HasBoundedSums, lines_between, opened_as};
-ghost use Rattle.cdc_ledger.specs.Entries.{known_result, stored_in};
+ghost use Rattle.cdc_ledger.specs.Filling.{stored_in};
 ghost use Rattle.cdc_ledger.specs.Events as shown;
 ghost use Rattle.cdc_ledger.specs.Filling as filling;
 ghost use Rattle.cdc_ledger.specs.Kinds as kinds;
-ghost use Rattle.cdc_ledger.specs.Verdict.{sum_lines};
+ghost use Rattle.cdc_ledger.specs.Submit as submit;
 
-use cdc_types::{
-    Account, AccountFlags, Entry, EventKind, EventTransfer, NewTransfer, Transfer, TransferResult,
-};
+use cdc_types::{Entry, EventKind, EventTransfer, NewTransfer, Transfer};
 
 /// The request with its timestamp.
 pub(crate) fn as_asked(request: &NewTransfer, timestamp: u64) -> Transfer
@@ -35,6 +29,88 @@ pub(crate) fn as_asked(request: &NewTransfer, timestamp: u64) -> Transfer
         flags: request.flags,
         timestamp,
     }
+}
+
+/// The amount that a post or a void settles of the pending one: the greatest number posts the whole, and 0 voids it.
+pub(crate) fn settled_amount(request: &NewTransfer, pending: &Transfer) -> u128
+    ensures { result ≡ filling.settled_amount request.now pending.now }
+{
+    let whole = if request.is_post() { u128::MAX } else { 0 };
+    if request.amount == whole {
+        pending.amount
+    } else {
+        request.amount
+    }
+}
+
+/// A post or a void of the pending transfer: where the request has 0 it takes the pending transfer's own (TigerBeetle,
+/// Two-Phase Transfers).
+pub(crate) fn filled_from(pending: &Transfer, request: &NewTransfer, timestamp: u64) -> Transfer
+    ensures { result ≡ filling.filled_from pending.now request.now timestamp }
+{
+    let asked = as_asked(request, timestamp);
+    Transfer {
+        debit_account_id: or_own_128(asked.debit_account_id, pending.debit_account_id),
+        credit_account_id: or_own_128(asked.credit_account_id, pending.credit_account_id),
+        amount: settled_amount(request, pending),
+        user_data_128: or_own_128(asked.user_data_128, pending.user_data_128),
+        user_data_64: or_own_64(asked.user_data_64, pending.user_data_64),
+        user_data_32: or_own_32(asked.user_data_32, pending.user_data_32),
+        ledger: or_own_32(asked.ledger, pending.ledger),
+        code: or_own_16(asked.code, pending.code),
+        ..asked
+    }
+}
+
+/// What was given, where 0 stands for the pending transfer's own.
+fn or_own_128(given: u128, own: u128) -> u128
+    ensures { result ≡ filling.or_own given own }
+{
+    if given == 0 { own } else { given }
+}
+
+/// What was given, where 0 stands for the pending transfer's own.
+fn or_own_64(given: u64, own: u64) -> u64
+    ensures { result ≡ filling.or_own given own }
+{
+    if given == 0 { own } else { given }
+}
+
+/// What was given, where 0 stands for the pending transfer's own.
+fn or_own_32(given: u32, own: u32) -> u32
+    ensures { result ≡ filling.or_own given own }
+{
+    if given == 0 { own } else { given }
+}
+
+/// What was given, where 0 stands for the pending transfer's own.
+fn or_own_16(given: u16, own: u16) -> u16
+    ensures { result ≡ filling.or_own given own }
+{
+    if given == 0 { own } else { given }
+}
+
+/// What the request is once it is accepted.
+pub(crate) fn kind_of(request: &NewTransfer) -> EventKind
+    ensures { result ≡ submit.kind_of request.now }
+{
+    if request.is_pending() {
+        EventKind::TwoPhasePending
+    } else if request.is_post() {
+        EventKind::TwoPhasePosted
+    } else if request.is_void() {
+        EventKind::TwoPhaseVoided
+    } else {
+        EventKind::SinglePhase
+    }
+}
+
+/// When a pending transfer comes to its end, in nanoseconds; its timeout is in seconds.
+pub(crate) fn expires_at(pending: &Transfer) -> u64
+    requires { filling.expires_at pending.now < 2 ^ 64 }
+    ensures { result ≡ filling.expires_at pending.now }
+{
+    pending.timestamp + u64::from(pending.timeout) * 1_000_000_000
 }
 
 /// The transfer as an event shows it.
@@ -87,86 +163,4 @@ pub(crate) fn find_entry(entries: &[Entry], id: u128) -> Option<&Entry>
     entries
         .iter()
         .find(|entry| stores(entry.kind) && entry.transfer.id == id)
-}
-
-/// Why a request for a transfer whose id was taken by this entry is refused.
-pub(crate) fn known_refusal(entry: &Entry, request: &NewTransfer) -> TransferResult
-    ensures { result ≡ known_result entry.now request.now }
-{
-    if is_same_transfer(&as_asked(request, entry.timestamp), &entry.transfer) {
-        TransferResult::Exists
-    } else {
-        TransferResult::ExistsWithDifferentFields
-    }
-}
-
-/// Whether the amount takes the sum past 128 bits.
-fn overflows(sum: u128, amount: u128) -> bool
-    ensures { result ≡ nat_lt max_128 (sum + amount) }
-{
-    sum.checked_add(amount).is_none()
-}
-
-/// The first refusal that the sums after a single-phase transfer call for: they fit 128 bits, and keep to the limits
-/// that the two accounts' flags set (TigerBeetle, `create_transfers`).
-pub(crate) fn sum_refusal(
-    debited: &Account,
-    credited: &Account,
-    request: &NewTransfer,
-) -> Option<TransferResult>
-    requires single { is_pending_request request.now ≡ false }
-    requires endless { request.now.timeout ≡ 0 }
-    requires debited { HasBoundedSums debited.now }
-    requires credited { HasBoundedSums credited.now }
-    ensures { let debit = debited.now in
-        let credit = credited.now in
-        (t : ℕ) → result ≡ first_line (
-        sum_lines debit.balances credit.balances
-        (opened_as debit).request (opened_as credit).request request.now t
-        ) }
-{
-    let (debit, credit) = (debited.balances, credited.balances);
-    let amount = request.amount;
-    let debits = debit.debits_pending + debit.debits_posted;
-    let credits = credit.credits_pending + credit.credits_posted;
-    if overflows(debit.debits_posted, amount) {
-        Some(TransferResult::OverflowsDebitsPosted)
-    } else if overflows(credit.credits_posted, amount) {
-        Some(TransferResult::OverflowsCreditsPosted)
-    } else if overflows(debits, amount) {
-        Some(TransferResult::OverflowsDebits)
-    } else if overflows(credits, amount) {
-        Some(TransferResult::OverflowsCredits)
-    } else if debited.flags & AccountFlags::DEBITS_MUST_NOT_EXCEED_CREDITS != 0
-        && debit.credits_posted < debits + amount
-    {
-        Some(TransferResult::ExceedsCredits)
-    } else if credited.flags & AccountFlags::CREDITS_MUST_NOT_EXCEED_DEBITS != 0
-        && credit.debits_posted < credits + amount
-    {
-        Some(TransferResult::ExceedsDebits)
-    } else {
-        None
-    }
-}
-
-/// The first refusal that a single-phase transfer between these two accounts calls for.
-pub(crate) fn refusal_between(
-    debited: &Account,
-    credited: &Account,
-    request: &NewTransfer,
-) -> Option<TransferResult>
-    requires single { is_pending_request request.now ≡ false }
-    requires endless { request.now.timeout ≡ 0 }
-    requires debited { HasBoundedSums debited.now }
-    requires credited { HasBoundedSums credited.now }
-    ensures { (t : ℕ) → result ≡ first_line (lines_between debited.now credited.now request.now t) }
-{
-    if debited.ledger != credited.ledger {
-        Some(TransferResult::AccountsMustHaveTheSameLedger)
-    } else if request.ledger != debited.ledger {
-        Some(TransferResult::TransferMustHaveTheSameLedgerAsAccounts)
-    } else {
-        sum_refusal(debited, credited, request)
-    }
 }

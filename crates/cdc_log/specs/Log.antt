@@ -1,5 +1,5 @@
 -- A log of events, as contracts see it.
-use Rattle.std.specs.Prelude.{ℕ, ◌<◌, List, [], ◌∷◌, length, map}
+use Rattle.std.specs.Prelude.{ℕ, ◌<◌, List, [], ◌∷◌, filter, nat_lt}
 use Rattle.cdc_types.specs.declared.events.Event.{Event}
 
 -- the events in the order of their timestamps, and for how many more there is room
@@ -20,3 +20,7 @@ RiseFrom t (e ∷ es) = (t < e.timestamp) × RiseFrom e.timestamp es
 -- the timestamp of the last event, or 0
 abbrev pub last_timestamp_of : List Event → ℕ
 last_timestamp_of events = last_from 0 events
+
+-- the events that are later than the moment t, in order
+abbrev pub events_after : ℕ → List Event → List Event
+events_after t events = filter (λ e. nat_lt t e.timestamp) events

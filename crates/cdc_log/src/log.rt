@@ -30,9 +30,9 @@ impl Model for EventLog {
 }
 
 impl EventLog {
-    ghost use Rattle.std.specs.Prelude.{◌≡◌, ◌+◌, ◌<◌, ◌≤◌, [], ◌∷◌, ◌++◌, length, slice_get, OnOk, OnErr, ◌==◌};
+    ghost use Rattle.std.specs.Prelude.{◌≡◌, ◌+◌, ◌<◌, ◌≤◌, [], ◌∷◌, ◌++◌, length, slice_get, take, IfOk, OnOk, OnErr, ◌==◌};
     ghost use Rattle.std.specs.Option.{option_copied};
-    ghost use Rattle.cdc_log.specs.Log.{last_timestamp_of, RiseFrom};
+    ghost use Rattle.cdc_log.specs.Log.{events_after, last_timestamp_of, RiseFrom};
 
     /// A log with no event and no room.
     pub fn new(alloc: Global) -> EventLog
@@ -86,6 +86,23 @@ impl EventLog {
             Some(event) => event.timestamp,
             None => 0,
         }
+    }
+
+    /// The first `limit` events with a timestamp above `timestamp`, in order; an error is want of memory for them.
+    pub fn read_after(
+        &self,
+        alloc: Global,
+        timestamp: u64,
+        limit: usize,
+    ) -> Result<Vec<Event>, AllocError>
+        ensures { IfOk result (λ read. read.items ≡ take limit (events_after timestamp self.now.events)) }
+    {
+        self.events
+            .iter()
+            .copied()
+            .filter(|event| timestamp < event.timestamp)
+            .take(limit)
+            .collect(alloc)
     }
 
     /// How many events there are.

@@ -42,7 +42,7 @@ transfer_shape_lines offered t =
     (is_plain_request t && not (t.pending_id == 0), transfer.PendingIdMustBeZero) ∷
     (not (is_plain_request t) && (t.pending_id == 0), transfer.PendingIdMustNotBeZero) ∷
     (not (is_plain_request t) && (t.pending_id == t.id), transfer.PendingIdMustBeDifferent) ∷
-    (not (is_pending_request t && offered.timeouts) && not (t.timeout == 0), transfer.TimeoutReservedForPendingTransfer) ∷
+    (not (is_pending_request t) && not (t.timeout == 0), transfer.TimeoutReservedForPendingTransfer) ∷
     (is_plain_request t && (t.ledger == 0), transfer.LedgerMustNotBeZero) ∷
     (is_plain_request t && (t.code == 0), transfer.CodeMustNotBeZero) ∷
     (is_plain_request t && (t.debit_account_id == t.credit_account_id), transfer.AccountsMustBeDifferent) ∷

@@ -102,11 +102,20 @@ fn transfers_are_refused_by_the_first_line(rt: HostRuntime) {
         (transfer(), 0, "ok"),
         (
             NewTransfer {
-                flags: 2,
+                flags: 1,
                 ..transfer()
             },
             1,
             "reserved_flag",
+        ),
+        (
+            NewTransfer {
+                flags: 2,
+                timeout: u32::MAX,
+                ..transfer()
+            },
+            0,
+            "ok",
         ),
         (
             NewTransfer {
@@ -123,6 +132,31 @@ fn transfers_are_refused_by_the_first_line(rt: HostRuntime) {
             },
             3,
             "id_must_not_be_int_max",
+        ),
+        (
+            NewTransfer {
+                flags: 6,
+                ..transfer()
+            },
+            4,
+            "flags_are_mutually_exclusive",
+        ),
+        (
+            NewTransfer {
+                flags: 4,
+                ..transfer()
+            },
+            6,
+            "pending_id_must_not_be_zero",
+        ),
+        (
+            NewTransfer {
+                flags: 8,
+                pending_id: 1,
+                ..transfer()
+            },
+            7,
+            "pending_id_must_be_different",
         ),
         (
             NewTransfer {
@@ -174,17 +208,22 @@ fn transfers_are_refused_by_the_first_line(rt: HostRuntime) {
 #[test]
 fn the_kinds_of_a_transfer_are_read_off_its_flags(rt: HostRuntime) {
     for (flags, kinds) in [
-        (0, (false, false, false)),
-        (2, (true, false, false)),
-        (4, (false, true, false)),
-        (8, (false, false, true)),
+        (0, (false, false, false, true)),
+        (2, (true, false, false, true)),
+        (4, (false, true, false, false)),
+        (8, (false, false, true, false)),
     ] {
         let request = NewTransfer {
             flags,
             ..transfer()
         };
         assert_eq!(rt;
-            (request.is_pending(), request.is_post(), request.is_void()),
+            (
+                request.is_pending(),
+                request.is_post(),
+                request.is_void(),
+                request.is_plain()
+            ),
             kinds
         );
     }

@@ -2,7 +2,7 @@
 
 ghost use Rattle.std.specs.Prelude.{◌≡◌};
 ghost use Rattle.cdc_types.specs.Features.{features};
-ghost use Rattle.cdc_types.specs.Flags.{is_pending_request, is_post_request, is_void_request};
+ghost use Rattle.cdc_types.specs.Flags.{is_pending_request, is_post_request, is_void_request, is_plain_request};
 ghost use Rattle.cdc_types.specs.Shapes.{transfer_refusal, asks_for_two_kinds};
 
 use crate::results::TransferResult;
@@ -23,8 +23,8 @@ impl TransferFlags {
     /// Voids the pending transfer that `pending_id` names.
     pub const VOID_PENDING_TRANSFER: u16 = 8;
 
-    /// The bits that the ledger accepts today: none.
-    pub const ACCEPTED: u16 = 0;
+    /// The bits that the ledger accepts today: all but the one that chains items.
+    pub const ACCEPTED: u16 = 14;
 }
 
 /// A transfer as a client asks for it (TigerBeetle, Transfer).
@@ -88,9 +88,6 @@ pub struct Transfer {
 }
 
 impl NewTransfer {
-    /// Whether a pending transfer may have a timeout today: no.
-    pub const TIMEOUTS: bool = false;
-
     /// Whether the amount is to be held back.
     pub fn is_pending(&self) -> bool
         ensures { result ≡ is_pending_request self.now }
@@ -112,6 +109,13 @@ impl NewTransfer {
         self.flags & TransferFlags::VOID_PENDING_TRANSFER != 0
     }
 
+    /// Whether the request names its accounts itself: it is for a single-phase or a pending transfer.
+    pub fn is_plain(&self) -> bool
+        ensures { result ≡ is_plain_request self.now }
+    {
+        !(self.is_post() || self.is_void())
+    }
+
     // Whether two of the three kinds are asked for.
     fn has_two_kinds(&self) -> bool
         ensures { result ≡ asks_for_two_kinds self.now }
@@ -125,7 +129,7 @@ impl NewTransfer {
         ensures { result ≡ transfer_refusal features self.now }
     {
         let pending = self.is_pending();
-        let plain = !(self.is_post() || self.is_void());
+        let plain = self.is_plain();
         if self.flags & !TransferFlags::ACCEPTED != 0 {
             Some(TransferResult::ReservedFlag)
         } else if self.id == 0 {
@@ -140,7 +144,7 @@ impl NewTransfer {
             Some(TransferResult::PendingIdMustNotBeZero)
         } else if !plain && self.pending_id == self.id {
             Some(TransferResult::PendingIdMustBeDifferent)
-        } else if !(pending && NewTransfer::TIMEOUTS) && self.timeout != 0 {
+        } else if !pending && self.timeout != 0 {
             Some(TransferResult::TimeoutReservedForPendingTransfer)
         } else if plain && self.ledger == 0 {
             Some(TransferResult::LedgerMustNotBeZero)

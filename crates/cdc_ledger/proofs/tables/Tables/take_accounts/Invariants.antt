@@ -1,5 +1,7 @@
-use Rattle.std.proofs.Common.{◌≡◌, ◌+◌, ◌≤◌, ◌<◌, length, vec_len, vec_capacity}
+use Rattle.std.proofs.Common.{◌≡◌, ◌+◌, ◌≤◌, ◌<◌, length, take, vec_len, vec_capacity}
+use Rattle.std.specs.List.{AllByRecursion}
 use Rattle.cdc_types.specs.Features.{features}
+use Rattle.cdc_ledger.specs.Fits.{NewAccountFits}
 use Rattle.cdc_ledger.specs.Tables.{IsKept, history_of, room_for_accounts}
 use Rattle.cdc_ledger.proofs.BatchLaws.{AccountsGoOn}
 use Rattle.cdc_ledger.proofs.tables.Tables.take_accounts.Given as goal
@@ -13,4 +15,5 @@ invariant-loop-place l = record {
   count : vec_len l.results ≡ l.place;
   results_room : length l.requests ≤ vec_capacity l.results;
   room : length l.requests ≤ room_for_accounts l.self + l.place;
+  fit : AllByRecursion NewAccountFits (take l.place l.requests);
 }

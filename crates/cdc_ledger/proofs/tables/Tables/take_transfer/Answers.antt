@@ -1,14 +1,19 @@
-use Rattle.std.proofs.Common.{◌∙◌, sym, arith}
+use Rattle.std.proofs.Common.{◌∙◌, sym, subst, arith}
+use Rattle.cdc_types.specs.declared.events.Entry.{Entry}
+use Rattle.cdc_types.specs.Features.{features}
+use Rattle.cdc_ledger.specs.Follows.{Follows}
 use Rattle.cdc_ledger.specs.Tables.{history_of}
-use Rattle.cdc_ledger.proofs.Answered.{after_transfer-refused, after_transfer-accepted}
+use Rattle.cdc_ledger.proofs.AcceptedLaws.{Follows-accepted}
+use Rattle.cdc_ledger.proofs.Answered.{after_transfer-refused}
 use Rattle.cdc_ledger.proofs.tables.Tables.take_transfer.Goals as goal
 
-pub returns-in-Some-clause-history : goal.returns-in-Some-clause-history
-returns-in-Some-clause-history c =
-    c.take_timestamp.ensures.history ∙ sym (after_transfer-refused (history_of c.args.self.now) c.args.request.now c.args.timestamp c.in-Some.refusal
-    (sym (c.transfer_refusal.ensures c.args.timestamp (omega arith)) ∙ c.in-Some.is))
+pub record-requires-clause-follows : goal.record-requires-clause-follows
+record-requires-clause-follows c =
+    let h = history_of c.args.self.now in
+    subst (λ (e : Entry). Follows h e) (sym c.in-Ok.ensures.entry)
+    (Follows-accepted features h c.args.request c.args.timestamp c.requires.kept.sound (omega arith) c.in-Ok.ensures.unrefused)
 
-pub returns-in-None-clause-history : goal.returns-in-None-clause-history
-returns-in-None-clause-history c =
-    c.store_transfer.ensures.history ∙ sym (after_transfer-accepted (history_of c.args.self.now) c.args.request.now c.args.timestamp
-    (sym (c.transfer_refusal.ensures c.args.timestamp (omega arith)) ∙ c.in-None.is))
+pub returns-in-Err-clause-history : goal.returns-in-Err-clause-history
+returns-in-Err-clause-history c =
+    c.take_timestamp.ensures.history
+    ∙ sym (after_transfer-refused (history_of c.args.self.now) c.args.request c.args.timestamp c.in-Err.refusal c.in-Err.ensures)

@@ -1,0 +1,5 @@
+pub mod Apart
+pub mod Least
+pub mod Lists
+pub mod Order
+pub mod Taken

@@ -1,0 +1,75 @@
+-- Sets of triples: what contracts see of the index.
+use Rattle.std.specs.Prelude.{◌≡◌, ◌≢◌, ℕ, Bool, true, not, ◌&&◌, ◌==◌, nat_le, List, [], ◌∷◌, Option, MatchOption, refl}
+use Rattle.std.specs.Coded.{Coded, code_by, coded×, coded_ℕ}
+use Rattle.std.specs.FinSet as set
+use Rattle.std.specs.List.{All}
+use Rattle.std.specs.declared.cmp.Ordering.{Ordering}
+use Rattle.std.specs.Ordering.{is_le, nat_cmp, ordering_then}
+use Rattle.cdc_expiry.specs.declared.triple.Triple.{Triple}
+
+-- the order of triples: by their ends, then by their timestamps, then by their slots
+abbrev pub triple_cmp : Triple → Triple → Ordering
+triple_cmp x y =
+    ordering_then (nat_cmp x.expires_at y.expires_at)
+    (ordering_then (nat_cmp x.timestamp y.timestamp) (nat_cmp x.slot y.slot))
+
+-- a set of triples
+abbrev pub Triples : Type 0
+Triples = set.FinSet triple_cmp
+
+-- the triples of an index, and for how many more there is room
+pub record Index : Type 0 where
+  pub triples : Triples
+  pub room : ℕ
+
+-- the triple is due at the moment now: its end is not later
+abbrev pub is_due : ℕ → Triple → Bool
+is_due now x = nat_le x.expires_at now
+
+-- those of the triples that are due at the moment now
+abbrev pub due_at : Triples → ℕ → Triples
+due_at s now = set.retain s (is_due now)
+
+-- the answer is the least triple of the set, or None where the set is empty
+abbrev pub IsLeast : Triples → Option Triple → Type 0
+IsLeast s answer = MatchOption answer (s ≡ set.empty) (λ x. (set.contains s x ≡ true)
+    × ((y : Triple) → set.contains s y ≡ true → is_le (triple_cmp x y) ≡ true))
+
+-- no triple of the set has this timestamp
+abbrev pub IsNewTimestamp : Triples → ℕ → Type 0
+IsNewTimestamp s t = (x : Triple) → set.contains s x ≡ true → x.timestamp ≢ t
+
+-- the triple has this end and this timestamp
+abbrev pub has_numbers : ℕ → ℕ → Triple → Bool
+has_numbers e t x = (x.expires_at == e) && (x.timestamp == t)
+
+-- some triple of the set has this end and this timestamp
+abbrev pub HasNumbers : Triples → ℕ → ℕ → Type 0
+HasNumbers s e t = (x : Triple) × (set.contains s x ≡ true) × (has_numbers e t x ≡ true)
+
+-- the set without the triple that has this end and this timestamp
+abbrev pub without : Triples → ℕ → ℕ → Triples
+without s e t = set.retain s (λ x. not (has_numbers e t x))
+
+-- triples of the set with the same timestamp are the same
+abbrev pub TimestampsAreUnique : Triples → Type 0
+TimestampsAreUnique s =
+    (x y : Triple) → set.contains s x ≡ true → set.contains s y ≡ true → x.timestamp ≡ y.timestamp → x ≡ y
+
+-- no two triples of the list have the same timestamp
+abbrev pub TimestampsDiffer : List Triple → Type 0
+TimestampsDiffer [] = Unit {0}
+TimestampsDiffer (x ∷ xs) = All (λ y. y.timestamp ≢ x.timestamp) xs × TimestampsDiffer xs
+
+-- a triple is stored as its three numbers, and an index as its set and its room
+abbrev pub triple_code : Coded Triple
+triple_code =
+    code_by (ℕ × (ℕ × ℕ)) (coded× coded_ℕ (coded× coded_ℕ coded_ℕ))
+    (λ x. (x.expires_at, (x.timestamp, x.slot)))
+    (λ p. record { expires_at = p.0; timestamp = p.1.0; slot = p.1.1 })
+    (λ _. refl)
+
+abbrev pub index_code : Coded Index
+index_code =
+    code_by (Triples × ℕ) (coded× (set.code triple_code) coded_ℕ)
+    (λ i. (i.triples, i.room)) (λ p. record { triples = p.0; room = p.1 }) (λ _. refl)

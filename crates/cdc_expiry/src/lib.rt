@@ -1,0 +1,10 @@
+//! The ends of pending transfers: a set of triples that answers which one is due first.
+#![tactic(auto)]
+
+pub mod index;
+#[cfg(test)]
+mod tests;
+pub mod triple;
+
+pub use index::DueIndex;
+pub use triple::Triple;

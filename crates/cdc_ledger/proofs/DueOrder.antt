@@ -1,0 +1,62 @@
+-- Transfers in the order of their ends: the soonest of all stands first, and the others follow as they would without it.
+use Rattle.std.proofs.Common.{ℕ, suc, Bool, true, false, List, [], ◌∷◌, ◌++◌, ◌≡◌, length, refl, ap, ◌∙◌, arith}
+use Rattle.std.specs.Prelude.{◌==◌, ◌&&◌, ◌||◌, nat_lt, if◌then◌else◌}
+use Rattle.std.specs.List.{AllByRecursion}
+use Rattle.std.proofs.lemmas.Bool.Decides.{nat_tests}
+use Rattle.cdc_types.specs.declared.transfers.Transfer.{Transfer}
+use Rattle.cdc_ledger.specs.Due.{is_sooner, placed, in_order_of_end}
+use Rattle.cdc_ledger.specs.Filling.{expires_at}
+
+-- one moment and number before another isn't after it
+sooner_once : (a b s t : ℕ) → (nat_lt a b || ((a == b) && nat_lt s t)) ≡ true
+    → (nat_lt b a || ((b == a) && nat_lt t s)) ≡ false
+sooner_once a b s t sooner = grind (arith, nat_tests)
+
+pub is_sooner-once : (p q : Transfer) → is_sooner p q ≡ true → is_sooner q p ≡ false
+is_sooner-once p q = sooner_once (expires_at p) (expires_at q) p.timestamp q.timestamp
+
+-- what holds of two lists holds of either
+either : (P : List Transfer → Type 0) (b : Bool) (xs ys : List Transfer) → P xs → P ys → P (if b then xs else ys)
+either P true xs ys here there = here
+either P false xs ys here there = there
+
+module _ (P : Transfer → Type 0) where
+  All-placed : (p : Transfer) (qs : List Transfer) → P p → AllByRecursion P qs → AllByRecursion P (placed p qs)
+  All-placed p [] here all = (here, tt)
+  All-placed p (q ∷ qs) here all =
+      either (AllByRecursion P) (is_sooner q p) (q ∷ placed p qs) (p ∷ q ∷ qs)
+      (all.0, All-placed p qs here all.1) (here, all)
+
+  All-in_order : (ps : List Transfer) → AllByRecursion P ps → AllByRecursion P (in_order_of_end ps)
+  All-in_order [] all = tt
+  All-in_order (p ∷ ps) all = All-placed p (in_order_of_end ps) all.0 (All-in_order ps all.1)
+
+length-placed : (p : Transfer) (qs : List Transfer) → length (placed p qs) ≡ suc (length qs)
+length-placed p [] = refl
+length-placed p (q ∷ qs) =
+    either (λ xs. length xs ≡ suc (suc (length qs))) (is_sooner q p) (q ∷ placed p qs) (p ∷ q ∷ qs)
+    (ap suc (length-placed p qs)) refl
+
+-- the order takes none away
+pub length-in_order : (ps : List Transfer) → length (in_order_of_end ps) ≡ length ps
+length-in_order [] = refl
+length-in_order (p ∷ ps) = length-placed p (in_order_of_end ps) ∙ ap suc (length-in_order ps)
+
+-- p comes before all of these
+abbrev pub IsSoonest : Transfer → List Transfer → Type 0
+IsSoonest p = AllByRecursion (λ q. is_sooner p q ≡ true)
+
+placed_first : (p : Transfer) (qs : List Transfer) → IsSoonest p qs → placed p qs ≡ p ∷ qs
+placed_first p [] all = refl
+placed_first p (q ∷ qs) all =
+    ap (λ b. if b then q ∷ placed p qs else p ∷ q ∷ qs) (is_sooner-once p q all.0)
+
+-- wherever the soonest stands, the order has it first
+pub in_order-soonest : (p : Transfer) (front back : List Transfer) → IsSoonest p front → IsSoonest p back
+    → in_order_of_end (front ++ p ∷ back) ≡ p ∷ in_order_of_end (front ++ back)
+in_order-soonest p [] back before after =
+    placed_first p (in_order_of_end back) (All-in_order (λ q. is_sooner p q ≡ true) back after)
+in_order-soonest p (q ∷ front) back before after =
+    ap (placed q) (in_order-soonest p front back before.1 after)
+    ∙ ap (λ b. if b then p ∷ placed q (in_order_of_end (front ++ back)) else q ∷ p ∷ in_order_of_end (front ++ back))
+    before.0

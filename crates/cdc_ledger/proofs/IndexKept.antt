@@ -1,0 +1,182 @@
+-- The set that an index keeps, after each change of a history, and what its answers say of what is due.
+use Rattle.std.proofs.Common.{ℕ, ◌<◌, ◌≤◌, Bool, true, false, Some, None, List, [], ◌∷◌, ◌≡◌, length, refl, ap, ap₂, sym, ◌∙◌, arith, subst, ⊎_elim}
+use Rattle.std.specs.Prelude.{◌==◌, ◌&&◌, not, nat_le, filter, if◌then◌else◌}
+use Rattle.std.specs.FinSet as set
+use Rattle.std.specs.List.{All, AllByRecursion}
+use Rattle.std.proofs.lemmas.Bool.{cases_eq, eq-eqb, ne_eqb}
+use Rattle.std.proofs.lemmas.List.Elements.{All-from_recursion}
+use Rattle.cdc_types.specs.declared.events.Entry.{Entry}
+use Rattle.cdc_types.specs.declared.transfers.Transfer.{Transfer}
+use Rattle.cdc_expiry.specs.declared.triple.Triple.{Triple}
+use Rattle.cdc_expiry.specs.Triples.{due_at, IsLeast, IsNewTimestamp, without}
+use Rattle.cdc_expiry.proofs.Lists.{set_of-push, without-set_of, due_at-set_of, due_count-set_of, IsNewTimestamp-set_of, IsLeastOf-set_of}
+use Rattle.cdc_ledger.specs.Balances.{resolved}
+use Rattle.cdc_ledger.specs.Changes.{pushed}
+use Rattle.cdc_ledger.specs.Due.{due}
+use Rattle.cdc_ledger.specs.Effects.{settled_by}
+use Rattle.cdc_ledger.specs.Filling.{stored, expires_at}
+use Rattle.cdc_ledger.specs.Follows.{Follows}
+use Rattle.cdc_ledger.specs.History.{Opened, History}
+use Rattle.cdc_ledger.specs.Kinds.{holds, stores, settles, settled_id}
+use Rattle.cdc_ledger.specs.OpenTriples.{index_of, is_open, opens, open_triples, triple_at}
+use Rattle.cdc_ledger.specs.Sound.{IsSound, Settles, Stands}
+use Rattle.cdc_ledger.specs.Verdict.{max_timestamp}
+use Rattle.cdc_ledger.proofs.BalanceLaws.{settled_by_is, settled_by_none, stores-holds}
+use Rattle.cdc_ledger.proofs.DueLaws.{length-due}
+use Rattle.cdc_ledger.proofs.IndexLaws.{open_triples-later, open_triples-other, open_triples-pending, open_triples-settling}
+use Rattle.cdc_ledger.proofs.IndexTimes.{holds-open, others-open, TimestampsDiffer-open}
+use Rattle.cdc_ledger.proofs.IndexTriples.{triples_from-All}
+use Rattle.cdc_ledger.proofs.Pending.{All-among, All-from_around, Around-weaker, IsAmong, IsOther, IsOther-around, IsStored-found}
+
+-- accounts, a close and a timestamp leave the set as it is
+pub index_of-later : (h : History) (accounts : List Opened) (t : ℕ) (closed : Bool) → IsSound h → h.last ≤ t
+    → index_of (record { accounts = accounts; entries = h.entries; last = t; closed = closed }) ≡ index_of h
+index_of-later h accounts t closed sound later = ap set.from_list (open_triples-later h accounts t closed sound later)
+
+-- what settles no pending transfer is a single-phase or a pending one
+settles-settled_by : (h : History) (e : Entry) → Follows h e → settled_by h e ≡ None → settles e.kind ≡ false
+settles-settled_by h e follows none = by_settling (settles e.kind) refl
+  where
+    by_settling : (b : Bool) → settles e.kind ≡ b → settles e.kind ≡ false
+    by_settling true is =
+        let named = settled_by_is h e (follows.settling is).pending is (follows.settling is).settles in cc
+    by_settling false is = is
+
+-- a single-phase or a pending one: it has a triple where it has a timeout
+module _ (h : History) (e : Entry) (sound : IsSound h) (follows : Follows h e) (after : h.last < e.timestamp)
+    (none : settled_by h e ≡ None) where
+  pub index_of-pending : opens e ≡ true
+      → index_of (pushed h e) ≡ set.insert (index_of h) (triple_at (length h.entries) e)
+  index_of-pending is =
+      ap set.from_list (open_triples-pending h e sound follows after (settles-settled_by h e follows none) is)
+      ∙ set_of-push (open_triples h) (triple_at (length h.entries) e)
+
+  pub index_of-unpending : opens e ≡ false → index_of (pushed h e) ≡ index_of h
+  index_of-unpending isnt = ap set.from_list (open_triples-other h e sound follows after
+      (settles-settled_by h e follows none) isnt)
+
+-- its timestamp is new to the set
+pub IsNewTimestamp-index_of : (h : History) (t : ℕ) → IsSound h → h.last < t → IsNewTimestamp (index_of h) t
+IsNewTimestamp-index_of h t sound after = IsNewTimestamp-set_of (open_triples h) t (others-open h t sound after)
+
+-- the pending transfer that an entry settles was stored by this entry
+record IsSettled (h : History) (e : Entry) (p : Transfer) : Type 0 where
+  is : settles e.kind ≡ true
+  x : Entry
+  settled : Settles h e x
+  own : x.transfer ≡ p
+
+IsSettled-settled_by : (h : History) (e : Entry) (p : Transfer) → Follows h e → settled_by h e ≡ Some p
+    → IsSettled h e p
+IsSettled-settled_by h e p follows some = by_settling (settles e.kind) refl
+  where
+    by_settling : (b : Bool) → settles e.kind ≡ b → IsSettled h e p
+    by_settling true is =
+        let unsettled = follows.settling is in
+        let named : settled_by h e ≡ Some unsettled.pending.transfer =
+            settled_by_is h e unsettled.pending is unsettled.settles in
+        record { is = is; x = unsettled.pending; settled = unsettled.settles; own = cc }
+    by_settling false isnt = let none : settled_by h e ≡ None = settled_by_none h e isnt in cc
+
+-- the end of a pending transfer is a timestamp, and so it is without a timeout, when it is the moment of its entry
+end_fits : (h : History) (x : Entry) → IsSound h → IsAmong h.entries x → holds x.kind ≡ true
+    → expires_at x.transfer ≤ max_timestamp
+end_fits h x sound among held =
+    ⊎_elim (λ endless. endless_fits endless) (λ timed. stands.timely held timed) (cases_eq x.transfer.timeout 0)
+  where
+    stands : Stands h x
+    stands = All-among (Stands h) h.entries x among sound.standing
+
+    endless_fits : x.transfer.timeout ≡ 0 → expires_at x.transfer ≤ max_timestamp
+    endless_fits endless =
+        let past : x.timestamp ≤ h.last = All-among (λ y. y.timestamp ≤ h.last) h.entries x among sound.past in
+        let own : x.transfer.timestamp ≡ x.timestamp = stands.dated (stores-holds x.kind held) in
+        let within : h.last ≤ max_timestamp = sound.within in
+        omega arith
+
+pub expires_at-settled : (h : History) (e : Entry) (p : Transfer) → IsSound h → Follows h e → settled_by h e ≡ Some p
+    → expires_at p ≤ max_timestamp
+expires_at-settled h e p sound follows some =
+    let it = IsSettled-settled_by h e p follows some in
+    let at = IsStored-found h (settled_id e.kind e.transfer) it.x it.settled.named in
+    subst (λ (q : Transfer). expires_at q ≤ max_timestamp) it.own (end_fits h it.x sound at.among it.settled.pending)
+
+-- a transfer that was made then has the same end
+abbrev EndsAlike : Entry → Entry → Type 0
+EndsAlike x y = y.transfer.timestamp ≡ x.transfer.timestamp → expires_at y.transfer ≡ expires_at x.transfer
+
+-- the triple of a timestamp has the end of the transfer that was made then
+ends_alike : (h : History) (x : Entry) → IsSound h → IsAmong h.entries x → stores x.kind ≡ true
+    → All (λ t. t.timestamp ≡ x.transfer.timestamp → t.expires_at ≡ expires_at x.transfer) (open_triples h)
+ends_alike h x sound among is =
+    All-from_recursion (λ t. t.timestamp ≡ x.transfer.timestamp → t.expires_at ≡ expires_at x.transfer) (open_triples h)
+    (triples_from-All (EndsAlike x) (λ t. t.timestamp ≡ x.transfer.timestamp → t.expires_at ≡ expires_at x.transfer)
+    (λ n y alike. alike) (is_open h) 0 h.entries
+    (All-from_around (λ y. is_open h y ≡ true → EndsAlike x y) h.entries x among (λ has same. refl)
+    (Around-weaker (λ y. stores y.kind ≡ true → IsOther x y) (λ y. is_open h y ≡ true → EndsAlike x y)
+    (λ y other has same. absurd ((other (stores-holds y.kind (holds-open h y has))).time same)) among.front among.back
+    (IsOther-around h x among sound is))))
+
+-- no triple has the timestamp of an entry that has none
+no_own : (h : History) (x : Entry) → IsSound h → IsAmong h.entries x → stores x.kind ≡ true → (is_open h x ≡ true → ⊥)
+    → AllByRecursion (λ t. not (t.timestamp == x.transfer.timestamp) ≡ true) (open_triples h)
+no_own h x sound among is closed =
+    triples_from-All (λ y. not (y.transfer.timestamp == x.transfer.timestamp) ≡ true)
+    (λ t. not (t.timestamp == x.transfer.timestamp) ≡ true) (λ n y apart. apart) (is_open h) 0 h.entries
+    (All-from_around (λ y. is_open h y ≡ true → not (y.transfer.timestamp == x.transfer.timestamp) ≡ true) h.entries x
+    among (λ has. absurd (closed has))
+    (Around-weaker (λ y. stores y.kind ≡ true → IsOther x y)
+    (λ y. is_open h y ≡ true → not (y.transfer.timestamp == x.transfer.timestamp) ≡ true)
+    (λ y other has. ap not (ne_eqb y.transfer.timestamp x.transfer.timestamp
+    (other (stores-holds y.kind (holds-open h y has))).time))
+    among.front among.back (IsOther-around h x among sound is)))
+
+filter_all : (keep : Triple → Bool) (xs : List Triple) → AllByRecursion (λ t. keep t ≡ true) xs → filter keep xs ≡ xs
+filter_all keep [] all = refl
+filter_all keep (x ∷ xs) all = ap₂ (λ b more. if b then x ∷ more else more) all.0 (filter_all keep xs all.1)
+
+endless_closed : (held done zero : Bool) → zero ≡ true → (held && not zero && not done) ≡ true → ⊥
+endless_closed true done true is has = cc
+endless_closed true done false is has = cc
+endless_closed false done zero is has = cc
+
+-- a post, a void or an expiry takes out the triple of the pending transfer that it settles
+pub index_of-settled : (h : History) (e : Entry) (p : Transfer) → IsSound h → Follows h e → h.last < e.timestamp
+    → settled_by h e ≡ Some p
+    → index_of (pushed h e) ≡ without (index_of h) (expires_at p) p.timestamp
+index_of-settled h e p sound follows after some =
+    let it = IsSettled-settled_by h e p follows some in
+    let at = IsStored-found h (settled_id e.kind e.transfer) it.x it.settled.named in
+    ap set.from_list (open_triples-settling h e it.x sound after it.is it.settled)
+    ∙ (sym (without-set_of (open_triples h) (expires_at it.x.transfer) it.x.transfer.timestamp
+    (ends_alike h it.x sound at.among at.stores))
+    ∙ ap (λ (q : Transfer). without (index_of h) (expires_at q) q.timestamp) it.own)
+
+-- one without a timeout has none
+pub index_of-endless : (h : History) (e : Entry) (p : Transfer) → IsSound h → Follows h e → h.last < e.timestamp
+    → settled_by h e ≡ Some p
+    → p.timeout ≡ 0 → index_of (pushed h e) ≡ index_of h
+index_of-endless h e p sound follows after some endless =
+    let it = IsSettled-settled_by h e p follows some in
+    let at = IsStored-found h (settled_id e.kind e.transfer) it.x it.settled.named in
+    ap set.from_list (open_triples-settling h e it.x sound after it.is it.settled
+    ∙ filter_all (λ t. not (t.timestamp == it.x.transfer.timestamp)) (open_triples h)
+    (no_own h it.x sound at.among at.stores
+    (endless_closed (holds it.x.kind) (resolved h it.x.transfer h.last) (it.x.transfer.timeout == 0)
+    (eq-eqb it.x.transfer.timeout 0 (ap (λ (q : Transfer). q.timeout) it.own ∙ endless)))))
+
+-- the count of what is due
+pub due_count-index_of : (h : History) (now : ℕ) → IsSound h → set.len (due_at (index_of h) now) ≡ length (due h now)
+due_count-index_of h now sound =
+    due_count-set_of (open_triples h) now (TimestampsDiffer-open h sound) ∙ sym (length-due h now)
+
+-- nothing is due
+pub due-none : (h : History) (now : ℕ) → IsLeast (due_at (index_of h) now) None → due h now ≡ []
+due-none h now least =
+    none_long (due h now) (length-due h now ∙ ap length
+    (IsLeastOf-set_of (filter (λ t. nat_le t.expires_at now) (open_triples h)) None
+    (subst (λ s. IsLeast s None) (due_at-set_of (open_triples h) now) least)))
+  where
+    none_long : (xs : List Transfer) → length xs ≡ 0 → xs ≡ []
+    none_long [] long = refl
+    none_long (x ∷ xs) long = absurd (omega arith)

@@ -1,0 +1,204 @@
+-- The entries of a sound history: where one of them stands among the others, and that no two stored one id or have one
+-- timestamp.
+use Rattle.std.proofs.Common.{ℕ, ◌<◌, ◌≤◌, Bool, true, false, Some, List, [], ◌∷◌, ◌++◌, ◌≡◌, ◌≢◌, refl, ap, sym, subst, ◌∙◌, arith}
+use Rattle.std.specs.Prelude.{◌==◌, ◌&&◌, find, if◌then◌else◌}
+use Rattle.std.specs.List.{AllByRecursion}
+use Rattle.std.proofs.lemmas.Bool.{and_from, and_parts, and_right, both_ways, eqb-true, eqb-false, eq-eqb, ne_eqb}
+use Rattle.cdc_types.specs.declared.events.Entry.{Entry}
+use Rattle.cdc_ledger.specs.Filling.{stored}
+use Rattle.cdc_ledger.specs.History.{History}
+use Rattle.cdc_ledger.specs.Kinds.{stores}
+use Rattle.cdc_ledger.specs.Sound.{AreApart, IsSound, RiseFrom, Stands, stored_ids}
+use Rattle.cdc_ledger.proofs.Elements.{AllByRecursion-both, AllByRecursion-weaker}
+use Rattle.cdc_ledger.proofs.StoredLaws.{apart-cons, is_stored, stored_each}
+
+-- the entry is one of the list, with these before it and those after it
+pub record IsAmong (es : List Entry) (e : Entry) : Type 0 where
+  pub front : List Entry
+  pub back : List Entry
+  pub split : es ≡ front ++ e ∷ back
+
+-- what holds of every entry of a list but this one
+pub record Around (P : Entry → Type 0) (front back : List Entry) : Type 0 where
+  pub before : AllByRecursion P front
+  pub after : AllByRecursion P back
+
+around : (P : Entry → Type 0) (e : Entry) (front back : List Entry) → AllByRecursion P (front ++ e ∷ back)
+    → Around P front back
+around P e [] back all = record { before = tt; after = all.1 }
+around P e (x ∷ front) back all =
+    let rest = around P e front back all.1 in record { before = (all.0, rest.before); after = rest.after }
+
+pub All-around : (P : Entry → Type 0) (es : List Entry) (e : Entry) (among : IsAmong es e) → AllByRecursion P es
+    → Around P among.front among.back
+All-around P es e among all = around P e among.front among.back (subst (AllByRecursion P) among.split all)
+
+pub Around-both : (P Q : Entry → Type 0) (front back : List Entry) → Around P front back → Around Q front back
+    → Around (λ y. P y × Q y) front back
+Around-both P Q front back p q = record {
+  before = AllByRecursion-both P Q front p.before q.before;
+  after = AllByRecursion-both P Q back p.after q.after;
+}
+
+pub Around-weaker : (P Q : Entry → Type 0) → ((y : Entry) → P y → Q y) → (front back : List Entry)
+    → Around P front back → Around Q front back
+Around-weaker P Q gives front back p = record {
+  before = AllByRecursion-weaker P Q gives front p.before;
+  after = AllByRecursion-weaker P Q gives back p.after;
+}
+
+here : (P : Entry → Type 0) (e : Entry) (front back : List Entry) → AllByRecursion P (front ++ e ∷ back) → P e
+here P e [] back all = all.0
+here P e (x ∷ front) back all = here P e front back all.1
+
+-- what holds of every entry holds of this one
+pub All-among : (P : Entry → Type 0) (es : List Entry) (e : Entry) → IsAmong es e → AllByRecursion P es → P e
+All-among P es e among all = here P e among.front among.back (subst (AllByRecursion P) among.split all)
+
+join : (P : Entry → Type 0) (e : Entry) (front back : List Entry) → P e → AllByRecursion P front → AllByRecursion P back
+    → AllByRecursion P (front ++ e ∷ back)
+join P e [] back own before after = (own, after)
+join P e (x ∷ front) back own before after = (before.0, join P e front back own before.1 after)
+
+-- and the other way round
+pub All-from_around : (P : Entry → Type 0) (es : List Entry) (e : Entry) (among : IsAmong es e) → P e
+    → Around P among.front among.back → AllByRecursion P es
+All-from_around P es e among own around =
+    subst (AllByRecursion P) (sym among.split) (join P e among.front among.back own around.before around.after)
+
+-- the first entry that passes a test is one of the list, and passes it
+pub record IsFirst (test : Entry → Bool) (es : List Entry) (e : Entry) : Type 0 where
+  pub among : IsAmong es e
+  pub passes : test e ≡ true
+
+found_further : (test : Entry → Bool) (x : Entry) (es : List Entry) (e : Entry) → IsFirst test es e
+    → IsFirst test (x ∷ es) e
+found_further test x es e found = record {
+  among = record {
+    front = x ∷ found.among.front;
+    back = found.among.back;
+    split = ap (λ more. x ∷ more) found.among.split;
+  };
+  passes = found.passes;
+}
+
+found_here : (test : Entry → Bool) (x : Entry) (es : List Entry) (e : Entry) (b : Bool) → test x ≡ b
+    → (find test es ≡ Some e → IsFirst test es e) → (if b then Some x else find test es) ≡ Some e
+    → IsFirst test (x ∷ es) e
+found_here test x es e true passes later found =
+    let same : x ≡ e = cc in
+    record {
+      among = record { front = []; back = es; split = ap (λ y. y ∷ es) same };
+      passes = ap test (sym same) ∙ passes;
+    }
+found_here test x es e false passes later found = found_further test x es e (later found)
+
+pub IsFirst-found : (test : Entry → Bool) (es : List Entry) (e : Entry) → find test es ≡ Some e → IsFirst test es e
+IsFirst-found test [] e found = cc
+IsFirst-found test (x ∷ es) e found = found_here test x es e (test x) refl (IsFirst-found test es e) found
+
+-- the entry that stored a transfer
+pub record IsStored (h : History) (id : ℕ) (e : Entry) : Type 0 where
+  pub among : IsAmong h.entries e
+  pub stores : stores e.kind ≡ true
+  pub same_id : e.transfer.id ≡ id
+
+pub IsStored-found : (h : History) (id : ℕ) (e : Entry) → stored h id ≡ Some e → IsStored h id e
+IsStored-found h id e found =
+    let first = IsFirst-found (λ x. stores x.kind && (x.transfer.id == id)) h.entries e found in
+    let both = and_parts (stores e.kind) (e.transfer.id == id) first.passes in
+    record { among = first.among; stores = both.0; same_id = eqb-true e.transfer.id id both.1 }
+
+-- an entry that stored a transfer of another id, if it stored one
+abbrev HasOtherId : Entry → Entry → Type 0
+HasOtherId e y = is_stored e.transfer.id y ≡ false
+
+id_turned : (stored : Bool) (m n : ℕ) → (true && (m == n)) ≡ false → (stored && (n == m)) ≡ false
+id_turned stored m n other = and_right stored (n == m) (ne_eqb n m (λ same. eqb-false m n other (sym same)))
+
+other_ids : (e : Entry) (front back : List Entry) → stores e.kind ≡ true → AreApart (stored_ids (front ++ e ∷ back))
+    → Around (HasOtherId e) front back
+other_ids e [] back is apart = record { before = tt; after = (apart-cons e back apart).1 is }
+other_ids e (x ∷ front) back is apart =
+    let both = apart-cons x (front ++ e ∷ back) apart in
+    let rest = other_ids e front back is both.0 in
+    record { before = (turned (stores x.kind) refl both.1, rest.before); after = rest.after }
+  where
+    turned : (b : Bool) → stores x.kind ≡ b
+        → (stores x.kind ≡ true → AllByRecursion (HasOtherId x) (front ++ e ∷ back)) → HasOtherId e x
+    turned true stored others =
+        let other : (stores e.kind && (e.transfer.id == x.transfer.id)) ≡ false = here (HasOtherId x) e front back
+            (others stored) in
+        id_turned (stores x.kind) e.transfer.id x.transfer.id
+        (ap (λ b. b && (e.transfer.id == x.transfer.id)) (sym is) ∙ other)
+    turned false stored others = ap (λ b. b && (x.transfer.id == e.transfer.id)) stored
+
+-- no other entry stored a transfer of this id
+HasOtherId-around : (h : History) (e : Entry) (among : IsAmong h.entries e) → AreApart (stored_ids h.entries)
+    → stores e.kind ≡ true
+    → Around (HasOtherId e) among.front among.back
+HasOtherId-around h e among apart is =
+    other_ids e among.front among.back is (subst (λ es. AreApart (stored_ids es)) among.split apart)
+
+-- each entry that stored a transfer is the one that is found by its id
+pub stored-among : (h : History) (e : Entry) → IsSound h → IsAmong h.entries e → stores e.kind ≡ true
+    → stored h e.transfer.id ≡ Some e
+stored-among h e sound among is =
+    All-among (λ y. stores y.kind ≡ true → stored h y.transfer.id ≡ Some y) h.entries e among
+    (stored_each h sound.once) is
+
+all_later : (t : ℕ) (e : Entry) (es : List Entry) → t ≤ e.timestamp → RiseFrom e.timestamp es
+    → AllByRecursion (λ y. y.timestamp ≢ t) es
+all_later t e [] later rising = tt
+all_later t e (x ∷ es) later rising = (λ same. omega arith, all_later t x es (omega arith) rising.1)
+
+own_later : (t : ℕ) (e : Entry) (front back : List Entry) → RiseFrom t (front ++ e ∷ back) → t < e.timestamp
+own_later t e [] back rising = rising.0
+own_later t e (x ∷ front) back rising = let later : x.timestamp < e.timestamp = own_later x.timestamp e front back
+    rising.1 in omega arith
+
+other_times : (t : ℕ) (e : Entry) (front back : List Entry) → RiseFrom t (front ++ e ∷ back)
+    → Around (λ y. y.timestamp ≢ e.timestamp) front back
+other_times t e [] back rising = record { before = tt; after = all_later e.timestamp e back (omega arith) rising.1 }
+other_times t e (x ∷ front) back rising =
+    let rest = other_times x.timestamp e front back rising.1 in
+    let sooner : x.timestamp < e.timestamp = own_later x.timestamp e front back rising.1 in
+    record { before = (λ same. omega arith, rest.before); after = rest.after }
+
+-- no other entry has this timestamp
+pub other_times-around : (h : History) (e : Entry) (among : IsAmong h.entries e) → RiseFrom 0 h.entries
+    → Around (λ y. y.timestamp ≢ e.timestamp) among.front among.back
+other_times-around h e among rising =
+    other_times 0 e among.front among.back (subst (RiseFrom 0) among.split rising)
+
+-- the entry's transfer has another id and another timestamp than that of the entry e, if it pends
+pub record IsOther (e y : Entry) : Type 0 where
+  pub id : y.transfer.id ≢ e.transfer.id
+  pub time : y.transfer.timestamp ≢ e.transfer.timestamp
+
+-- so it is with every other entry of a sound history
+pub IsOther-around : (h : History) (e : Entry) (among : IsAmong h.entries e) → IsSound h → stores e.kind ≡ true
+    → Around (λ y. stores y.kind ≡ true → IsOther e y) among.front among.back
+IsOther-around h e among sound stored =
+    let own : e.transfer.timestamp ≡ e.timestamp = (All-among (Stands h) h.entries e among sound.standing).dated
+        stored in
+    Around-weaker (λ y. HasOtherId e y × (y.timestamp ≢ e.timestamp) × Stands h y)
+    (λ y. stores y.kind ≡ true → IsOther e y)
+    (λ y known is. record {
+      id = λ same. both_ways (is_stored e.transfer.id y) known.0
+          (and_from (stores y.kind) (y.transfer.id == e.transfer.id) is (eq-eqb y.transfer.id e.transfer.id same));
+      time = λ same. known.1 (sym (known.2.dated is) ∙ (same ∙ own));
+    }) among.front among.back
+    (three among.front among.back (HasOtherId-around h e among sound.once stored)
+    (other_times-around h e among sound.rising)
+    (All-around (Stands h) h.entries e among sound.standing))
+  where
+    three : (front back : List Entry) → Around (HasOtherId e) front back
+        → Around (λ y. y.timestamp ≢ e.timestamp) front back → Around (Stands h) front back
+        → Around (λ y. HasOtherId e y × (y.timestamp ≢ e.timestamp) × Stands h y) front back
+    three front back ids times standing =
+        Around-weaker (λ y. HasOtherId e y × ((y.timestamp ≢ e.timestamp) × Stands h y))
+        (λ y. HasOtherId e y × (y.timestamp ≢ e.timestamp) × Stands h y)
+        (λ y known. (known.0, known.1.0, known.1.1)) front back
+        (Around-both (HasOtherId e) (λ y. (y.timestamp ≢ e.timestamp) × Stands h y) front back ids
+        (Around-both (λ y. y.timestamp ≢ e.timestamp) (Stands h) front back times standing))

@@ -1,0 +1,65 @@
+-- What an entry and the places of its two accounts are beside a history (for private contracts).
+use Rattle.std.specs.Prelude.{ℕ, ◌+◌, ◌-◌, ◌<◌, ◌≤◌, ◌^◌, ◌≡◌, ◌==◌, Option, Some, None, List, map, position}
+use Rattle.cdc_types.specs.declared.accounts.Account.{Account}
+use Rattle.cdc_types.specs.declared.accounts.Balances.{Balances}
+use Rattle.cdc_types.specs.declared.events.Entry.{Entry}
+use Rattle.cdc_ledger.specs.declared.movements.Movement.{Movement}
+use Rattle.cdc_ledger.specs.Effects.{Effect, effect_by, settled_by, account_changed}
+use Rattle.cdc_ledger.specs.History.{History}
+
+-- the account of this id stands at this place
+abbrev pub IsPlace : List Account → ℕ → ℕ → Type 0
+IsPlace accounts id place = position (λ a. a.id == id) accounts ≡ Some place
+
+-- what the movement does to its two accounts
+abbrev pub effect_of_movement : Movement → Effect
+effect_of_movement m = effect_by m.settled m.entry
+
+-- both accounts of the movement stand at its places
+pub record IsPlaced (accounts : List Account) (m : Movement) : Type 0 where
+  pub debit : IsPlace accounts m.entry.transfer.debit_account_id m.debit
+  pub credit : IsPlace accounts m.entry.transfer.credit_account_id m.credit
+
+-- the movement is that of its entry after the history: it knows the places of its two accounts, and the pending
+-- transfer that it settles
+pub record IsMovement (accounts : List Account) (h : History) (m : Movement) : Type 0 where
+  pub placed : IsPlaced accounts m
+  pub settled : m.settled ≡ settled_by h m.entry
+
+-- one side's sums take the effect: what is released is there, and what is added fits 128 bits
+pub record SideFits (f : Effect) (pending posted : ℕ) : Type 0 where
+  pub released : f.released ≤ pending
+  pub held : pending + f.held < 2 ^ 128 + f.released
+  pub moved : posted + f.moved < 2 ^ 128
+
+-- the account that is debited, and the one that is credited, after the effect
+abbrev pub debited : Effect → Account → Account
+debited f a = record a {
+  balances = record a.balances {
+    debits_pending = a.balances.debits_pending + f.held - f.released;
+    debits_posted = a.balances.debits_posted + f.moved;
+  };
+}
+
+abbrev pub credited : Effect → Account → Account
+credited f a = record a {
+  balances = record a.balances {
+    credits_pending = a.balances.credits_pending + f.held - f.released;
+    credits_posted = a.balances.credits_posted + f.moved;
+  };
+}
+
+-- the sums of an account take the effect, where it is one of the two
+abbrev pub Takes : Effect → ℕ → ℕ → Account → Type 0
+Takes f debit credit a =
+    (a.id ≡ debit → SideFits f a.balances.debits_pending a.balances.debits_posted)
+    × (a.id ≡ credit → SideFits f a.balances.credits_pending a.balances.credits_posted)
+
+-- the ids of accounts
+abbrev pub account_ids : List Account → List ℕ
+account_ids accounts = map (λ a. a.id) accounts
+
+-- the accounts after the movement
+abbrev pub accounts_changed : Movement → List Account → List Account
+accounts_changed m =
+    map (account_changed (effect_of_movement m) m.entry.transfer.debit_account_id m.entry.transfer.credit_account_id)

@@ -1,0 +1,38 @@
+-- What an index of ends has: a triple for each pending transfer with a timeout that nothing brought to its end yet (for
+-- private contracts and the laws).
+use Rattle.std.specs.Prelude.{ℕ, ◌+◌, Bool, ◌==◌, ◌&&◌, not, List, [], ◌∷◌, if◌then◌else◌}
+use Rattle.std.specs.FinSet.{from_list}
+use Rattle.cdc_types.specs.declared.events.Entry.{Entry}
+use Rattle.cdc_expiry.specs.declared.triple.Triple.{Triple}
+use Rattle.cdc_expiry.specs.Triples.{Triples}
+use Rattle.cdc_ledger.specs.History.{History}
+use Rattle.cdc_ledger.specs.Kinds.{holds}
+use Rattle.cdc_ledger.specs.Balances.{resolved}
+use Rattle.cdc_ledger.specs.Filling.{expires_at}
+
+-- the entry's transfer is pending, has a timeout, and was neither posted, voided nor expired
+abbrev pub is_open : History → Entry → Bool
+is_open h e = holds e.kind && not (e.transfer.timeout == 0) && not (resolved h e.transfer h.last)
+
+-- the end of the entry's transfer, when it was made, and the entry's place
+abbrev pub triple_at : ℕ → Entry → Triple
+triple_at place e =
+    record { expires_at = expires_at e.transfer; timestamp = e.transfer.timestamp; slot = place }
+
+-- the triples of those of the entries that pass the test, of which the first has this place
+abbrev pub triples_from : (Entry → Bool) → ℕ → List Entry → List Triple
+triples_from test place [] = []
+triples_from test place (e ∷ es) =
+    if test e then triple_at place e ∷ triples_from test (place + 1) es else triples_from test (place + 1) es
+
+-- the triples of a history, in the order of its entries
+abbrev pub open_triples : History → List Triple
+open_triples h = triples_from (is_open h) 0 h.entries
+
+-- the set of them, which says nothing of an order
+abbrev pub index_of : History → Triples
+index_of h = from_list (open_triples h)
+
+-- the entry has a triple of its own until something brings its transfer to its end
+abbrev pub opens : Entry → Bool
+opens e = holds e.kind && not (e.transfer.timeout == 0)

@@ -1,0 +1,166 @@
+//! What becomes of a request for a transfer: the movement that it leads to, or the first line that refuses it
+//! (TigerBeetle, `create_transfers`).
+
+ghost use Rattle.std.specs.Prelude.{◌≡◌, ◌≤◌, ◌<◌, true, false, None, Some, MatchResult};
+ghost use Rattle.cdc_types.specs.Features.{features};
+ghost use Rattle.cdc_types.specs.Flags.{is_plain_request};
+ghost use Rattle.cdc_types.specs.Lines.{first_line};
+ghost use Rattle.cdc_types.specs.Shapes.{transfer_refusal};
+ghost use Rattle.cdc_ledger.specs.Filling as filling;
+ghost use Rattle.cdc_ledger.specs.Filling.{stored};
+ghost use Rattle.cdc_ledger.specs.Movements.{IsPlaced};
+ghost use Rattle.cdc_ledger.specs.Sound.{HasAccounts};
+ghost use Rattle.cdc_ledger.specs.Tables.{IsJudged, IsKept, history_of};
+ghost use Rattle.cdc_ledger.specs.Verdict.{max_timestamp, known_transfer_lines, transfer_lines};
+
+use crate::accounts::find_place;
+use crate::movements::Movement;
+use crate::settling::{end_refusal, field_refusal};
+use crate::sums::refusal_between;
+use crate::tables::Tables;
+use crate::transfers::{as_asked, filled_from, is_same_transfer, kind_of};
+use cdc_types::{Entry, NewTransfer, Transfer, TransferResult};
+
+impl Tables {
+    /// The transfer that is stored for the request at this moment.
+    fn filled(&self, request: &NewTransfer, timestamp: u64) -> Transfer
+        ensures { result ≡ filling.filled (history_of self.now) request.now timestamp }
+    {
+        if request.is_plain() {
+            return as_asked(request, timestamp);
+        }
+        match self.entry(request.pending_id) {
+            Some(entry) => filled_from(&entry.transfer, request, timestamp),
+            None => as_asked(request, timestamp),
+        }
+    }
+
+    /// Why a request whose id is another transfer's is refused.
+    fn known_refusal(&self, request: &NewTransfer) -> Option<TransferResult>
+        ensures { let h = history_of self.now in
+            result ≡ first_line (known_transfer_lines (stored h request.now.id) h request.now) }
+    {
+        let entry = self.entry(request.id)?;
+        if is_same_transfer(&self.filled(request, entry.timestamp), &entry.transfer) {
+            Some(TransferResult::Exists)
+        } else {
+            Some(TransferResult::ExistsWithDifferentFields)
+        }
+    }
+
+    /// What a request for a single-phase or a pending transfer leads to, or the first line that refuses it.
+    fn judge_plain(&self, request: &NewTransfer, timestamp: u64) -> Result<Movement, TransferResult>
+        requires kept { IsKept self.now }
+        requires later { self.now.last < timestamp }
+        requires within { timestamp ≤ max_timestamp }
+        requires shape { transfer_refusal features request.now ≡ None }
+        requires unknown { let h = history_of self.now in
+            first_line (known_transfer_lines (stored h request.now.id) h request.now) ≡ None }
+        requires plain { is_plain_request request.now ≡ true }
+        ensures { MatchResult result (IsJudged self.now request.now timestamp)
+            (λ refusal. first_line (transfer_lines features (history_of self.now) request.now timestamp) ≡ Some refusal) }
+    {
+        let accounts = self.accounts.as_slice();
+        let Some(debit) = find_place(accounts, request.debit_account_id) else {
+            return Err(TransferResult::DebitAccountNotFound);
+        };
+        let Some(credit) = find_place(accounts, request.credit_account_id) else {
+            return Err(TransferResult::CreditAccountNotFound);
+        };
+        if let Some(refusal) = refusal_between(
+            &accounts[debit],
+            &accounts[credit],
+            request,
+            timestamp,
+        ) {
+            return Err(refusal);
+        }
+        let entry = Entry {
+            timestamp,
+            kind: kind_of(request),
+            transfer: as_asked(request, timestamp),
+        };
+        Ok(Movement {
+            entry,
+            debit,
+            credit,
+            settled: None,
+        })
+    }
+
+    /// The movement of an entry that posts, voids or ends this pending transfer, whose accounts are there.
+    pub(crate) fn settling(&self, entry: Entry, pending: Transfer) -> Movement
+        requires kept { IsKept self.now }
+        requires accounts { HasAccounts (history_of self.now) entry }
+        ensures entry { result.entry ≡ entry }
+        ensures placed { IsPlaced self.now.accounts.items result }
+        ensures settled { result.settled ≡ Some pending }
+    {
+        let accounts = self.accounts.as_slice();
+        Movement {
+            entry,
+            debit: find_place(accounts, entry.transfer.debit_account_id).unwrap(),
+            credit: find_place(accounts, entry.transfer.credit_account_id).unwrap(),
+            settled: Some(pending),
+        }
+    }
+
+    /// What a post or a void leads to, or the first line that refuses it.
+    fn judge_settling(
+        &self,
+        request: &NewTransfer,
+        timestamp: u64,
+    ) -> Result<Movement, TransferResult>
+        requires kept { IsKept self.now }
+        requires later { self.now.last < timestamp }
+        requires within { timestamp ≤ max_timestamp }
+        requires shape { transfer_refusal features request.now ≡ None }
+        requires unknown { let h = history_of self.now in
+            first_line (known_transfer_lines (stored h request.now.id) h request.now) ≡ None }
+        requires settles { is_plain_request request.now ≡ false }
+        ensures { MatchResult result (IsJudged self.now request.now timestamp)
+            (λ refusal. first_line (transfer_lines features (history_of self.now) request.now timestamp) ≡ Some refusal) }
+    {
+        let Some(entry) = self.entry(request.pending_id) else {
+            return Err(TransferResult::PendingTransferNotFound);
+        };
+        if let Some(refusal) = field_refusal(entry, request) {
+            return Err(refusal);
+        }
+        let pending = entry.transfer;
+        if let Some(refusal) = end_refusal(self.entries.as_slice(), &pending, timestamp) {
+            return Err(refusal);
+        }
+        let entry = Entry {
+            timestamp,
+            kind: kind_of(request),
+            transfer: filled_from(&pending, request, timestamp),
+        };
+        Ok(self.settling(entry, pending))
+    }
+
+    /// What a request for a transfer leads to at this moment, or the first line that refuses it.
+    pub(crate) fn judge(
+        &self,
+        request: &NewTransfer,
+        timestamp: u64,
+    ) -> Result<Movement, TransferResult>
+        requires kept { IsKept self.now }
+        requires later { self.now.last < timestamp }
+        requires within { timestamp ≤ max_timestamp }
+        ensures { MatchResult result (IsJudged self.now request.now timestamp)
+            (λ refusal. first_line (transfer_lines features (history_of self.now) request.now timestamp) ≡ Some refusal) }
+    {
+        if let Some(refusal) = request.check_shape() {
+            return Err(refusal);
+        }
+        if let Some(refusal) = self.known_refusal(request) {
+            return Err(refusal);
+        }
+        if request.is_plain() {
+            self.judge_plain(request, timestamp)
+        } else {
+            self.judge_settling(request, timestamp)
+        }
+    }
+}

@@ -1,0 +1,113 @@
+//! What an entry does to the two accounts of its transfer, and what is told of it.
+
+ghost use Rattle.std.specs.Prelude.{◌≡◌, ◌≢◌, All};
+ghost use Rattle.cdc_ledger.specs.Accounts.{event_from};
+ghost use Rattle.cdc_ledger.specs.Kinds as kinds;
+ghost use Rattle.cdc_ledger.specs.Movements.{IsPlaced, SideFits, Takes, account_ids, accounts_changed, credited, debited, effect_of_movement};
+ghost use Rattle.cdc_ledger.specs.Sound.{AreApart};
+
+use crate::accounts::shown_account;
+use crate::transfers::shown_transfer;
+use cdc_types::{Account, Entry, Event, EventKind, Transfer};
+
+/// What an entry does to the balances of its two accounts (TigerBeetle, Two-Phase Transfers).
+#[derive(Clone, Copy)]
+pub(crate) struct Effect {
+    /// What goes out of the pending balances.
+    released: u128,
+    /// What is added to the pending balances.
+    held: u128,
+    /// What is added to the posted balances.
+    moved: u128,
+}
+
+impl Effect {
+    /// Changes the balances of the account that is debited.
+    fn debit(&self, account: &mut Account)
+        requires { SideFits self.now account.old.balances.debits_pending account.old.balances.debits_posted }
+        ensures { account.new ≡ debited self.now account.old }
+    {
+        let balances = &mut account.balances;
+        balances.debits_pending = balances.debits_pending - self.released + self.held;
+        balances.debits_posted += self.moved;
+    }
+
+    /// Changes the balances of the account that is credited.
+    fn credit(&self, account: &mut Account)
+        requires { SideFits self.now account.old.balances.credits_pending account.old.balances.credits_posted }
+        ensures { account.new ≡ credited self.now account.old }
+    {
+        let balances = &mut account.balances;
+        balances.credits_pending = balances.credits_pending - self.released + self.held;
+        balances.credits_posted += self.moved;
+    }
+}
+
+/// An entry that the ledger can take, with the places of its two accounts.
+#[derive(Clone, Copy)]
+pub(crate) struct Movement {
+    pub(crate) entry: Entry,
+    /// The place of the account that is debited, from 0.
+    pub(crate) debit: usize,
+    /// The place of the account that is credited, from 0.
+    pub(crate) credit: usize,
+    /// The pending transfer that it posts, voids or brings to its end.
+    pub(crate) settled: Option<Transfer>,
+}
+
+/// Whether an entry of this kind moves its amount for good.
+fn moves(kind: EventKind) -> bool
+    ensures { result ≡ kinds.moves kind }
+{
+    matches!(kind, EventKind::SinglePhase | EventKind::TwoPhasePosted)
+}
+
+impl Movement {
+    /// What the entry does to the balances of its two accounts: it releases all that the settled transfer holds, it
+    /// holds its own amount, or it moves it.
+    fn effect(&self) -> Effect
+        ensures { result ≡ effect_of_movement self.now }
+    {
+        let amount = self.entry.transfer.amount;
+        let holds = self.entry.kind == EventKind::TwoPhasePending;
+        Effect {
+            released: match self.settled {
+                Some(pending) => pending.amount,
+                None => 0,
+            },
+            held: if holds { amount } else { 0 },
+            moved: if moves(self.entry.kind) { amount } else { 0 },
+        }
+    }
+
+    /// Changes the balances of the two accounts.
+    pub(crate) fn apply(&self, accounts: &mut [Account])
+        requires placed { IsPlaced accounts.old self.now }
+        requires apart { self.now.entry.transfer.debit_account_id ≢ self.now.entry.transfer.credit_account_id }
+        requires unique { AreApart (account_ids accounts.old) }
+        requires fits { All
+            (Takes (effect_of_movement self.now) self.now.entry.transfer.debit_account_id
+            self.now.entry.transfer.credit_account_id) accounts.old }
+        ensures { accounts.new ≡ accounts_changed self.now accounts.old }
+    {
+        let effect = self.effect();
+        effect.debit(&mut accounts[self.debit]);
+        effect.credit(&mut accounts[self.credit]);
+    }
+
+    /// The event of the entry, from the accounts as they are after it.
+    pub(crate) fn event(&self, accounts: &[Account]) -> Event
+        requires { IsPlaced accounts.now self.now }
+        ensures { result ≡ event_from accounts.now self.now.entry }
+    {
+        let transfer = &self.entry.transfer;
+        Event {
+            timestamp: self.entry.timestamp,
+            kind: self.entry.kind,
+            ledger: transfer.ledger,
+            transfer: shown_transfer(transfer),
+            debit_account: shown_account(&accounts[self.debit]),
+            credit_account: shown_account(&accounts[self.credit]),
+        }
+    }
+}
