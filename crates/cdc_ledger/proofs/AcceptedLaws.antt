@@ -39,22 +39,27 @@ module _ {R : Type 0} (number : R → ℕ) (accepted : R) where
   abbrev refuse : List (Bool × R) → Bool
   refuse lines = list_all (λ line. not (number line.1 == 0)) lines
 
-  no_line_from : (b : Bool) (r : R) (o : Option R) → not (number r == 0) ≡ true → (number (unwrap_or (if b then Some r else o) accepted) == 0) ≡ true
+  no_line_from : (b : Bool) (r : R) (o : Option R) → not (number r == 0) ≡ true
+      → (number (unwrap_or (if b then Some r else o) accepted) == 0) ≡ true
       → ((number (unwrap_or o accepted) == 0) ≡ true → o ≡ None) → (if b then Some r else o) ≡ None
   no_line_from true r o refuses zero rest = absurd (both_ways (number r == 0) (not-true (number r == 0) refuses) zero)
   no_line_from false r o refuses zero rest = rest zero
 
-  no_line : (lines : List (Bool × R)) → refuse lines ≡ true → (number (unwrap_or (first_line lines) accepted) == 0) ≡ true → first_line lines ≡ None
+  no_line : (lines : List (Bool × R)) → refuse lines ≡ true
+      → (number (unwrap_or (first_line lines) accepted) == 0) ≡ true → first_line lines ≡ None
   no_line [] refuses zero = refl
   no_line (line ∷ lines) refuses zero =
-      let both : (not (number line.1 == 0) ≡ true) × (refuse lines ≡ true) = and_parts (not (number line.1 == 0)) (refuse lines) refuses in
+      let both : (not (number line.1 == 0) ≡ true) × (refuse lines ≡ true) =
+      and_parts (not (number line.1 == 0)) (refuse lines) refuses in
       no_line_from line.0 line.1 (first_line lines) both.0 zero (no_line lines both.1)
 
-refuse-append : {R : Type 0} (number : R → ℕ) (accepted : R) (xs ys : List (Bool × R)) → refuse number accepted xs ≡ true → refuse number accepted ys ≡ true → refuse number accepted (xs ++ ys) ≡ true
+refuse-append : {R : Type 0} (number : R → ℕ) (accepted : R) (xs ys : List (Bool × R))
+    → refuse number accepted xs ≡ true → refuse number accepted ys ≡ true → refuse number accepted (xs ++ ys) ≡ true
 refuse-append number accepted xs ys p q = list_all-append (λ line. not (number line.1 == 0)) xs ys ∙ and_from _ _ p q
 
 -- an account that is accepted wasn't there
-known_account_refuse : (o : Option Opened) (a : NewAccount) → refuse account_number account.Accepted (known_account_lines o a) ≡ true
+known_account_refuse : (o : Option Opened) (a : NewAccount)
+    → refuse account_number account.Accepted (known_account_lines o a) ≡ true
 known_account_refuse None a = refl
 known_account_refuse (Some o) a = refl
 
@@ -62,35 +67,45 @@ known_account_none : (o : Option Opened) (a : NewAccount) → first_line (known_
 known_account_none None a none = refl
 known_account_none (Some o) a none = absurd (false≢true (sym (none_applies (known_account_lines (Some o) a) none).1.0))
 
-pub accepted_account : (offered : Features) (h : History) (a : NewAccount) → (account_number (account_verdict offered h a) == 0) ≡ true
+pub accepted_account : (offered : Features) (h : History) (a : NewAccount)
+    → (account_number (account_verdict offered h a) == 0) ≡ true
     → (first_line (account_shape_lines offered a) ≡ None) × (opened h a.id ≡ None)
 accepted_account offered h a zero =
     let known : List (Bool × AccountResult) = known_account_lines (opened h a.id) a in
-    let none : first_line (account_shape_lines offered a ++ known) ≡ None = no_line account_number account.Accepted (account_shape_lines offered a ++ known)
-    (refuse-append account_number account.Accepted (account_shape_lines offered a) known refl (known_account_refuse (opened h a.id) a)) zero in
-    let parts : (first_line (account_shape_lines offered a) ≡ None) × (first_line known ≡ None) = first_line_append_none_parts (account_shape_lines offered a) known none in
+    let none : first_line (account_shape_lines offered a ++ known) ≡ None =
+    no_line account_number account.Accepted (account_shape_lines offered a ++ known)
+    (refuse-append account_number account.Accepted (account_shape_lines offered a) known refl
+    (known_account_refuse (opened h a.id) a)) zero in
+    let parts : (first_line (account_shape_lines offered a) ≡ None) × (first_line known ≡ None) =
+    first_line_append_none_parts (account_shape_lines offered a) known none in
     (parts.0, known_account_none (opened h a.id) a parts.1)
 
 -- a transfer
 
-known_transfer_refuse : (o : Option Entry) (h : History) (r : NewTransfer) → refuse transfer_number transfer.Accepted (known_transfer_lines o h r) ≡ true
+known_transfer_refuse : (o : Option Entry) (h : History) (r : NewTransfer)
+    → refuse transfer_number transfer.Accepted (known_transfer_lines o h r) ≡ true
 known_transfer_refuse None h r = refl
 known_transfer_refuse (Some e) h r = refl
 
-known_transfer_none : (o : Option Entry) (h : History) (r : NewTransfer) → first_line (known_transfer_lines o h r) ≡ None → o ≡ None
+known_transfer_none : (o : Option Entry) (h : History) (r : NewTransfer)
+    → first_line (known_transfer_lines o h r) ≡ None → o ≡ None
 known_transfer_none None h r none = refl
-known_transfer_none (Some e) h r none = absurd (false≢true (sym (none_applies (known_transfer_lines (Some e) h r) none).1.0))
+known_transfer_none (Some e) h r none =
+    absurd (false≢true (sym (none_applies (known_transfer_lines (Some e) h r) none).1.0))
 
-plain_refuse : (d c : Option Opened) (h : History) (r : NewTransfer) (t : ℕ) → refuse transfer_number transfer.Accepted (plain_lines d c h r t) ≡ true
+plain_refuse : (d c : Option Opened) (h : History) (r : NewTransfer) (t : ℕ)
+    → refuse transfer_number transfer.Accepted (plain_lines d c h r t) ≡ true
 plain_refuse None c h r t = refl
 plain_refuse (Some d) None h r t = refl
 plain_refuse (Some d) (Some c) h r t = refl
 
-settling_refuse : (o : Option Entry) (h : History) (r : NewTransfer) (t : ℕ) → refuse transfer_number transfer.Accepted (settling_lines o h r t) ≡ true
+settling_refuse : (o : Option Entry) (h : History) (r : NewTransfer) (t : ℕ)
+    → refuse transfer_number transfer.Accepted (settling_lines o h r t) ≡ true
 settling_refuse None h r t = refl
 settling_refuse (Some e) h r t = refl
 
-either_refuse : (b : Bool) (xs ys : List (Bool × TransferResult)) → refuse transfer_number transfer.Accepted xs ≡ true → refuse transfer_number transfer.Accepted ys ≡ true
+either_refuse : (b : Bool) (xs ys : List (Bool × TransferResult)) → refuse transfer_number transfer.Accepted xs ≡ true
+    → refuse transfer_number transfer.Accepted ys ≡ true
     → refuse transfer_number transfer.Accepted (if b then xs else ys) ≡ true
 either_refuse true xs ys p q = p
 either_refuse false xs ys p q = q
@@ -103,24 +118,31 @@ own_lines h r t =
     else settling_lines (stored h r.pending_id) h r t
 
 -- a transfer that is accepted is refused by no line
-pub no_line_from_accepted : (offered : Features) (h : History) (r : NewTransfer) (t : ℕ) → (transfer_number (transfer_verdict offered h r t) == 0) ≡ true
+pub no_line_from_accepted : (offered : Features) (h : History) (r : NewTransfer) (t : ℕ)
+    → (transfer_number (transfer_verdict offered h r t) == 0) ≡ true
     → first_line (transfer_lines offered h r t) ≡ None
 no_line_from_accepted offered h r t zero =
     let known : List (Bool × TransferResult) = known_transfer_lines (stored h r.id) h r in
     let rest_refuse : refuse transfer_number transfer.Accepted (known ++ own_lines h r t) ≡ true =
     refuse-append transfer_number transfer.Accepted known (own_lines h r t) (known_transfer_refuse (stored h r.id) h r)
-    (either_refuse (is_plain_request r) _ _ (plain_refuse (opened h r.debit_account_id) (opened h r.credit_account_id) h r t) (settling_refuse (stored h r.pending_id) h r t)) in
+    (either_refuse (is_plain_request r) _ _
+    (plain_refuse (opened h r.debit_account_id) (opened h r.credit_account_id) h r t)
+    (settling_refuse (stored h r.pending_id) h r t)) in
     no_line transfer_number transfer.Accepted (transfer_lines offered h r t)
-    (refuse-append transfer_number transfer.Accepted (transfer_shape_lines offered r) (known ++ own_lines h r t) refl rest_refuse) zero
+    (refuse-append transfer_number transfer.Accepted (transfer_shape_lines offered r)
+    (known ++ own_lines h r t) refl rest_refuse) zero
 
 -- the three parts of the table, of which no line applies
-no_line_parts : (offered : Features) (h : History) (r : NewTransfer) (t : ℕ) → first_line (transfer_lines offered h r t) ≡ None
-    → (first_line (transfer_shape_lines offered r) ≡ None) × (stored h r.id ≡ None) × (first_line (own_lines h r t) ≡ None)
+no_line_parts : (offered : Features) (h : History) (r : NewTransfer) (t : ℕ)
+    → first_line (transfer_lines offered h r t) ≡ None
+    → (first_line (transfer_shape_lines offered r) ≡ None) × (stored h r.id ≡ None) ×
+    (first_line (own_lines h r t) ≡ None)
 no_line_parts offered h r t none =
     let known : List (Bool × TransferResult) = known_transfer_lines (stored h r.id) h r in
     let parts : (first_line (transfer_shape_lines offered r) ≡ None) × (first_line (known ++ own_lines h r t) ≡ None) =
     first_line_append_none_parts (transfer_shape_lines offered r) (known ++ own_lines h r t) none in
-    let two : (first_line known ≡ None) × (first_line (own_lines h r t) ≡ None) = first_line_append_none_parts known (own_lines h r t) parts.1 in
+    let two : (first_line known ≡ None) × (first_line (own_lines h r t) ≡ None) =
+    first_line_append_none_parts known (own_lines h r t) parts.1 in
     (parts.0, known_transfer_none (stored h r.id) h r two.0, two.1)
 
 -- the tests of a request's own fields, each of which fails
@@ -129,7 +151,8 @@ record ShapePasses (r : NewTransfer) : Type 0 where
   endless : (not (is_pending_request r) && not (r.timeout == 0)) ≡ false
   apart : (is_plain_request r && (r.debit_account_id == r.credit_account_id)) ≡ false
 
-shape_passes : (offered : Features) (r : NewTransfer) → first_line (transfer_shape_lines offered r) ≡ None → ShapePasses r
+shape_passes : (offered : Features) (r : NewTransfer) → first_line (transfer_shape_lines offered r) ≡ None
+    → ShapePasses r
 shape_passes offered r none =
     let from_flag = none_applies (transfer_shape_lines offered r) none in
     let from_kinds = from_flag.1.1.1 in
@@ -141,16 +164,23 @@ shape_passes offered r none =
 record PlainPasses (debited credited : Option Opened) (h : History) (r : NewTransfer) (t : ℕ) : Type 0 where
   debit_there : IsSome debited
   credit_there : IsSome credited
-  debits : (balances h r.debit_account_id t).debits_pending + (balances h r.debit_account_id t).debits_posted + r.amount ≤ max_128
-  credits : (balances h r.credit_account_id t).credits_pending + (balances h r.credit_account_id t).credits_posted + r.amount ≤ max_128
+  debits : (balances h r.debit_account_id t).debits_pending + (balances h r.debit_account_id t).debits_posted + r.amount
+      ≤ max_128
+  credits : (balances h r.credit_account_id t).credits_pending +
+      (balances h r.credit_account_id t).credits_posted + r.amount ≤ max_128
   timely : r.timeout ≢ 0 → expires_at (as_asked r t) ≤ max_timestamp
 
-ends_in_time : (r : NewTransfer) (t : ℕ) → (not (r.timeout == 0) && nat_lt max_timestamp (expires_at (as_asked r t))) ≡ false → r.timeout ≢ 0 → expires_at (as_asked r t) ≤ max_timestamp
-ends_in_time r t line some = ltb-false max_timestamp (expires_at (as_asked r t)) (sym (ap (λ b. not b && nat_lt max_timestamp (expires_at (as_asked r t))) (ne_eqb r.timeout 0 some)) ∙ line)
+ends_in_time : (r : NewTransfer) (t : ℕ)
+    → (not (r.timeout == 0) && nat_lt max_timestamp (expires_at (as_asked r t))) ≡ false → r.timeout ≢ 0
+    → expires_at (as_asked r t) ≤ max_timestamp
+ends_in_time r t line some = ltb-false max_timestamp (expires_at (as_asked r t))
+    (sym (ap (λ b. not b && nat_lt max_timestamp (expires_at (as_asked r t))) (ne_eqb r.timeout 0 some)) ∙ line)
 
-plain_passes : (d c : Option Opened) (h : History) (r : NewTransfer) (t : ℕ) → first_line (plain_lines d c h r t) ≡ None → PlainPasses d c h r t
+plain_passes : (d c : Option Opened) (h : History) (r : NewTransfer) (t : ℕ) → first_line (plain_lines d c h r t) ≡ None
+    → PlainPasses d c h r t
 plain_passes None c h r t none = absurd (false≢true (sym (none_applies (plain_lines None c h r t) none).0))
-plain_passes (Some d) None h r t none = absurd (false≢true (sym (none_applies (plain_lines (Some d) None h r t) none).0))
+plain_passes (Some d) None h r t none =
+    absurd (false≢true (sym (none_applies (plain_lines (Some d) None h r t) none).0))
 plain_passes (Some d) (Some c) h r t none =
     let from_ledgers = none_applies (plain_lines (Some d) (Some c) h r t) none in
     let from_pending_sums = from_ledgers.1.1 in
@@ -177,7 +207,8 @@ record SettlingPasses (named : Option Entry) (h : History) (r : NewTransfer) (t 
   unvoided : some_by h t (λ x. voids x.kind x.transfer pending.transfer) ≡ false
   going_on : is_over h pending.transfer t ≡ false
 
-settling_passes : (named : Option Entry) (h : History) (r : NewTransfer) (t : ℕ) → first_line (settling_lines named h r t) ≡ None → SettlingPasses named h r t
+settling_passes : (named : Option Entry) (h : History) (r : NewTransfer) (t : ℕ)
+    → first_line (settling_lines named h r t) ≡ None → SettlingPasses named h r t
 settling_passes None h r t none = absurd (false≢true (sym (none_applies (settling_lines None h r t) none).0))
 settling_passes (Some x) h r t none =
     let from_kind = none_applies (settling_lines (Some x) h r t) none in
@@ -200,30 +231,41 @@ settling_passes (Some x) h r t none =
     }
 
 -- nothing posted, voided or ended the transfer, so nothing resolved it
-none_of_three : (p : Transfer) (t : ℕ) (es : List Entry) → list_any (λ e. nat_le e.timestamp t && posts e.kind e.transfer p) es ≡ false → list_any (λ e. nat_le e.timestamp t && voids e.kind e.transfer p) es ≡ false
-    → list_any (λ e. nat_le e.timestamp t && expires e.kind e.transfer p) es ≡ false → list_any (λ e. nat_le e.timestamp t && resolves p e) es ≡ false
+none_of_three : (p : Transfer) (t : ℕ) (es : List Entry)
+    → list_any (λ e. nat_le e.timestamp t && posts e.kind e.transfer p) es ≡ false
+    → list_any (λ e. nat_le e.timestamp t && voids e.kind e.transfer p) es ≡ false
+    → list_any (λ e. nat_le e.timestamp t && expires e.kind e.transfer p) es ≡ false
+    → list_any (λ e. nat_le e.timestamp t && resolves p e) es ≡ false
 none_of_three p t [] posted voided expired = refl
 none_of_three p t (e ∷ es) posted voided expired =
-    let post = or_parts (nat_le e.timestamp t && posts e.kind e.transfer p) (list_any (λ x. nat_le x.timestamp t && posts x.kind x.transfer p) es) posted in
-    let void = or_parts (nat_le e.timestamp t && voids e.kind e.transfer p) (list_any (λ x. nat_le x.timestamp t && voids x.kind x.transfer p) es) voided in
-    let expire = or_parts (nat_le e.timestamp t && expires e.kind e.transfer p) (list_any (λ x. nat_le x.timestamp t && expires x.kind x.transfer p) es) expired in
+    let post = or_parts (nat_le e.timestamp t && posts e.kind e.transfer p)
+        (list_any (λ x. nat_le x.timestamp t && posts x.kind x.transfer p) es) posted in
+    let void = or_parts (nat_le e.timestamp t && voids e.kind e.transfer p)
+        (list_any (λ x. nat_le x.timestamp t && voids x.kind x.transfer p) es) voided in
+    let expire = or_parts (nat_le e.timestamp t && expires e.kind e.transfer p)
+        (list_any (λ x. nat_le x.timestamp t && expires x.kind x.transfer p) es) expired in
     or_from (nat_le e.timestamp t && resolves p e) (list_any (λ x. nat_le x.timestamp t && resolves p x) es)
-    (three (nat_le e.timestamp t) (posts e.kind e.transfer p) (voids e.kind e.transfer p) (expires e.kind e.transfer p) post.0 void.0 expire.0)
+    (three (nat_le e.timestamp t) (posts e.kind e.transfer p) (voids e.kind e.transfer p)
+    (expires e.kind e.transfer p) post.0 void.0 expire.0)
     (none_of_three p t es post.1 void.1 expire.1)
   where
-    three : (seen a b c : Bool) → (seen && a) ≡ false → (seen && b) ≡ false → (seen && c) ≡ false → (seen && (a || b || c)) ≡ false
+    three : (seen a b c : Bool) → (seen && a) ≡ false → (seen && b) ≡ false → (seen && c) ≡ false
+        → (seen && (a || b || c)) ≡ false
     three true a b c p q r = or_from (a || b) c (or_from a b p q) r
     three false a b c p q r = refl
 
-unresolved_from : (h : History) (p : Transfer) (t : ℕ) → some_by h t (λ x. posts x.kind x.transfer p) ≡ false → some_by h t (λ x. voids x.kind x.transfer p) ≡ false → is_over h p t ≡ false → resolved h p t ≡ false
+unresolved_from : (h : History) (p : Transfer) (t : ℕ) → some_by h t (λ x. posts x.kind x.transfer p) ≡ false
+    → some_by h t (λ x. voids x.kind x.transfer p) ≡ false → is_over h p t ≡ false → resolved h p t ≡ false
 unresolved_from h p t posted voided over =
-    none_of_three p t h.entries posted voided (or_parts (some_by h t (λ x. expires x.kind x.transfer p)) (not (p.timeout == 0) && nat_le (expires_at p) t) over).0
+    none_of_three p t h.entries posted voided
+    (or_parts (some_by h t (λ x. expires x.kind x.transfer p)) (not (p.timeout == 0) && nat_le (expires_at p) t) over).0
 
 -- what is given and isn't another than the pending transfer's own is its own
 own_given : (given own : ℕ) → is_other given own ≡ false → or_own given own ≡ own
 own_given given own line = by (given == 0) (given == own) refl line
   where
-    by : (none same : Bool) → (given == own) ≡ same → (not none && not same) ≡ false → (if none then own else given) ≡ own
+    by : (none same : Bool) → (given == own) ≡ same → (not none && not same) ≡ false
+        → (if none then own else given) ≡ own
     by true same is other = refl
     by false true is other = eqb-true given own is
     by false false is other = absurd (false≢true (sym other))
@@ -233,8 +275,10 @@ abbrev entry_with : EventKind → Transfer → ℕ → Entry
 entry_with k x t = record { timestamp = t; kind = k; transfer = x }
 
 -- a single-phase or a pending transfer
-Follows-plain : (k : EventKind) (h : History) (r : NewTransfer) (t : ℕ) → IsSound h → h.last < t → settles k ≡ false → stored h r.id ≡ None → r.debit_account_id ≢ r.credit_account_id
-    → PlainPasses (opened h r.debit_account_id) (opened h r.credit_account_id) h r t → Follows h (entry_with k (as_asked r t) t)
+Follows-plain : (k : EventKind) (h : History) (r : NewTransfer) (t : ℕ) → IsSound h → h.last < t → settles k ≡ false
+    → stored h r.id ≡ None → r.debit_account_id ≢ r.credit_account_id
+    → PlainPasses (opened h r.debit_account_id) (opened h r.credit_account_id) h r t
+    → Follows h (entry_with k (as_asked r t) t)
 Follows-plain k h r t sound later plain new apart passes = record {
   accounts = (passes.debit_there, passes.credit_there);
   apart = apart;
@@ -242,8 +286,10 @@ Follows-plain k h r t sound later plain new apart passes = record {
   dated = λ is. refl;
   timely = λ is some. passes.timely some;
   room = λ is. record {
-    debit = subst (λ (b : Balances). b.debits_pending + b.debits_posted + r.amount ≤ max_128) (balances_later h r.debit_account_id h.last t sound.past (omega arith)) passes.debits;
-    credit = subst (λ (b : Balances). b.credits_pending + b.credits_posted + r.amount ≤ max_128) (balances_later h r.credit_account_id h.last t sound.past (omega arith)) passes.credits;
+    debit = subst (λ (b : Balances). b.debits_pending + b.debits_posted + r.amount ≤ max_128)
+        (balances_later h r.debit_account_id h.last t sound.past (omega arith)) passes.debits;
+    credit = subst (λ (b : Balances). b.credits_pending + b.credits_posted + r.amount ≤ max_128)
+        (balances_later h r.credit_account_id h.last t sound.past (omega arith)) passes.credits;
   };
   settling = λ is. absurd (false≢true (sym plain ∙ is));
 }
@@ -256,16 +302,22 @@ record IsRequested (k : EventKind) : Type 0 where
   unexpired : k ≢ TwoPhaseExpired
 
 -- a post or a void
-Follows-settling : (k : EventKind) (h : History) (r : NewTransfer) (t : ℕ) → IsSound h → h.last < t → IsRequested k → stored h r.id ≡ None
-    → (passes : SettlingPasses (stored h r.pending_id) h r t) → Follows h (entry_with k (filled_from passes.pending.transfer r t) t)
+Follows-settling : (k : EventKind) (h : History) (r : NewTransfer) (t : ℕ) → IsSound h → h.last < t → IsRequested k
+    → stored h r.id ≡ None
+    → (passes : SettlingPasses (stored h r.pending_id) h r t)
+    → Follows h (entry_with k (filled_from passes.pending.transfer r t) t)
 Follows-settling k h r t sound later requested new passes =
     let x : Entry = passes.pending in
-    let debit : or_own r.debit_account_id x.transfer.debit_account_id ≡ x.transfer.debit_account_id = own_given r.debit_account_id x.transfer.debit_account_id passes.debit in
-    let credit : or_own r.credit_account_id x.transfer.credit_account_id ≡ x.transfer.credit_account_id = own_given r.credit_account_id x.transfer.credit_account_id passes.credit in
+    let debit : or_own r.debit_account_id x.transfer.debit_account_id ≡ x.transfer.debit_account_id =
+    own_given r.debit_account_id x.transfer.debit_account_id passes.debit in
+    let credit : or_own r.credit_account_id x.transfer.credit_account_id ≡ x.transfer.credit_account_id =
+    own_given r.credit_account_id x.transfer.credit_account_id passes.credit in
     let known : HasAccounts h x = stored_has (HasAccounts h) h r.pending_id x sound.known passes.there in
     let stands : Stands h x = stored_has (Stands h) h r.pending_id x sound.standing passes.there in
     record {
-      accounts = (subst (λ id. IsSome (opened h id)) (sym debit) known.0, subst (λ id. IsSome (opened h id)) (sym credit) known.1);
+      accounts =
+          (subst (λ id. IsSome (opened h id)) (sym debit) known.0,
+          subst (λ id. IsSome (opened h id)) (sym credit) known.1);
       apart = λ same. stands.apart (sym debit ∙ same ∙ credit);
       fresh = λ is. new;
       dated = λ is. refl;
@@ -281,12 +333,14 @@ Follows-settling k h r t sound later requested new passes =
           within = passes.within;
           shown = λ same. absurd (requested.unexpired same);
         };
-        unsettled = sym (resolved_later h x.transfer h.last t sound.past (omega arith)) ∙ unresolved_from h x.transfer t passes.unposted passes.unvoided passes.going_on;
+        unsettled = sym (resolved_later h x.transfer h.last t sound.past (omega arith))
+            ∙ unresolved_from h x.transfer t passes.unposted passes.unvoided passes.going_on;
       };
     }
 
 -- the end of a pending transfer that nothing settled
-pub Follows-expiry : (h : History) (x : Entry) (t : ℕ) → IsSound h → stored h x.transfer.id ≡ Some x → holds x.kind ≡ true → resolved h x.transfer h.last ≡ false → Follows h (expiry x.transfer t)
+pub Follows-expiry : (h : History) (x : Entry) (t : ℕ) → IsSound h → stored h x.transfer.id ≡ Some x
+    → holds x.kind ≡ true → resolved h x.transfer h.last ≡ false → Follows h (expiry x.transfer t)
 Follows-expiry h x t sound there holding unsettled =
     let stands : Stands h x = stored_has (Stands h) h x.transfer.id x sound.standing there in
     record {
@@ -298,50 +352,75 @@ Follows-expiry h x t sound there holding unsettled =
       room = λ is. absurd (false≢true (sym is));
       settling = λ is. record {
         pending = x;
-        settles = record { named = there; pending = holding; debit = refl; credit = refl; within = omega arith; shown = λ same. refl };
+        settles =
+            record { named = there; pending = holding; debit = refl; credit = refl; within = omega arith;
+                shown = λ same. refl };
         unsettled = unsettled;
       };
     }
 
 -- what a request asks for, by its flags
 plain_kind : (pending post void : Bool) → not (post || void) ≡ true
-    → settles (if pending then TwoPhasePending else if post then TwoPhasePosted else if void then TwoPhaseVoided else SinglePhase) ≡ false
+    → settles
+    (if pending then TwoPhasePending else if post then TwoPhasePosted else if void then TwoPhaseVoided else SinglePhase)
+    ≡ false
 plain_kind true post void plain = refl
 plain_kind false true void plain = absurd (false≢true plain)
 plain_kind false false true plain = absurd (false≢true plain)
 plain_kind false false false plain = refl
 
-settling_kind : (pending post void : Bool) → not (post || void) ≡ false → ((pending && post) || (pending && void) || (post && void)) ≡ false
-    → IsRequested (if pending then TwoPhasePending else if post then TwoPhasePosted else if void then TwoPhaseVoided else SinglePhase)
+settling_kind : (pending post void : Bool) → not (post || void) ≡ false
+    → ((pending && post) || (pending && void) || (post && void)) ≡ false
+    → IsRequested
+    (if pending then TwoPhasePending else if post then TwoPhasePosted else if void then TwoPhaseVoided else SinglePhase)
 settling_kind true true void plain one = absurd (false≢true (sym one))
 settling_kind true false true plain one = absurd (false≢true (sym one))
 settling_kind true false false plain one = absurd (false≢true (sym plain))
-settling_kind false true void plain one = record { settling = refl; holding = refl; named = λ x. refl; unexpired = λ same. cc }
-settling_kind false false true plain one = record { settling = refl; holding = refl; named = λ x. refl; unexpired = λ same. cc }
+settling_kind false true void plain one =
+    record { settling = refl; holding = refl; named = λ x. refl; unexpired = λ same. cc }
+settling_kind false false true plain one =
+    record { settling = refl; holding = refl; named = λ x. refl; unexpired = λ same. cc }
 settling_kind false false false plain one = absurd (false≢true (sym plain))
 
-apart_from : (r : NewTransfer) → is_plain_request r ≡ true → (is_plain_request r && (r.debit_account_id == r.credit_account_id)) ≡ false → r.debit_account_id ≢ r.credit_account_id
-apart_from r plain line same = false≢true (sym line ∙ and_from _ _ plain (eq-eqb r.debit_account_id r.credit_account_id same))
+apart_from : (r : NewTransfer) → is_plain_request r ≡ true
+    → (is_plain_request r && (r.debit_account_id == r.credit_account_id)) ≡ false
+    → r.debit_account_id ≢ r.credit_account_id
+apart_from r plain line same =
+    false≢true (sym line ∙ and_from _ _ plain (eq-eqb r.debit_account_id r.credit_account_id same))
 
 -- a request that no line refuses: its entry may come next
-pub Follows-accepted : (offered : Features) (h : History) (r : NewTransfer) (t : ℕ) → IsSound h → h.last < t → first_line (transfer_lines offered h r t) ≡ None → Follows h (entry_of h r t)
+pub Follows-accepted : (offered : Features) (h : History) (r : NewTransfer) (t : ℕ) → IsSound h → h.last < t
+    → first_line (transfer_lines offered h r t) ≡ None → Follows h (entry_of h r t)
 Follows-accepted offered h r t sound later none =
-    let parts : (first_line (transfer_shape_lines offered r) ≡ None) × (stored h r.id ≡ None) × (first_line (own_lines h r t) ≡ None) = no_line_parts offered h r t none in
+    let parts : (first_line (transfer_shape_lines offered r) ≡ None) × (stored h r.id ≡ None) ×
+        (first_line (own_lines h r t) ≡ None) = no_line_parts offered h r t none in
     by (is_plain_request r) refl (shape_passes offered r parts.0) parts.1 parts.2
   where
-    by : (plain : Bool) → is_plain_request r ≡ plain → ShapePasses r → stored h r.id ≡ None → first_line (own_lines h r t) ≡ None → Follows h (entry_of h r t)
+    by : (plain : Bool) → is_plain_request r ≡ plain → ShapePasses r → stored h r.id ≡ None
+        → first_line (own_lines h r t) ≡ None → Follows h (entry_of h r t)
     by true is shape new own =
         let passes : PlainPasses (opened h r.debit_account_id) (opened h r.credit_account_id) h r t =
         plain_passes (opened h r.debit_account_id) (opened h r.credit_account_id) h r t
-        (sym (ap (λ b. first_line (if b then plain_lines (opened h r.debit_account_id) (opened h r.credit_account_id) h r t else settling_lines (stored h r.pending_id) h r t)) is) ∙ own) in
-        let asked : filled h r t ≡ as_asked r t = ap (λ b. if b then as_asked r t else filled_by (stored h r.pending_id) r t) is in
+        (sym (ap
+        (λ b. first_line
+        (if b then plain_lines (opened h r.debit_account_id) (opened h r.credit_account_id) h r t else settling_lines
+        (stored h r.pending_id) h r t)) is) ∙ own) in
+        let asked : filled h r t ≡ as_asked r t =
+        ap (λ b. if b then as_asked r t else filled_by (stored h r.pending_id) r t) is in
         subst (λ (x : Transfer). Follows h (entry_with (kind_of r) x t)) (sym asked)
-        (Follows-plain (kind_of r) h r t sound later (plain_kind (is_pending_request r) (is_post_request r) (is_void_request r) is) new (apart_from r is shape.apart) passes)
+        (Follows-plain (kind_of r) h r t sound later
+        (plain_kind (is_pending_request r) (is_post_request r) (is_void_request r) is) new
+        (apart_from r is shape.apart) passes)
     by false is shape new own =
         let passes : SettlingPasses (stored h r.pending_id) h r t =
         settling_passes (stored h r.pending_id) h r t
-        (sym (ap (λ b. first_line (if b then plain_lines (opened h r.debit_account_id) (opened h r.credit_account_id) h r t else settling_lines (stored h r.pending_id) h r t)) is) ∙ own) in
+        (sym (ap
+        (λ b. first_line
+        (if b then plain_lines (opened h r.debit_account_id) (opened h r.credit_account_id) h r t else settling_lines
+        (stored h r.pending_id) h r t)) is) ∙ own) in
         let asked : filled h r t ≡ filled_from passes.pending.transfer r t =
-        ap (λ b. if b then as_asked r t else filled_by (stored h r.pending_id) r t) is ∙ ap (λ o. filled_by o r t) passes.there in
+        ap (λ b. if b then as_asked r t else filled_by (stored h r.pending_id) r t) is
+        ∙ ap (λ o. filled_by o r t) passes.there in
         subst (λ (x : Transfer). Follows h (entry_with (kind_of r) x t)) (sym asked)
-        (Follows-settling (kind_of r) h r t sound later (settling_kind (is_pending_request r) (is_post_request r) (is_void_request r) is shape.one_kind) new passes)
+        (Follows-settling (kind_of r) h r t sound later
+        (settling_kind (is_pending_request r) (is_post_request r) (is_void_request r) is shape.one_kind) new passes)

@@ -15,7 +15,8 @@ use Rattle.cdc_ledger.proofs.BalanceLaws.{balances_later, balances-pushed, balan
 map_every : (f g : Opened → Account) → ((o : Opened) → f o ≡ g o) → (os : List Opened) → map f os ≡ map g os
 map_every f g same os = map_same f g os (AllByRecursion-every (λ o. f o ≡ g o) same os)
 
-pub accounts_now-timed : (h : History) (t : ℕ) → IsUpTo h.last h → h.last ≤ t → accounts_now (timed h t) ≡ accounts_now h
+pub accounts_now-timed : (h : History) (t : ℕ) → IsUpTo h.last h → h.last ≤ t
+    → accounts_now (timed h t) ≡ accounts_now h
 accounts_now-timed h t within later = map_every (account_now (timed h t)) (account_now h)
     (λ o. ap (account_with o) (balances_later h o.request.id h.last t within later)) h.accounts
 
@@ -31,9 +32,11 @@ accounts_now-pushed h e sound follows after =
     ∙ sym (map-map (account_after h e) (account_now h) h.accounts)
 
 pub accounts_now-with_account : (h : History) (o : Opened) → IsUpTo h.last h → AllByRecursion (HasAccounts h) h.entries
-    → opened h o.request.id ≡ None → h.last ≤ o.timestamp → accounts_now (with_account h o) ≡ accounts_now h ++ account_with o no_balances ∷ []
+    → opened h o.request.id ≡ None → h.last ≤ o.timestamp
+    → accounts_now (with_account h o) ≡ accounts_now h ++ account_with o no_balances ∷ []
 accounts_now-with_account h o within known free later =
     map_push (account_now (with_account h o)) h.accounts o
     ∙ ap₂ (λ xs x. xs ++ x ∷ [])
-    (map_every (account_now (with_account h o)) (account_now h) (λ x. ap (account_with x) (balances_later h x.request.id h.last o.timestamp within later)) h.accounts)
+    (map_every (account_now (with_account h o)) (account_now h)
+    (λ x. ap (account_with x) (balances_later h x.request.id h.last o.timestamp within later)) h.accounts)
     (ap (account_with o) (balances_none h o.request.id o.timestamp known free))

@@ -25,7 +25,8 @@ use Rattle.cdc_ledger.proofs.StoredLaws.{is_stored, stored_has, apart-cons}
 -- `balances` reads the entries alone, so a change of accounts, last or closed leaves it by computation
 
 pub same_balances : (x y z w x' y' z' w' : ℕ) → x ≡ x' → y ≡ y' → z ≡ z' → w ≡ w'
-    → ◌≡◌ {A = Balances} (record { debits_pending = x; debits_posted = y; credits_pending = z; credits_posted = w }) (record { debits_pending = x'; debits_posted = y'; credits_pending = z'; credits_posted = w' })
+    → ◌≡◌ {A = Balances} (record { debits_pending = x; debits_posted = y; credits_pending = z; credits_posted = w })
+    (record { debits_pending = x'; debits_posted = y'; credits_pending = z'; credits_posted = w' })
 same_balances x y z w x' y' z' w' a b c d = cc
 
 -- two moments at which the same of the entries count
@@ -35,7 +36,8 @@ seen_alike e s t within later = le-leb e.timestamp t (omega arith) ∙ sym (le-l
 pub resolved_later : (h : History) (p : Transfer) (s t : ℕ) → IsUpTo s h → s ≤ t → resolved h p t ≡ resolved h p s
 resolved_later h p s t within later =
     list_any_same (λ e. nat_le e.timestamp t && resolves p e) (λ e. nat_le e.timestamp s && resolves p e) h.entries
-    (AllByRecursion-weaker (λ e. e.timestamp ≤ s) (λ e. (nat_le e.timestamp t && resolves p e) ≡ (nat_le e.timestamp s && resolves p e))
+    (AllByRecursion-weaker (λ e. e.timestamp ≤ s)
+    (λ e. (nat_le e.timestamp t && resolves p e) ≡ (nat_le e.timestamp s && resolves p e))
     (λ e at. ap (λ b. b && resolves p e) (seen_alike e s t at later)) h.entries within)
 
 -- what an entry holds back, resolved or not
@@ -44,35 +46,44 @@ held_by done e = if holds e.kind && not done then e.transfer.amount else 0
 
 -- a share of what agrees on the entries
 share_same : (f g : Entry → ℕ) (side : Transfer → ℕ) (a s t : ℕ) (es : List Entry)
-    → AllByRecursion (λ e. (f e ≡ g e) × (nat_le e.timestamp t ≡ nat_le e.timestamp s)) es → sum_by (share f side a t) es ≡ sum_by (share g side a s) es
+    → AllByRecursion (λ e. (f e ≡ g e) × (nat_le e.timestamp t ≡ nat_le e.timestamp s)) es
+    → sum_by (share f side a t) es ≡ sum_by (share g side a s) es
 share_same f g side a s t es agree =
     sum_by_same (share f side a t) (share g side a s) es
-    (AllByRecursion-weaker (λ e. (f e ≡ g e) × (nat_le e.timestamp t ≡ nat_le e.timestamp s)) (λ e. share f side a t e ≡ share g side a s e)
+    (AllByRecursion-weaker (λ e. (f e ≡ g e) × (nat_le e.timestamp t ≡ nat_le e.timestamp s))
+    (λ e. share f side a t e ≡ share g side a s e)
     (λ e at. ap₂ (λ b n. if b && (side e.transfer == a) then n else 0) at.1 at.0) es agree)
 
 module _ (h : History) (a s t : ℕ) (within : IsUpTo s h) (later : s ≤ t) where
   held_later : (e : Entry) → held h t e ≡ held h s e
   held_later e = ap (λ b. held_by b e) (resolved_later h e.transfer s t within later)
 
-  held_agree : (side : Transfer → ℕ) → sum_by (share (held h t) side a t) h.entries ≡ sum_by (share (held h s) side a s) h.entries
+  held_agree : (side : Transfer → ℕ)
+      → sum_by (share (held h t) side a t) h.entries ≡ sum_by (share (held h s) side a s) h.entries
   held_agree side = share_same (held h t) (held h s) side a s t h.entries
-      (AllByRecursion-weaker (λ e. e.timestamp ≤ s) (λ e. (held h t e ≡ held h s e) × (nat_le e.timestamp t ≡ nat_le e.timestamp s))
+      (AllByRecursion-weaker (λ e. e.timestamp ≤ s)
+      (λ e. (held h t e ≡ held h s e) × (nat_le e.timestamp t ≡ nat_le e.timestamp s))
       (λ e at. (held_later e, seen_alike e s t at later)) h.entries within)
 
-  pub moved_agree : (side : Transfer → ℕ) → sum_by (share moved side a t) h.entries ≡ sum_by (share moved side a s) h.entries
+  pub moved_agree : (side : Transfer → ℕ)
+      → sum_by (share moved side a t) h.entries ≡ sum_by (share moved side a s) h.entries
   moved_agree side = share_same moved moved side a s t h.entries
-      (AllByRecursion-weaker (λ e. e.timestamp ≤ s) (λ e. (moved e ≡ moved e) × (nat_le e.timestamp t ≡ nat_le e.timestamp s))
+      (AllByRecursion-weaker (λ e. e.timestamp ≤ s)
+      (λ e. (moved e ≡ moved e) × (nat_le e.timestamp t ≡ nat_le e.timestamp s))
       (λ e at. (refl, seen_alike e s t at later)) h.entries within)
 
 -- no entry lies between the moments s and t
 pub balances_later : (h : History) (a s t : ℕ) → IsUpTo s h → s ≤ t → balances h a t ≡ balances h a s
 balances_later h a s t within later =
-    same_balances _ _ _ _ _ _ _ _ (held_agree h a s t within later debit_side) (moved_agree h a s t within later debit_side)
+    same_balances _ _ _ _ _ _ _ _ (held_agree h a s t within later debit_side)
+    (moved_agree h a s t within later debit_side)
     (held_agree h a s t within later credit_side) (moved_agree h a s t within later credit_side)
 
 -- one more entry, and what it resolves
-pub resolved-pushed : (h : History) (e : Entry) (p : Transfer) (t : ℕ) → resolved (pushed h e) p t ≡ (resolved h p t || (nat_le e.timestamp t && resolves p e))
-resolved-pushed h e p t = list_any-append (λ x. nat_le x.timestamp t && resolves p x) h.entries (e ∷ []) ∙ ap (λ b. resolved h p t || b) (or_no _)
+pub resolved-pushed : (h : History) (e : Entry) (p : Transfer) (t : ℕ)
+    → resolved (pushed h e) p t ≡ (resolved h p t || (nat_le e.timestamp t && resolves p e))
+resolved-pushed h e p t = list_any-append (λ x. nat_le x.timestamp t && resolves p x) h.entries (e ∷ [])
+    ∙ ap (λ b. resolved h p t || b) (or_no _)
   where
     or_no : (b : Bool) → (b || false) ≡ b
     or_no true = refl
@@ -83,33 +94,48 @@ or_none true c q = refl
 or_none false c q = q
 
 -- the sums of one side, with one more entry that resolves nothing up to the moment t
-module _ (h : History) (e : Entry) (a t : ℕ) (none : (p : Transfer) → (nat_le e.timestamp t && resolves p e) ≡ false) where
+module _ (h : History) (e : Entry) (a t : ℕ)
+    (none : (p : Transfer) → (nat_le e.timestamp t && resolves p e) ≡ false) where
   held-pushed : (x : Entry) → held (pushed h e) t x ≡ held h t x
-  held-pushed x = ap (λ b. held_by b x) (resolved-pushed h e x.transfer t ∙ or_none (resolved h x.transfer t) _ (none x.transfer))
+  held-pushed x = ap (λ b. held_by b x)
+      (resolved-pushed h e x.transfer t ∙ or_none (resolved h x.transfer t) _ (none x.transfer))
 
-  share-pushed : (side : Transfer → ℕ) → sum_by (share (held (pushed h e) t) side a t) (h.entries ++ e ∷ []) ≡ sum_by (share (held h t) side a t) h.entries + share (held h t) side a t e
+  share-pushed : (side : Transfer → ℕ)
+      → sum_by (share (held (pushed h e) t) side a t) (h.entries ++ e ∷ [])
+      ≡ sum_by (share (held h t) side a t) h.entries + share (held h t) side a t e
   share-pushed side =
       sum_by_every (share (held (pushed h e) t) side a t) (share (held h t) side a t)
-      (λ x. ap (λ n. if nat_le x.timestamp t && (side x.transfer == a) then n else 0) (held-pushed x)) (h.entries ++ e ∷ [])
+      (λ x. ap (λ n. if nat_le x.timestamp t && (side x.transfer == a) then n else 0) (held-pushed x))
+      (h.entries ++ e ∷ [])
       ∙ sum_by_push (share (held h t) side a t) h.entries e
 
 share_after : (f : Entry → ℕ) (side : Transfer → ℕ) (a t : ℕ) (e : Entry) → t < e.timestamp → share f side a t e ≡ 0
 share_after f side a t e after = ap (λ b. if b && (side e.transfer == a) then f e else 0) (lt-leb e.timestamp t after)
 
 -- an entry after the moment t, of any kind
-pub balances-pushed_before : (h : History) (e : Entry) (a t : ℕ) → t < e.timestamp → balances (pushed h e) a t ≡ balances h a t
+pub balances-pushed_before : (h : History) (e : Entry) (a t : ℕ) → t < e.timestamp
+    → balances (pushed h e) a t ≡ balances h a t
 balances-pushed_before h e a t after =
-    let none : (p : Transfer) → (nat_le e.timestamp t && resolves p e) ≡ false = λ p. ap (λ b. b && resolves p e) (lt-leb e.timestamp t after) in
-    let held_same : (side : Transfer → ℕ) → sum_by (share (held (pushed h e) t) side a t) (h.entries ++ e ∷ []) ≡ sum_by (share (held h t) side a t) h.entries =
-    λ side. share-pushed h e a t none side ∙ (ap (λ n. sum_by (share (held h t) side a t) h.entries + n) (share_after (held h t) side a t e after) ∙ add-zero _) in
-    let moved_same : (side : Transfer → ℕ) → sum_by (share moved side a t) (h.entries ++ e ∷ []) ≡ sum_by (share moved side a t) h.entries =
-    λ side. sum_by_push (share moved side a t) h.entries e ∙ (ap (λ n. sum_by (share moved side a t) h.entries + n) (share_after moved side a t e after) ∙ add-zero _) in
-    same_balances _ _ _ _ _ _ _ _ (held_same debit_side) (moved_same debit_side) (held_same credit_side) (moved_same credit_side)
+    let none : (p : Transfer) → (nat_le e.timestamp t && resolves p e) ≡ false =
+    λ p. ap (λ b. b && resolves p e) (lt-leb e.timestamp t after) in
+    let held_same : (side : Transfer → ℕ) → sum_by (share (held (pushed h e) t) side a t) (h.entries ++ e ∷ [])
+        ≡ sum_by (share (held h t) side a t) h.entries =
+    λ side. share-pushed h e a t none side
+    ∙ (ap (λ n. sum_by (share (held h t) side a t) h.entries + n) (share_after (held h t) side a t e after)
+    ∙ add-zero _) in
+    let moved_same : (side : Transfer → ℕ) → sum_by (share moved side a t) (h.entries ++ e ∷ [])
+        ≡ sum_by (share moved side a t) h.entries =
+    λ side. sum_by_push (share moved side a t) h.entries e
+    ∙ (ap (λ n. sum_by (share moved side a t) h.entries + n) (share_after moved side a t e after) ∙ add-zero _) in
+    same_balances _ _ _ _ _ _ _ _ (held_same debit_side) (moved_same debit_side) (held_same credit_side)
+    (moved_same credit_side)
 
 -- two of the four sums are what is left of the others
-same_changed : (x y z w dr dh dm cr ch cm : ℕ) (b : Balances) → x + dr ≡ b.debits_pending + dh → y ≡ b.debits_posted + dm → z + cr ≡ b.credits_pending + ch → w ≡ b.credits_posted + cm
+same_changed : (x y z w dr dh dm cr ch cm : ℕ) (b : Balances) → x + dr ≡ b.debits_pending + dh
+    → y ≡ b.debits_posted + dm → z + cr ≡ b.credits_pending + ch → w ≡ b.credits_posted + cm
     → ◌≡◌ {A = Balances} (record { debits_pending = x; debits_posted = y; credits_pending = z; credits_posted = w })
-    (record { debits_pending = b.debits_pending + dh - dr; debits_posted = b.debits_posted + dm; credits_pending = b.credits_pending + ch - cr; credits_posted = b.credits_posted + cm })
+    (record { debits_pending = b.debits_pending + dh - dr; debits_posted = b.debits_posted + dm;
+    credits_pending = b.credits_pending + ch - cr; credits_posted = b.credits_posted + cm })
 same_changed x y z w dr dh dm cr ch cm b p q r s =
     let debits : x ≡ b.debits_pending + dh - dr = omega arith in
     let credits : z ≡ b.credits_pending + ch - cr = omega arith in
@@ -120,7 +146,8 @@ first_alone : (b : Bool) → (b || false || false) ≡ b
 first_alone true = refl
 first_alone false = refl
 
-resolves_kind : (k : EventKind) (x p : Transfer) → (posts k x p || voids k x p || expires k x p) ≡ (settles k && (settled_id k x == p.id))
+resolves_kind : (k : EventKind) (x p : Transfer)
+    → (posts k x p || voids k x p || expires k x p) ≡ (settles k && (settled_id k x == p.id))
 resolves_kind SinglePhase x p = refl
 resolves_kind TwoPhasePending x p = refl
 resolves_kind TwoPhasePosted x p = first_alone (x.pending_id == p.id)
@@ -131,7 +158,8 @@ pub resolves_is : (e : Entry) (p : Transfer) → resolves p e ≡ (settles e.kin
 resolves_is e p = resolves_kind e.kind e.transfer p
 
 -- the pending transfer that an entry settles is the one that it names
-settled_kind : (k : EventKind) (h : History) (y : Transfer) (x : Entry) → settles k ≡ true → stored h (settled_id k y) ≡ Some x → (k ≡ TwoPhaseExpired → y ≡ x.transfer)
+settled_kind : (k : EventKind) (h : History) (y : Transfer) (x : Entry) → settles k ≡ true
+    → stored h (settled_id k y) ≡ Some x → (k ≡ TwoPhaseExpired → y ≡ x.transfer)
     → settled_in k h y ≡ Some x.transfer
 settled_kind SinglePhase h y x is named shown = absurd (false≢true is)
 settled_kind TwoPhasePending h y x is named shown = absurd (false≢true is)
@@ -139,7 +167,8 @@ settled_kind TwoPhasePosted h y x is named shown = ap (option_map (λ (e : Entry
 settled_kind TwoPhaseVoided h y x is named shown = ap (option_map (λ (e : Entry). e.transfer)) named
 settled_kind TwoPhaseExpired h y x is named shown = ap (λ (p : Transfer). Some p) (shown refl)
 
-pub settled_by_is : (h : History) (e x : Entry) → settles e.kind ≡ true → Settles h e x → settled_by h e ≡ Some x.transfer
+pub settled_by_is : (h : History) (e x : Entry) → settles e.kind ≡ true → Settles h e x
+    → settled_by h e ≡ Some x.transfer
 settled_by_is h e x is of = settled_kind e.kind h e.transfer x is of.named of.shown
 
 settled_kind_none : (k : EventKind) (h : History) (y : Transfer) → settles k ≡ false → settled_in k h y ≡ None
@@ -168,20 +197,23 @@ stores-holds TwoPhaseExpired is = absurd (false≢true is)
 
 -- what is resolved right after an entry: what was, and what it brings to its end
 pub resolved_then : (h : History) (e : Entry) (p : Transfer) → IsUpTo h.last h → h.last < e.timestamp
-    → resolved (pushed h e) p e.timestamp ≡ (resolved h p h.last || (settles e.kind && (settled_id e.kind e.transfer == p.id)))
+    → resolved (pushed h e) p e.timestamp
+    ≡ (resolved h p h.last || (settles e.kind && (settled_id e.kind e.transfer == p.id)))
 resolved_then h e p within after =
     resolved-pushed h e p e.timestamp
     ∙ ap₂ (λ b c. b || c) (resolved_later h p h.last e.timestamp within (omega arith))
     (ap (λ b. b && resolves p e) (le-leb e.timestamp e.timestamp (omega arith)) ∙ resolves_is e p)
 
 -- nothing resolved a transfer whose id is new
-module _ (h : History) (p : Transfer) (t : ℕ) (standing : AllByRecursion (Stands h) h.entries) (fresh : stored h p.id ≡ None) where
+module _ (h : History) (p : Transfer) (t : ℕ) (standing : AllByRecursion (Stands h) h.entries)
+    (fresh : stored h p.id ≡ None) where
   names_other : (x : Entry) (b : Bool) → settles x.kind ≡ b → Stands h x → resolves p x ≡ false
   names_other x false is stands = resolves_is x p ∙ ap (λ b. b && (settled_id x.kind x.transfer == p.id)) is
   names_other x true is stands =
       let named : (y : Entry) × Settles h x y = stands.settling is in
       resolves_is x p ∙ and_right (settles x.kind) (settled_id x.kind x.transfer == p.id)
-      (ne_eqb (settled_id x.kind x.transfer) p.id (λ same. let none : stored h (settled_id x.kind x.transfer) ≡ None = ap (stored h) same ∙ fresh in
+      (ne_eqb (settled_id x.kind x.transfer) p.id
+      (λ same. let none : stored h (settled_id x.kind x.transfer) ≡ None = ap (stored h) same ∙ fresh in
       let some : stored h (settled_id x.kind x.transfer) ≡ Some named.0 = named.1.named in
       let clash : ◌≡◌ {A = Option Entry} None (Some named.0) = sym none ∙ some in
       cc))
@@ -189,25 +221,33 @@ module _ (h : History) (p : Transfer) (t : ℕ) (standing : AllByRecursion (Stan
   pub resolved_none : resolved h p t ≡ false
   resolved_none = list_any_none (λ x. nat_le x.timestamp t && resolves p x) h.entries
       (AllByRecursion-weaker (Stands h) (λ x. (nat_le x.timestamp t && resolves p x) ≡ false)
-      (λ x stands. and_right (nat_le x.timestamp t) (resolves p x) (names_other x (settles x.kind) refl stands)) h.entries standing)
+      (λ x stands. and_right (nat_le x.timestamp t) (resolves p x) (names_other x (settles x.kind) refl stands))
+      h.entries standing)
 
 -- a sum in which the one entry that stored the transfer of an id no longer counts
 module _ (id : ℕ) (before now : Entry → ℕ) where
   abbrev Falls : Entry → Type 0
   Falls y = now y ≡ (if is_stored id y then 0 else before y)
 
-  none_falls : (ys : List Entry) → AllByRecursion (λ y. is_stored id y ≡ false) ys → AllByRecursion Falls ys → sum_by now ys ≡ sum_by before ys
+  none_falls : (ys : List Entry) → AllByRecursion (λ y. is_stored id y ≡ false) ys → AllByRecursion Falls ys
+      → sum_by now ys ≡ sum_by before ys
   none_falls ys others falls = sum_by_same now before ys
-      (AllByRecursion-weaker (λ y. (is_stored id y ≡ false) × Falls y) (λ y. now y ≡ before y) (λ y at. at.1 ∙ ap (λ b. if b then 0 else before y) at.0) ys
+      (AllByRecursion-weaker (λ y. (is_stored id y ≡ false) × Falls y) (λ y. now y ≡ before y)
+      (λ y at. at.1 ∙ ap (λ b. if b then 0 else before y) at.0) ys
       (AllByRecursion-both (λ y. is_stored id y ≡ false) Falls ys others falls))
 
-  first_falls : (b : Bool) (y x : Entry) (ys : List Entry) → is_stored id y ≡ b → AreApart (stored_ids (y ∷ ys)) → Falls y → AllByRecursion Falls ys
+  first_falls : (b : Bool) (y x : Entry) (ys : List Entry) → is_stored id y ≡ b → AreApart (stored_ids (y ∷ ys))
+      → Falls y → AllByRecursion Falls ys
       → (stored_in ys id ≡ Some x → sum_by now ys + before x ≡ sum_by before ys)
-      → (if b then Some y else stored_in ys id) ≡ Some x → (now y + sum_by now ys) + before x ≡ before y + sum_by before ys
+      → (if b then Some y else stored_in ys id) ≡ Some x
+      → (now y + sum_by now ys) + before x ≡ before y + sum_by before ys
   first_falls true y x ys is apart here falls rest there =
       let same : y ≡ x = cc in
-      let both : (stores y.kind ≡ true) × ((y.transfer.id == id) ≡ true) = and_parts (stores y.kind) (y.transfer.id == id) is in
-      let others : AllByRecursion (λ z. is_stored id z ≡ false) ys = subst (λ n. AllByRecursion (λ z. is_stored n z ≡ false) ys) (eqb-true y.transfer.id id both.1) ((apart-cons y ys apart).1 both.0) in
+      let both : (stores y.kind ≡ true) × ((y.transfer.id == id) ≡ true) =
+      and_parts (stores y.kind) (y.transfer.id == id) is in
+      let others : AllByRecursion (λ z. is_stored id z ≡ false) ys =
+      subst (λ n. AllByRecursion (λ z. is_stored n z ≡ false) ys) (eqb-true y.transfer.id id both.1)
+      ((apart-cons y ys apart).1 both.0) in
       let gone : now y ≡ 0 = here ∙ ap (λ b. if b then 0 else before y) is in
       let tail : sum_by now ys ≡ sum_by before ys = none_falls ys others falls in
       let held : before x ≡ before y = ap before (sym same) in
@@ -217,15 +257,19 @@ module _ (id : ℕ) (before now : Entry → ℕ) where
       let kept : now y ≡ before y = here ∙ ap (λ b. if b then 0 else before y) is in
       omega arith
 
-  pub one_falls : (ys : List Entry) (x : Entry) → AreApart (stored_ids ys) → stored_in ys id ≡ Some x → AllByRecursion Falls ys → sum_by now ys + before x ≡ sum_by before ys
+  pub one_falls : (ys : List Entry) (x : Entry) → AreApart (stored_ids ys) → stored_in ys id ≡ Some x
+      → AllByRecursion Falls ys → sum_by now ys + before x ≡ sum_by before ys
   one_falls [] x apart there falls = cc
   one_falls (y ∷ ys) x apart there falls =
       ap (λ n. n + before x) (sum_by-cons now y ys)
-      ∙ (first_falls (is_stored id y) y x ys refl apart falls.0 falls.1 (λ later. one_falls ys x (apart-cons y ys apart).0 later falls.1) there
+      ∙ (first_falls (is_stored id y) y x ys refl apart falls.0 falls.1
+      (λ later. one_falls ys x (apart-cons y ys apart).0 later falls.1) there
       ∙ sym (sum_by-cons before y ys))
 
 -- what an entry holds, once the transfer of an id is resolved too
-held_falls : (k : EventKind) (done same : Bool) (n : ℕ) → (if holds k && not (done || same) then n else 0) ≡ (if stores k && same then 0 else (if holds k && not done then n else 0))
+held_falls : (k : EventKind) (done same : Bool) (n : ℕ)
+    → (if holds k && not (done || same) then n else 0)
+    ≡ (if stores k && same then 0 else (if holds k && not done then n else 0))
 held_falls SinglePhase done true n = refl
 held_falls SinglePhase done false n = refl
 held_falls TwoPhasePending true true n = refl
@@ -238,7 +282,8 @@ held_falls TwoPhaseVoided done true n = refl
 held_falls TwoPhaseVoided done false n = refl
 held_falls TwoPhaseExpired done same n = refl
 
-share_falls : (sees gone : Bool) (n : ℕ) → (if sees then (if gone then 0 else n) else 0) ≡ (if gone then 0 else (if sees then n else 0))
+share_falls : (sees gone : Bool) (n : ℕ)
+    → (if sees then (if gone then 0 else n) else 0) ≡ (if gone then 0 else (if sees then n else 0))
 share_falls true gone n = refl
 share_falls false true n = refl
 share_falls false false n = refl
@@ -251,7 +296,8 @@ eqb_swap m n = by (m == n) refl
     by false is = is ∙ sym (ne_eqb n m (λ same. eqb-false m n is (sym same)))
 
 -- the sums of what is pending on one side of an account, before an entry and right after it
-module _ (h : History) (e : Entry) (a : ℕ) (sound : IsSound h) (follows : Follows h e) (after : h.last < e.timestamp) where
+module _ (h : History) (e : Entry) (a : ℕ) (sound : IsSound h) (follows : Follows h e)
+    (after : h.last < e.timestamp) where
   abbrev before : (Transfer → ℕ) → Entry → ℕ
   before side x = share (held h h.last) side a h.last x
 
@@ -273,49 +319,77 @@ module _ (h : History) (e : Entry) (a : ℕ) (sound : IsSound h) (follows : Foll
       settles-holds TwoPhaseVoided is = absurd (false≢true is)
       settles-holds TwoPhaseExpired is = absurd (false≢true is)
 
-  own_held : (b : Bool) → holds e.kind ≡ b → (if holds e.kind && not (resolved (pushed h e) e.transfer e.timestamp) then e.transfer.amount else 0) ≡ (if holds e.kind then e.transfer.amount else 0)
-  own_held true is = ap₂ (λ b c. if b && not c then e.transfer.amount else 0) is (own_unresolved is) ∙ sym (ap (λ b. if b then e.transfer.amount else 0) is)
-  own_held false is = ap (λ b. if b && not (resolved (pushed h e) e.transfer e.timestamp) then e.transfer.amount else 0) is ∙ sym (ap (λ b. if b then e.transfer.amount else 0) is)
+  own_held : (b : Bool) → holds e.kind ≡ b
+      → (if holds e.kind && not (resolved (pushed h e) e.transfer e.timestamp) then e.transfer.amount else 0)
+      ≡ (if holds e.kind then e.transfer.amount else 0)
+  own_held true is = ap₂ (λ b c. if b && not c then e.transfer.amount else 0) is (own_unresolved is)
+      ∙ sym (ap (λ b. if b then e.transfer.amount else 0) is)
+  own_held false is = ap (λ b. if b && not (resolved (pushed h e) e.transfer e.timestamp) then e.transfer.amount else 0)
+      is ∙ sym (ap (λ b. if b then e.transfer.amount else 0) is)
 
   own : (side : Transfer → ℕ) → right_after side e ≡ part (side e.transfer) a (effect_of h e).held
-  own side = ap₂ (λ b n. if b && (side e.transfer == a) then n else 0) (le-leb e.timestamp e.timestamp (omega arith)) (own_held (holds e.kind) refl)
+  own side = ap₂ (λ b n. if b && (side e.transfer == a) then n else 0) (le-leb e.timestamp e.timestamp (omega arith))
+      (own_held (holds e.kind) refl)
 
-  then_sum : (side : Transfer → ℕ) → sum_by (right_after side) (h.entries ++ e ∷ []) ≡ sum_by (right_after side) h.entries + part (side e.transfer) a (effect_of h e).held
-  then_sum side = sum_by_push (right_after side) h.entries e ∙ ap (λ n. sum_by (right_after side) h.entries + n) (own side)
+  then_sum : (side : Transfer → ℕ)
+      → sum_by (right_after side) (h.entries ++ e ∷ []) ≡ sum_by (right_after side) h.entries + part (side e.transfer) a
+      (effect_of h e).held
+  then_sum side = sum_by_push (right_after side) h.entries e
+      ∙ ap (λ n. sum_by (right_after side) h.entries + n) (own side)
 
   -- where it settles nothing, all others hold what they held
-  unchanged : settles e.kind ≡ false → (side : Transfer → ℕ) → sum_by (right_after side) h.entries ≡ sum_by (before side) h.entries
+  unchanged : settles e.kind ≡ false → (side : Transfer → ℕ)
+      → sum_by (right_after side) h.entries ≡ sum_by (before side) h.entries
   unchanged none side = share_same (held (pushed h e) e.timestamp) (held h h.last) side a h.last e.timestamp h.entries
-      (AllByRecursion-weaker (λ x. x.timestamp ≤ h.last) (λ x. (held (pushed h e) e.timestamp x ≡ held h h.last x) × (nat_le x.timestamp e.timestamp ≡ nat_le x.timestamp h.last))
-      (λ x at. (ap (λ b. held_by b x) (resolved_then h e x.transfer sound.past after ∙ ap (λ b. resolved h x.transfer h.last || (b && (settled_id e.kind e.transfer == x.transfer.id))) none ∙ or_none (resolved h x.transfer h.last) false refl), seen_alike x h.last e.timestamp at (omega arith)))
+      (AllByRecursion-weaker (λ x. x.timestamp ≤ h.last)
+      (λ x. (held (pushed h e) e.timestamp x ≡ held h h.last x) ×
+      (nat_le x.timestamp e.timestamp ≡ nat_le x.timestamp h.last))
+      (λ x at.
+      (ap (λ b. held_by b x)
+      (resolved_then h e x.transfer sound.past after
+      ∙ ap (λ b. resolved h x.transfer h.last || (b && (settled_id e.kind e.transfer == x.transfer.id))) none
+      ∙ or_none (resolved h x.transfer h.last) false refl), seen_alike x h.last e.timestamp at (omega arith)))
       h.entries sound.past)
 
   -- where it settles one, that one holds nothing any more
-  falls_one : settles e.kind ≡ true → (side : Transfer → ℕ) (x : Entry) → x.timestamp ≤ h.last → Falls (settled_id e.kind e.transfer) (before side) (right_after side) x
+  falls_one : settles e.kind ≡ true → (side : Transfer → ℕ) (x : Entry) → x.timestamp ≤ h.last
+      → Falls (settled_id e.kind e.transfer) (before side) (right_after side) x
   falls_one is side x at =
-      let sees : nat_le x.timestamp e.timestamp ≡ nat_le x.timestamp h.last = seen_alike x h.last e.timestamp at (omega arith) in
-      let done : resolved (pushed h e) x.transfer e.timestamp ≡ (resolved h x.transfer h.last || (x.transfer.id == settled_id e.kind e.transfer)) =
-      resolved_then h e x.transfer sound.past after ∙ ap₂ (λ b c. resolved h x.transfer h.last || (b && c)) is (eqb_swap (settled_id e.kind e.transfer) x.transfer.id) in
+      let sees : nat_le x.timestamp e.timestamp ≡ nat_le x.timestamp h.last =
+      seen_alike x h.last e.timestamp at (omega arith) in
+      let done : resolved (pushed h e) x.transfer e.timestamp
+          ≡ (resolved h x.transfer h.last || (x.transfer.id == settled_id e.kind e.transfer)) =
+      resolved_then h e x.transfer sound.past after
+      ∙ ap₂ (λ b c. resolved h x.transfer h.last || (b && c)) is
+      (eqb_swap (settled_id e.kind e.transfer) x.transfer.id) in
       ap₂ (λ b c. if b && (side x.transfer == a) then held_by c x else 0) sees done
-      ∙ (ap (λ n. if nat_le x.timestamp h.last && (side x.transfer == a) then n else 0) (held_falls x.kind (resolved h x.transfer h.last) (x.transfer.id == settled_id e.kind e.transfer) x.transfer.amount)
-      ∙ share_falls (nat_le x.timestamp h.last && (side x.transfer == a)) (is_stored (settled_id e.kind e.transfer) x) (held h h.last x))
+      ∙ (ap (λ n. if nat_le x.timestamp h.last && (side x.transfer == a) then n else 0)
+      (held_falls x.kind (resolved h x.transfer h.last)
+      (x.transfer.id == settled_id e.kind e.transfer) x.transfer.amount)
+      ∙ share_falls (nat_le x.timestamp h.last && (side x.transfer == a)) (is_stored (settled_id e.kind e.transfer) x)
+      (held h h.last x))
 
-  released_one : (side : Transfer → ℕ) (x : Entry) → stored h (settled_id e.kind e.transfer) ≡ Some x → holds x.kind ≡ true → resolved h x.transfer h.last ≡ false
+  released_one : (side : Transfer → ℕ) (x : Entry) → stored h (settled_id e.kind e.transfer) ≡ Some x
+      → holds x.kind ≡ true → resolved h x.transfer h.last ≡ false
       → before side x ≡ part (side x.transfer) a x.transfer.amount
   released_one side x named is unsettled =
       ap₂ (λ b c. if b && (side x.transfer == a) then c else 0)
-      (le-leb x.timestamp h.last (stored_has (λ y. y.timestamp ≤ h.last) h (settled_id e.kind e.transfer) x sound.past named))
+      (le-leb x.timestamp h.last
+      (stored_has (λ y. y.timestamp ≤ h.last) h (settled_id e.kind e.transfer) x sound.past named))
       (ap₂ (λ b c. if b && not c then x.transfer.amount else 0) is unsettled)
 
-  pub settled_sum : (side : Transfer → ℕ) → settles e.kind ≡ true → (x : Entry) → Settles h e x → resolved h x.transfer h.last ≡ false → side e.transfer ≡ side x.transfer
-      → sum_by (right_after side) h.entries + part (side e.transfer) a (effect_of h e).released ≡ sum_by (before side) h.entries
+  pub settled_sum : (side : Transfer → ℕ) → settles e.kind ≡ true → (x : Entry) → Settles h e x
+      → resolved h x.transfer h.last ≡ false → side e.transfer ≡ side x.transfer
+      → sum_by (right_after side) h.entries + part (side e.transfer) a (effect_of h e).released
+      ≡ sum_by (before side) h.entries
   settled_sum side is x of unsettled sides =
       let amount : (effect_of h e).released ≡ x.transfer.amount = ap amount_of (settled_by_is h e x is of) in
       let taken : part (side e.transfer) a (effect_of h e).released ≡ before side x =
       ap₂ (λ s n. part s a n) sides amount ∙ sym (released_one side x of.named of.pending unsettled) in
       ap (λ n. sum_by (right_after side) h.entries + n) taken
       ∙ one_falls (settled_id e.kind e.transfer) (before side) (right_after side) h.entries x sound.once of.named
-      (AllByRecursion-weaker (λ y. y.timestamp ≤ h.last) (Falls (settled_id e.kind e.transfer) (before side) (right_after side)) (falls_one is side) h.entries sound.past)
+      (AllByRecursion-weaker (λ y. y.timestamp ≤ h.last)
+      (Falls (settled_id e.kind e.transfer) (before side) (right_after side)) (falls_one is side) h.entries sound.past)
 
   nothing : (b : Bool) → ◌≡◌ {A = ℕ} (if b then 0 else 0) 0
   nothing true = refl
@@ -323,28 +397,37 @@ module _ (h : History) (e : Entry) (a : ℕ) (sound : IsSound h) (follows : Foll
 
   -- what leaves was there
   abbrev Fits : (Transfer → ℕ) → Type 0
-  Fits side = (sum_by (right_after side) h.entries + part (side e.transfer) a (effect_of h e).released ≡ sum_by (before side) h.entries)
+  Fits side =
+      (sum_by (right_after side) h.entries + part (side e.transfer) a (effect_of h e).released
+      ≡ sum_by (before side) h.entries)
 
   taken_out : (b : Bool) → settles e.kind ≡ b → Fits debit_side × Fits credit_side
   taken_out true is =
       let of : SettlesOpen h e = follows.settling is in
-      (settled_sum debit_side is of.pending of.settles of.unsettled of.settles.debit, settled_sum credit_side is of.pending of.settles of.unsettled of.settles.credit)
+      (settled_sum debit_side is of.pending of.settles of.unsettled of.settles.debit,
+      settled_sum credit_side is of.pending of.settles of.unsettled of.settles.credit)
   taken_out false is =
       let none : (effect_of h e).released ≡ 0 = ap amount_of (settled_by_none h e is) in
       (nothing_out debit_side none, nothing_out credit_side none)
     where
       nothing_out : (side : Transfer → ℕ) → (effect_of h e).released ≡ 0 → Fits side
       nothing_out side none =
-          let zero_out : part (side e.transfer) a (effect_of h e).released ≡ 0 = ap (part (side e.transfer) a) none ∙ nothing (side e.transfer == a) in
+          let zero_out : part (side e.transfer) a (effect_of h e).released ≡ 0 = ap (part (side e.transfer) a) none
+              ∙ nothing (side e.transfer == a) in
           let same : sum_by (right_after side) h.entries ≡ sum_by (before side) h.entries = unchanged is side in
           omega arith
 
-  pub pending_then : (side : Transfer → ℕ) → Fits side → sum_by (right_after side) (h.entries ++ e ∷ []) + part (side e.transfer) a (effect_of h e).released ≡ sum_by (before side) h.entries + part (side e.transfer) a (effect_of h e).held
+  pub pending_then : (side : Transfer → ℕ) → Fits side
+      → sum_by (right_after side) (h.entries ++ e ∷ []) + part (side e.transfer) a (effect_of h e).released
+      ≡ sum_by (before side) h.entries + part (side e.transfer) a (effect_of h e).held
   pending_then side fits =
-      let all : sum_by (right_after side) (h.entries ++ e ∷ []) ≡ sum_by (right_after side) h.entries + part (side e.transfer) a (effect_of h e).held = then_sum side in
+      let all : sum_by (right_after side) (h.entries ++ e ∷ []) ≡ sum_by (right_after side) h.entries + part
+          (side e.transfer) a (effect_of h e).held = then_sum side in
       omega arith
 
-  moved_then : (side : Transfer → ℕ) → sum_by (share moved side a e.timestamp) (h.entries ++ e ∷ []) ≡ sum_by (share moved side a h.last) h.entries + part (side e.transfer) a (effect_of h e).moved
+  moved_then : (side : Transfer → ℕ)
+      → sum_by (share moved side a e.timestamp) (h.entries ++ e ∷ [])
+      ≡ sum_by (share moved side a h.last) h.entries + part (side e.transfer) a (effect_of h e).moved
   moved_then side = sum_by_push (share moved side a e.timestamp) h.entries e
       ∙ ap₂ (λ m n. m + n) (moved_agree h a h.last e.timestamp sound.past (omega arith) side)
       (ap (λ b. if b && (side e.transfer == a) then moved e else 0) (le-leb e.timestamp e.timestamp (omega arith)))
@@ -353,38 +436,49 @@ module _ (h : History) (e : Entry) (a : ℕ) (sound : IsSound h) (follows : Foll
   pub balances-pushed : balances (pushed h e) a e.timestamp ≡ changed_by h e a (balances h a h.last)
   balances-pushed =
       let both : Fits debit_side × Fits credit_side = taken_out (settles e.kind) refl in
-      same_changed _ _ _ _ _ _ _ _ _ _ (balances h a h.last) (pending_then debit_side both.0) (moved_then debit_side) (pending_then credit_side both.1) (moved_then credit_side)
+      same_changed _ _ _ _ _ _ _ _ _ _ (balances h a h.last) (pending_then debit_side both.0) (moved_then debit_side)
+      (pending_then credit_side both.1) (moved_then credit_side)
 
   -- what leaves the pending sums was in them
-  pub released_fits : (part e.transfer.debit_account_id a (effect_of h e).released ≤ (balances h a h.last).debits_pending)
+  pub released_fits :
+      (part e.transfer.debit_account_id a (effect_of h e).released ≤ (balances h a h.last).debits_pending)
       × (part e.transfer.credit_account_id a (effect_of h e).released ≤ (balances h a h.last).credits_pending)
   released_fits =
       let both : Fits debit_side × Fits credit_side = taken_out (settles e.kind) refl in
       (omega (arith, both.0), omega (arith, both.1))
 
 -- what leaves the pending sums of the two accounts
-pub released_debit : (h : History) (e : Entry) → IsSound h → Follows h e → h.last < e.timestamp → (effect_of h e).released ≤ (balances h e.transfer.debit_account_id h.last).debits_pending
+pub released_debit : (h : History) (e : Entry) → IsSound h → Follows h e → h.last < e.timestamp
+    → (effect_of h e).released ≤ (balances h e.transfer.debit_account_id h.last).debits_pending
 released_debit h e sound follows after =
-    subst (λ b. (if b then (effect_of h e).released else 0) ≤ (balances h e.transfer.debit_account_id h.last).debits_pending)
+    subst (λ b. (if b then (effect_of h e).released else 0)
+    ≤ (balances h e.transfer.debit_account_id h.last).debits_pending)
     (eq-eqb e.transfer.debit_account_id e.transfer.debit_account_id refl)
     (released_fits h e e.transfer.debit_account_id sound follows after).0
 
-pub released_credit : (h : History) (e : Entry) → IsSound h → Follows h e → h.last < e.timestamp → (effect_of h e).released ≤ (balances h e.transfer.credit_account_id h.last).credits_pending
+pub released_credit : (h : History) (e : Entry) → IsSound h → Follows h e → h.last < e.timestamp
+    → (effect_of h e).released ≤ (balances h e.transfer.credit_account_id h.last).credits_pending
 released_credit h e sound follows after =
-    subst (λ b. (if b then (effect_of h e).released else 0) ≤ (balances h e.transfer.credit_account_id h.last).credits_pending)
+    subst (λ b. (if b then (effect_of h e).released else 0)
+    ≤ (balances h e.transfer.credit_account_id h.last).credits_pending)
     (eq-eqb e.transfer.credit_account_id e.transfer.credit_account_id refl)
     (released_fits h e e.transfer.credit_account_id sound follows after).1
 
 -- an account that isn't opened is named by no entry
 module _ (h : History) (a t : ℕ) (known : AllByRecursion (HasAccounts h) h.entries) (free : opened h a ≡ None) where
   other : (id : ℕ) → IsSome (opened h id) → (id == a) ≡ false
-  other id some = ne_eqb id a (λ same. false≢true (sym (ap is_some free) ∙ (sym (ap (λ n. is_some (opened h n)) same) ∙ some)))
+  other id some =
+      ne_eqb id a (λ same. false≢true (sym (ap is_some free) ∙ (sym (ap (λ n. is_some (opened h n)) same) ∙ some)))
 
-  none_of : (f : Entry → ℕ) (side : Transfer → ℕ) → ((e : Entry) → HasAccounts h e → IsSome (opened h (side e.transfer))) → sum_by (share f side a t) h.entries ≡ 0
+  none_of : (f : Entry → ℕ) (side : Transfer → ℕ)
+      → ((e : Entry) → HasAccounts h e → IsSome (opened h (side e.transfer))) → sum_by (share f side a t) h.entries ≡ 0
   none_of f side there = sum_by_zero (share f side a t) h.entries
       (AllByRecursion-weaker (HasAccounts h) (λ e. share f side a t e ≡ 0)
-      (λ e has. ap (λ b. if b then f e else 0) (and_right (nat_le e.timestamp t) (side e.transfer == a) (other (side e.transfer) (there e has)))) h.entries known)
+      (λ e has. ap (λ b. if b then f e else 0)
+      (and_right (nat_le e.timestamp t) (side e.transfer == a) (other (side e.transfer) (there e has)))) h.entries
+      known)
 
   pub balances_none : balances h a t ≡ no_balances
-  balances_none = same_balances _ _ _ _ _ _ _ _ (none_of (held h t) debit_side (λ e has. has.0)) (none_of moved debit_side (λ e has. has.0))
+  balances_none = same_balances _ _ _ _ _ _ _ _ (none_of (held h t) debit_side (λ e has. has.0))
+      (none_of moved debit_side (λ e has. has.0))
       (none_of (held h t) credit_side (λ e has. has.1)) (none_of moved credit_side (λ e has. has.1))

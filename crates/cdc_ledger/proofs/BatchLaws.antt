@@ -15,37 +15,45 @@ abbrev pub account_answered : Features → ℕ → NewAccount → List AccountRe
 account_answered offered t r done now =
     let verdict = account_verdict offered now r in (done ++ verdict ∷ [], after_account now r t verdict)
 
-abbrev pub transfer_answered : Features → ℕ → NewTransfer → List TransferResult → History → List TransferResult × History
+abbrev pub transfer_answered : Features → ℕ → NewTransfer → List TransferResult → History
+    → List TransferResult × History
 transfer_answered offered t r done now =
     let verdict = transfer_verdict offered now r t in (done ++ verdict ∷ [], after_transfer now r t verdict)
 
 -- the answers so far and the answers to the requests from the i-th on are the answers to all, and likewise the history
-pub record AccountsGoOn (offered : Features) (h : History) (t : ℕ) (all : List NewAccount) (i : ℕ) (done : List AccountResult) (now : History) : Type 0 where
+pub record AccountsGoOn (offered : Features) (h : History) (t : ℕ) (all : List NewAccount) (i : ℕ)
+    (done : List AccountResult) (now : History) : Type 0 where
   pub answers : done ++ (accounts_from offered now (t + i) (drop i all)).0 ≡ (accounts_from offered h t all).0
   pub after : (accounts_from offered now (t + i) (drop i all)).1 ≡ (accounts_from offered h t all).1
 
-pub record TransfersGoOn (offered : Features) (h : History) (t : ℕ) (all : List NewTransfer) (i : ℕ) (done : List TransferResult) (now : History) : Type 0 where
+pub record TransfersGoOn (offered : Features) (h : History) (t : ℕ) (all : List NewTransfer) (i : ℕ)
+    (done : List TransferResult) (now : History) : Type 0 where
   pub answers : done ++ (transfers_from offered now (t + i) (drop i all)).0 ≡ (transfers_from offered h t all).0
   pub after : (transfers_from offered now (t + i) (drop i all)).1 ≡ (transfers_from offered h t all).1
 
 module _ (offered : Features) where
   after_accounts : (h : History) (t : ℕ) (rs : List NewAccount) (r : NewAccount)
-      → accounts_from offered h t (rs ++ r ∷ []) ≡ account_answered offered (t + length rs) r (accounts_from offered h t rs).0 (accounts_from offered h t rs).1
+      → accounts_from offered h t (rs ++ r ∷ []) ≡ account_answered offered (t + length rs) r
+      (accounts_from offered h t rs).0 (accounts_from offered h t rs).1
   after_accounts h t [] r = ap (λ n. account_answered offered n r [] h) (sym (add-zero t))
   after_accounts h t (x ∷ rs) r =
       let verdict : AccountResult = account_verdict offered h x in
       let next : History = after_account h x t verdict in
       ap (λ (q : List AccountResult × History). (verdict ∷ q.0, q.1)) (after_accounts next (t + 1) rs r)
-      ∙ ap (λ n. account_answered offered n r (verdict ∷ (accounts_from offered next (t + 1) rs).0) (accounts_from offered next (t + 1) rs).1) (omega arith)
+      ∙ ap (λ n. account_answered offered n r (verdict ∷ (accounts_from offered next (t + 1) rs).0)
+      (accounts_from offered next (t + 1) rs).1) (omega arith)
 
 module _ (offered : Features) (h : History) (t : ℕ) where
   -- one more request at the end
-  pub accounts_from_push : (rs : List NewAccount) (r : NewAccount) (done : List AccountResult) (now : History) → accounts_from offered h t rs ≡ (done, now)
+  pub accounts_from_push : (rs : List NewAccount) (r : NewAccount) (done : List AccountResult) (now : History)
+      → accounts_from offered h t rs ≡ (done, now)
       → accounts_from offered h t (rs ++ r ∷ []) ≡ account_answered offered (t + length rs) r done now
-  accounts_from_push rs r done now so_far = after_accounts offered h t rs r ∙ ap (λ (q : List AccountResult × History). account_answered offered (t + length rs) r q.0 q.1) so_far
+  accounts_from_push rs r done now so_far = after_accounts offered h t rs r
+      ∙ ap (λ (q : List AccountResult × History). account_answered offered (t + length rs) r q.0 q.1) so_far
 
   -- the first i requests and one more
-  pub accounts_from_more : (all : List NewAccount) (i : ℕ) (d : NewAccount) (done : List AccountResult) (now : History) → i < length all
+  pub accounts_from_more : (all : List NewAccount) (i : ℕ) (d : NewAccount) (done : List AccountResult) (now : History)
+      → i < length all
       → accounts_from offered h t (take i all) ≡ (done, now)
       → accounts_from offered h t (take (i + 1) all) ≡ account_answered offered (t + i) (get_or all i d) done now
   accounts_from_more all i d done now inside so_far =
@@ -59,15 +67,19 @@ module _ (offered : Features) (h : History) (t : ℕ) where
     after = ap (λ n. (accounts_from offered h n all).1) (add-zero t);
   }
 
-  pub AccountsGoOn_more : (all : List NewAccount) (i : ℕ) (d : NewAccount) (done : List AccountResult) (now : History) → i < length all
+  pub AccountsGoOn_more : (all : List NewAccount) (i : ℕ) (d : NewAccount) (done : List AccountResult) (now : History)
+      → i < length all
       → AccountsGoOn offered h t all i done now
-      → AccountsGoOn offered h t all (i + 1) (account_answered offered (t + i) (get_or all i d) done now).0 (account_answered offered (t + i) (get_or all i d) done now).1
+      → AccountsGoOn offered h t all (i + 1) (account_answered offered (t + i) (get_or all i d) done now).0
+      (account_answered offered (t + i) (get_or all i d) done now).1
   AccountsGoOn_more all i d done now inside goes =
       let r : NewAccount = get_or all i d in
       let verdict : AccountResult = account_verdict offered now r in
       let next : History = after_account now r (t + i) verdict in
       let rest : ℕ → List AccountResult × History = λ n. accounts_from offered next n (drop (i + 1) all) in
-      let cut : accounts_from offered now (t + i) (drop i all) ≡ (verdict ∷ (rest (t + i + 1)).0, (rest (t + i + 1)).1) = at_drop_more (λ xs. accounts_from offered now (t + i) xs) all i d inside in
+      let cut : accounts_from offered now (t + i) (drop i all)
+          ≡ (verdict ∷ (rest (t + i + 1)).0, (rest (t + i + 1)).1) =
+              at_drop_more (λ xs. accounts_from offered now (t + i) xs) all i d inside in
       let moment : t + (i + 1) ≡ t + i + 1 = omega arith in
       record {
         answers = ap (λ n. (done ++ verdict ∷ []) ++ (rest n).0) moment
@@ -79,29 +91,35 @@ module _ (offered : Features) (h : History) (t : ℕ) where
   pub AccountsGoOn_all : (all : List NewAccount) (i : ℕ) (done : List AccountResult) (now : History) → length all ≤ i
       → AccountsGoOn offered h t all i done now → accounts_from offered h t all ≡ (done, now)
   AccountsGoOn_all all i done now past goes =
-      let cut : accounts_from offered now (t + i) (drop i all) ≡ ([], now) = at_drop_all (λ xs. accounts_from offered now (t + i) xs) all i past in
+      let cut : accounts_from offered now (t + i) (drop i all) ≡ ([], now) =
+      at_drop_all (λ xs. accounts_from offered now (t + i) xs) all i past in
       ap₂ (λ (rs : List AccountResult) (g : History). (rs, g))
       (sym goes.answers ∙ (ap (λ (q : List AccountResult × History). done ++ q.0) cut ∙ append-nil done))
       (sym goes.after ∙ ap (λ (q : List AccountResult × History). q.1) cut)
 
 module _ (offered : Features) where
   after_transfers : (h : History) (t : ℕ) (rs : List NewTransfer) (r : NewTransfer)
-      → transfers_from offered h t (rs ++ r ∷ []) ≡ transfer_answered offered (t + length rs) r (transfers_from offered h t rs).0 (transfers_from offered h t rs).1
+      → transfers_from offered h t (rs ++ r ∷ []) ≡ transfer_answered offered (t + length rs) r
+      (transfers_from offered h t rs).0 (transfers_from offered h t rs).1
   after_transfers h t [] r = ap (λ n. transfer_answered offered n r [] h) (sym (add-zero t))
   after_transfers h t (x ∷ rs) r =
       let verdict : TransferResult = transfer_verdict offered h x t in
       let next : History = after_transfer h x t verdict in
       ap (λ (q : List TransferResult × History). (verdict ∷ q.0, q.1)) (after_transfers next (t + 1) rs r)
-      ∙ ap (λ n. transfer_answered offered n r (verdict ∷ (transfers_from offered next (t + 1) rs).0) (transfers_from offered next (t + 1) rs).1) (omega arith)
+      ∙ ap (λ n. transfer_answered offered n r (verdict ∷ (transfers_from offered next (t + 1) rs).0)
+      (transfers_from offered next (t + 1) rs).1) (omega arith)
 
 module _ (offered : Features) (h : History) (t : ℕ) where
   -- one more request at the end
-  pub transfers_from_push : (rs : List NewTransfer) (r : NewTransfer) (done : List TransferResult) (now : History) → transfers_from offered h t rs ≡ (done, now)
+  pub transfers_from_push : (rs : List NewTransfer) (r : NewTransfer) (done : List TransferResult) (now : History)
+      → transfers_from offered h t rs ≡ (done, now)
       → transfers_from offered h t (rs ++ r ∷ []) ≡ transfer_answered offered (t + length rs) r done now
-  transfers_from_push rs r done now so_far = after_transfers offered h t rs r ∙ ap (λ (q : List TransferResult × History). transfer_answered offered (t + length rs) r q.0 q.1) so_far
+  transfers_from_push rs r done now so_far = after_transfers offered h t rs r
+      ∙ ap (λ (q : List TransferResult × History). transfer_answered offered (t + length rs) r q.0 q.1) so_far
 
   -- the first i requests and one more
-  pub transfers_from_more : (all : List NewTransfer) (i : ℕ) (d : NewTransfer) (done : List TransferResult) (now : History) → i < length all
+  pub transfers_from_more : (all : List NewTransfer) (i : ℕ) (d : NewTransfer) (done : List TransferResult)
+      (now : History) → i < length all
       → transfers_from offered h t (take i all) ≡ (done, now)
       → transfers_from offered h t (take (i + 1) all) ≡ transfer_answered offered (t + i) (get_or all i d) done now
   transfers_from_more all i d done now inside so_far =
@@ -115,15 +133,19 @@ module _ (offered : Features) (h : History) (t : ℕ) where
     after = ap (λ n. (transfers_from offered h n all).1) (add-zero t);
   }
 
-  pub TransfersGoOn_more : (all : List NewTransfer) (i : ℕ) (d : NewTransfer) (done : List TransferResult) (now : History) → i < length all
+  pub TransfersGoOn_more : (all : List NewTransfer) (i : ℕ) (d : NewTransfer) (done : List TransferResult)
+      (now : History) → i < length all
       → TransfersGoOn offered h t all i done now
-      → TransfersGoOn offered h t all (i + 1) (transfer_answered offered (t + i) (get_or all i d) done now).0 (transfer_answered offered (t + i) (get_or all i d) done now).1
+      → TransfersGoOn offered h t all (i + 1) (transfer_answered offered (t + i) (get_or all i d) done now).0
+      (transfer_answered offered (t + i) (get_or all i d) done now).1
   TransfersGoOn_more all i d done now inside goes =
       let r : NewTransfer = get_or all i d in
       let verdict : TransferResult = transfer_verdict offered now r (t + i) in
       let next : History = after_transfer now r (t + i) verdict in
       let rest : ℕ → List TransferResult × History = λ n. transfers_from offered next n (drop (i + 1) all) in
-      let cut : transfers_from offered now (t + i) (drop i all) ≡ (verdict ∷ (rest (t + i + 1)).0, (rest (t + i + 1)).1) = at_drop_more (λ xs. transfers_from offered now (t + i) xs) all i d inside in
+      let cut : transfers_from offered now (t + i) (drop i all)
+          ≡ (verdict ∷ (rest (t + i + 1)).0, (rest (t + i + 1)).1) =
+              at_drop_more (λ xs. transfers_from offered now (t + i) xs) all i d inside in
       let moment : t + (i + 1) ≡ t + i + 1 = omega arith in
       record {
         answers = ap (λ n. (done ++ verdict ∷ []) ++ (rest n).0) moment
@@ -135,7 +157,8 @@ module _ (offered : Features) (h : History) (t : ℕ) where
   pub TransfersGoOn_all : (all : List NewTransfer) (i : ℕ) (done : List TransferResult) (now : History) → length all ≤ i
       → TransfersGoOn offered h t all i done now → transfers_from offered h t all ≡ (done, now)
   TransfersGoOn_all all i done now past goes =
-      let cut : transfers_from offered now (t + i) (drop i all) ≡ ([], now) = at_drop_all (λ xs. transfers_from offered now (t + i) xs) all i past in
+      let cut : transfers_from offered now (t + i) (drop i all) ≡ ([], now) =
+      at_drop_all (λ xs. transfers_from offered now (t + i) xs) all i past in
       ap₂ (λ (rs : List TransferResult) (g : History). (rs, g))
       (sym goes.answers ∙ (ap (λ (q : List TransferResult × History). done ++ q.0) cut ∙ append-nil done))
       (sym goes.after ∙ ap (λ (q : List TransferResult × History). q.1) cut)

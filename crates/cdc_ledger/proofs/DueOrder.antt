@@ -1,4 +1,4 @@
--- Transfers in the order of their ends: the soonest of all stands first, and the others follow as they would without it.
+-- Transfers in the order of their ends: the soonest of all stands first, and the others follow as they would alone.
 use Rattle.std.proofs.Common.{ℕ, suc, Bool, true, false, List, [], ◌∷◌, ◌++◌, ◌≡◌, length, refl, ap, ◌∙◌, arith}
 use Rattle.std.specs.Prelude.{◌==◌, ◌&&◌, ◌||◌, nat_lt, if◌then◌else◌}
 use Rattle.std.specs.List.{AllByRecursion}
@@ -20,14 +20,15 @@ either : (P : List Transfer → Type 0) (b : Bool) (xs ys : List Transfer) → P
 either P true xs ys here there = here
 either P false xs ys here there = there
 
+-- what holds of each stays so in the order
 module _ (P : Transfer → Type 0) where
-  All-placed : (p : Transfer) (qs : List Transfer) → P p → AllByRecursion P qs → AllByRecursion P (placed p qs)
+  pub All-placed : (p : Transfer) (qs : List Transfer) → P p → AllByRecursion P qs → AllByRecursion P (placed p qs)
   All-placed p [] here all = (here, tt)
   All-placed p (q ∷ qs) here all =
       either (AllByRecursion P) (is_sooner q p) (q ∷ placed p qs) (p ∷ q ∷ qs)
       (all.0, All-placed p qs here all.1) (here, all)
 
-  All-in_order : (ps : List Transfer) → AllByRecursion P ps → AllByRecursion P (in_order_of_end ps)
+  pub All-in_order : (ps : List Transfer) → AllByRecursion P ps → AllByRecursion P (in_order_of_end ps)
   All-in_order [] all = tt
   All-in_order (p ∷ ps) all = All-placed p (in_order_of_end ps) all.0 (All-in_order ps all.1)
 

@@ -5,7 +5,8 @@ use Rattle.std.specs.List.{AllByRecursion, list_any}
 use Rattle.std.proofs.lemmas.List.Sums.{sum_by-cons}
 
 module _ {X : Type 0} where
-  pub AllByRecursion-weaker : (P Q : X → Type 0) → ((x : X) → P x → Q x) → (xs : List X) → AllByRecursion P xs → AllByRecursion Q xs
+  pub AllByRecursion-weaker : (P Q : X → Type 0) → ((x : X) → P x → Q x) → (xs : List X) → AllByRecursion P xs
+      → AllByRecursion Q xs
   AllByRecursion-weaker P Q f [] h = tt
   AllByRecursion-weaker P Q f (x ∷ xs) h = (f x h.0, AllByRecursion-weaker P Q f xs h.1)
 
@@ -13,17 +14,20 @@ module _ {X : Type 0} where
   AllByRecursion-every P f [] = tt
   AllByRecursion-every P f (x ∷ xs) = (f x, AllByRecursion-every P f xs)
 
-  pub AllByRecursion_push : (P : X → Type 0) (xs : List X) (x : X) → AllByRecursion P xs → P x → AllByRecursion P (xs ++ x ∷ [])
+  pub AllByRecursion_push : (P : X → Type 0) (xs : List X) (x : X) → AllByRecursion P xs → P x
+      → AllByRecursion P (xs ++ x ∷ [])
   AllByRecursion_push P [] x h here = (here, tt)
   AllByRecursion_push P (y ∷ ys) x h here = (h.0, AllByRecursion_push P ys x h.1 here)
 
-  pub AllByRecursion-both : (P Q : X → Type 0) (xs : List X) → AllByRecursion P xs → AllByRecursion Q xs → AllByRecursion (λ x. P x × Q x) xs
+  pub AllByRecursion-both : (P Q : X → Type 0) (xs : List X) → AllByRecursion P xs → AllByRecursion Q xs
+      → AllByRecursion (λ x. P x × Q x) xs
   AllByRecursion-both P Q [] h k = tt
   AllByRecursion-both P Q (x ∷ xs) h k = ((h.0, k.0), AllByRecursion-both P Q xs h.1 k.1)
 
   pub sum_by_same : (f g : X → ℕ) (xs : List X) → AllByRecursion (λ x. f x ≡ g x) xs → sum_by f xs ≡ sum_by g xs
   sum_by_same f g [] h = refl
-  sum_by_same f g (x ∷ xs) h = sum_by-cons f x xs ∙ (ap₂ (λ a b. a + b) h.0 (sum_by_same f g xs h.1) ∙ sym (sum_by-cons g x xs))
+  sum_by_same f g (x ∷ xs) h = sum_by-cons f x xs
+      ∙ (ap₂ (λ a b. a + b) h.0 (sum_by_same f g xs h.1) ∙ sym (sum_by-cons g x xs))
 
   pub sum_by_every : (f g : X → ℕ) → ((x : X) → f x ≡ g x) → (xs : List X) → sum_by f xs ≡ sum_by g xs
   sum_by_every f g h xs = sum_by_same f g xs (AllByRecursion-every (λ x. f x ≡ g x) h xs)
@@ -32,7 +36,8 @@ module _ {X : Type 0} where
   sum_by_zero f [] h = refl
   sum_by_zero f (x ∷ xs) h = sum_by-cons f x xs ∙ ap₂ (λ a b. a + b) h.0 (sum_by_zero f xs h.1)
 
-  pub list_any_same : (p q : X → Bool) (xs : List X) → AllByRecursion (λ x. p x ≡ q x) xs → list_any p xs ≡ list_any q xs
+  pub list_any_same : (p q : X → Bool) (xs : List X) → AllByRecursion (λ x. p x ≡ q x) xs
+      → list_any p xs ≡ list_any q xs
   list_any_same p q [] h = refl
   list_any_same p q (x ∷ xs) h = ap₂ (λ a b. a || b) h.0 (list_any_same p q xs h.1)
 
@@ -49,6 +54,7 @@ pub map-map : {X Y Z : Type 0} (g : Y → Z) (f : X → Y) (xs : List X) → map
 map-map g f [] = refl
 map-map g f (x ∷ xs) = ap (λ ys. g (f x) ∷ ys) (map-map g f xs)
 
-pub AllByRecursion-map : {X Y : Type 0} (P : Y → Type 0) (f : X → Y) (xs : List X) → AllByRecursion P (map f xs) → AllByRecursion (λ x. P (f x)) xs
+pub AllByRecursion-map : {X Y : Type 0} (P : Y → Type 0) (f : X → Y) (xs : List X) → AllByRecursion P (map f xs)
+    → AllByRecursion (λ x. P (f x)) xs
 AllByRecursion-map P f [] h = tt
 AllByRecursion-map P f (x ∷ xs) h = (h.0, AllByRecursion-map P f xs h.1)

@@ -30,19 +30,24 @@ event_with e debit credit debits credits = record {
   credit_account = shown_account (unwrap_or credit nobody) credits;
 }
 
-same_balances : (e : Entry) (d c : Option Opened) (s s' t t' : Balances) → s ≡ s' → t ≡ t' → event_with e d c s t ≡ event_with e d c s' t'
+same_balances : (e : Entry) (d c : Option Opened) (s s' t t' : Balances) → s ≡ s' → t ≡ t'
+    → event_with e d c s t ≡ event_with e d c s' t'
 same_balances e d c s s' t t' p q = ap₂ (λ x y. event_with e d c x y) p q
 
-same_accounts : (e : Entry) (d d' c c' : Option Opened) (s t : Balances) → d ≡ d' → c ≡ c' → event_with e d c s t ≡ event_with e d' c' s t
+same_accounts : (e : Entry) (d d' c c' : Option Opened) (s t : Balances) → d ≡ d' → c ≡ c'
+    → event_with e d c s t ≡ event_with e d' c' s t
 same_accounts e d d' c c' s t p q = ap₂ (λ x y. event_with e x y s t) p q
 
 -- an entry after all others, of any kind
-pub events-pushed : (h : History) (e : Entry) → IsUpTo h.last h → h.last < e.timestamp → events (pushed h e) ≡ events h ++ event_of (pushed h e) e ∷ []
+pub events-pushed : (h : History) (e : Entry) → IsUpTo h.last h → h.last < e.timestamp
+    → events (pushed h e) ≡ events h ++ event_of (pushed h e) e ∷ []
 events-pushed h e within after =
     map_push (event_of (pushed h e)) h.entries e
     ∙ ap (λ xs. xs ++ event_of (pushed h e) e ∷ []) (map_same (event_of (pushed h e)) (event_of h) h.entries
     (AllByRecursion-weaker (λ x. x.timestamp ≤ h.last) (λ x. event_of (pushed h e) x ≡ event_of h x)
-    (λ x at. same_balances x (opened h x.transfer.debit_account_id) (opened h x.transfer.credit_account_id) _ _ _ _ (balances-pushed_before h e x.transfer.debit_account_id x.timestamp (omega arith)) (balances-pushed_before h e x.transfer.credit_account_id x.timestamp (omega arith)))
+    (λ x at. same_balances x (opened h x.transfer.debit_account_id) (opened h x.transfer.credit_account_id) _ _ _ _
+    (balances-pushed_before h e x.transfer.debit_account_id x.timestamp (omega arith))
+    (balances-pushed_before h e x.transfer.credit_account_id x.timestamp (omega arith)))
     h.entries within))
 
 -- how the account stands right after an entry
@@ -59,15 +64,20 @@ pub event_of-pushed : (h : History) (e : Entry) → IsSound h → Follows h e �
       debit_account = account_shown h e e.transfer.debit_account_id;
       credit_account = account_shown h e e.transfer.credit_account_id;
     }
-event_of-pushed h e sound follows after = same_balances e (opened h e.transfer.debit_account_id) (opened h e.transfer.credit_account_id) _ _ _ _
-    (balances-pushed h e e.transfer.debit_account_id sound follows after) (balances-pushed h e e.transfer.credit_account_id sound follows after)
+event_of-pushed h e sound follows after =
+    same_balances e (opened h e.transfer.debit_account_id) (opened h e.transfer.credit_account_id) _ _ _ _
+    (balances-pushed h e e.transfer.debit_account_id sound follows after)
+    (balances-pushed h e e.transfer.credit_account_id sound follows after)
 
 -- one more account, where each entry's accounts were there
-pub events-with_account : (h : History) (o : Opened) → AllByRecursion (HasAccounts h) h.entries → events (with_account h o) ≡ events h
+pub events-with_account : (h : History) (o : Opened) → AllByRecursion (HasAccounts h) h.entries
+    → events (with_account h o) ≡ events h
 events-with_account h o known = map_same (event_of (with_account h o)) (event_of h) h.entries
     (AllByRecursion-weaker (HasAccounts h) (λ e. event_of (with_account h o) e ≡ event_of h e)
-    (λ e has. same_accounts e _ _ _ _ (balances h e.transfer.debit_account_id e.timestamp) (balances h e.transfer.credit_account_id e.timestamp)
-    (opened-with_account_same h o e.transfer.debit_account_id has.0) (opened-with_account_same h o e.transfer.credit_account_id has.1))
+    (λ e has. same_accounts e _ _ _ _ (balances h e.transfer.debit_account_id e.timestamp)
+    (balances h e.transfer.credit_account_id e.timestamp)
+    (opened-with_account_same h o e.transfer.debit_account_id has.0)
+    (opened-with_account_same h o e.transfer.credit_account_id has.1))
     h.entries known)
 
 pub timestamps-events : (h : History) → map (λ x. x.timestamp) (events h) ≡ map (λ e. e.timestamp) h.entries

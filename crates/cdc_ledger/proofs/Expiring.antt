@@ -33,7 +33,7 @@ pub GoesOn-step : (h : History) (base now count done : ℕ) (g : History) (t : T
     (pushed g (expiry next.found.entry.transfer (base + done)))
 GoesOn-step h base now count done g t on next later =
     let first : due g now ≡ next.found.entry.transfer ∷ due
-        (pushed g (expiry next.found.entry.transfer (base + done))) now = next.first (base + done) later in
+    (pushed g (expiry next.found.entry.transfer (base + done))) now = next.first (base + done) later in
     let long = ap (λ (ps : List Transfer). length ps) first in
     record {
       left = omega (arith, on.left, long);

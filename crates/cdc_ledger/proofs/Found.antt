@@ -8,7 +8,8 @@ use Rattle.cdc_ledger.specs.History.{History, opened}
 use Rattle.cdc_ledger.specs.Tables.{IsKept, history_of}
 
 module _ {A B : Type 0} (p : B → Bool) (f : A → B) where
-  found : (b : Bool) (x : A) (o : Option A) (q : Option B) → q ≡ option_map f o → cond b (Some (f x)) q ≡ option_map f (cond b (Some x) o)
+  found : (b : Bool) (x : A) (o : Option A) (q : Option B) → q ≡ option_map f o
+      → cond b (Some (f x)) q ≡ option_map f (cond b (Some x) o)
   found true x o q e = refl
   found false x o q e = e
 
@@ -16,9 +17,12 @@ module _ {A B : Type 0} (p : B → Bool) (f : A → B) where
   find-map [] = refl
   find-map (x ∷ xs) = found (p (f x)) x (find (λ y. p (f y)) xs) (find p (map f xs)) (find-map xs)
 
-pub find-accounts_now : (h : History) (id : ℕ) → find (λ a. a.id == id) (accounts_now h) ≡ option_map (account_now h) (opened h id)
+pub find-accounts_now : (h : History) (id : ℕ)
+    → find (λ a. a.id == id) (accounts_now h) ≡ option_map (account_now h) (opened h id)
 find-accounts_now h id = find-map (λ (a : Account). a.id == id) (account_now h) h.accounts
 
 -- what is found among the kept accounts is the account with its balances now
-pub find-kept : (t : Tables) (id : ℕ) → IsKept t → find (λ a. a.id == id) t.accounts.items ≡ option_map (account_now (history_of t)) (opened (history_of t) id)
-find-kept t id kept = ap (λ (xs : List Account). find (λ a. a.id == id) xs) kept.balanced ∙ find-accounts_now (history_of t) id
+pub find-kept : (t : Tables) (id : ℕ) → IsKept t
+    → find (λ a. a.id == id) t.accounts.items ≡ option_map (account_now (history_of t)) (opened (history_of t) id)
+find-kept t id kept = ap (λ (xs : List Account). find (λ a. a.id == id) xs) kept.balanced
+    ∙ find-accounts_now (history_of t) id

@@ -74,7 +74,7 @@ IsSettled-settled_by h e p follows some = by_settling (settles e.kind) refl
     by_settling true is =
         let unsettled = follows.settling is in
         let named : settled_by h e ≡ Some unsettled.pending.transfer =
-            settled_by_is h e unsettled.pending is unsettled.settles in
+        settled_by_is h e unsettled.pending is unsettled.settles in
         record { is = is; x = unsettled.pending; settled = unsettled.settles; own = cc }
     by_settling false isnt = let none : settled_by h e ≡ None = settled_by_none h e isnt in cc
 

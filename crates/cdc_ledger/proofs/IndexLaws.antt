@@ -25,12 +25,17 @@ pub open_triples-later : (h : History) (accounts : List Opened) (t : ℕ) (close
     → open_triples (record { accounts = accounts; entries = h.entries; last = t; closed = closed }) ≡ open_triples h
 open_triples-later h accounts t closed sound later =
     triples_from-same (is_open (record { accounts = accounts; entries = h.entries; last = t; closed = closed }))
-        (is_open h) 0 h.entries
+    (is_open h) 0 h.entries
     (every h.entries)
   where
     every : (es : List Entry)
-        → AllByRecursion (λ e. is_open (record { accounts = accounts; entries = h.entries; last = t; closed =
-            closed }) e ≡ is_open h e) es
+        → AllByRecursion (λ e. is_open (record {
+          accounts = accounts;
+          entries = h.entries;
+          last = t;
+          closed =
+              closed;
+        }) e ≡ is_open h e) es
     every [] = tt
     every (e ∷ es) = (ap (λ b. open_by b e) (resolved_later h e.transfer h.last t sound.past later), every es)
 

@@ -80,7 +80,7 @@ pub record IsNext (h : History) (now : ℕ) (t : Triple) : Type 0 where
 
 sooner_numbers : (a b s t m n : ℕ)
     → is_le (triple_cmp (record { expires_at = a; timestamp = s; slot = m })
-        (record { expires_at = b; timestamp = t; slot = n })) ≡ true
+    (record { expires_at = b; timestamp = t; slot = n })) ≡ true
     → t ≢ s → (nat_lt a b || ((a == b) && nat_lt s t)) ≡ true
 sooner_numbers a b s t m n le apart = grind (arith, nat_tests)
 
@@ -121,8 +121,14 @@ module _ (h : History) (now : ℕ) (t : Triple) (sound : IsSound h) (of : IsOf (
 
   -- with the others after it
   abbrev found : IsOpenAt h t
-  found = IsOpenAt-of h t sound (record { front = of.front; entry = of.entry; back = of.back; split = of.split;
-      passes = is; made = of.made })
+  found = IsOpenAt-of h t sound (record {
+    front = of.front;
+    entry = of.entry;
+    back = of.back;
+    split = of.split;
+    passes = is;
+    made = of.made;
+  })
 
   due-found : (moment : ℕ) → h.last < moment
       → due h now ≡ found.entry.transfer ∷ due (pushed h (expiry found.entry.transfer moment)) now

@@ -40,8 +40,11 @@ rise_cons : (t : ℕ) (x : Triple) (xs : List Triple) (u : ℕ) (b : Bool) → t
 rise_cons t x xs u true after own rest =
     let same : x.timestamp ≡ u = own refl in
     record {
-      later = (omega arith, AllByRecursion-weaker (λ y. u < y.timestamp) (λ y. t < y.timestamp)
-          (λ y later. omega arith) xs rest.later);
+      later = (
+        omega arith,
+        AllByRecursion-weaker (λ y. u < y.timestamp) (λ y. t < y.timestamp)
+            (λ y later. omega arith) xs rest.later,
+      );
       differ = (
         All-from_recursion (λ y. y.timestamp ≢ x.timestamp) xs
             (AllByRecursion-weaker (λ y. u < y.timestamp) (λ y. y.timestamp ≢ x.timestamp)

@@ -23,7 +23,8 @@ index_of-later : (h : History) (accounts : List Opened) (t : ℕ) (closed : Bool
 index_of-later h accounts t closed sound later = ap from_list (open_triples-later h accounts t closed sound later)
 
 -- from the history that the tables hold
-pub IsKept-from : (t : Tables) (h : History) → history_of t ≡ h → t.accounts.items ≡ accounts_now h → t.log.events ≡ events h → t.index.triples ≡ index_of h → IsSound h → IsKept t
+pub IsKept-from : (t : Tables) (h : History) → history_of t ≡ h → t.accounts.items ≡ accounts_now h
+    → t.log.events ≡ events h → t.index.triples ≡ index_of h → IsSound h → IsKept t
 IsKept-from t h same balanced logged indexed sound = record {
   balanced = balanced ∙ ap accounts_now (sym same);
   logged = logged ∙ ap events (sym same);
@@ -39,22 +40,27 @@ IsKept-timed t n kept later within = record {
   sound = IsSound-timed (history_of t) n kept.sound later within;
 }
 
-pub history-opened : (t t' : Tables) (r : NewAccount) (n : ℕ) → t'.accounts.items ≡ t.accounts.items ++ fresh_account r n ∷ []
+pub history-opened : (t t' : Tables) (r : NewAccount) (n : ℕ)
+    → t'.accounts.items ≡ t.accounts.items ++ fresh_account r n ∷ []
     → t'.entries.items ≡ t.entries.items → t'.last ≡ n → t'.closed ≡ t.closed
     → history_of t' ≡ with_account (history_of t) (record { request = r; timestamp = n })
 history-opened t t' r n accounts entries last closed =
-    let opened : map opened_as t'.accounts.items ≡ map opened_as t.accounts.items ++ record { request = r; timestamp = n } ∷ [] =
+    let opened : map opened_as t'.accounts.items
+        ≡ map opened_as t.accounts.items ++ record { request = r; timestamp = n } ∷ [] =
     ap (map opened_as) accounts ∙ map_push opened_as t.accounts.items (fresh_account r n) in
     cc
 
-pub IsKept-opened : (t t' : Tables) (r : NewAccount) (n : ℕ) → IsKept t → opened (history_of t) r.id ≡ None → t.last ≤ n → n ≤ max_timestamp
-    → t'.accounts.items ≡ t.accounts.items ++ fresh_account r n ∷ [] → t'.log.events ≡ t.log.events → t'.index.triples ≡ t.index.triples
+pub IsKept-opened : (t t' : Tables) (r : NewAccount) (n : ℕ) → IsKept t → opened (history_of t) r.id ≡ None → t.last ≤ n
+    → n ≤ max_timestamp
+    → t'.accounts.items ≡ t.accounts.items ++ fresh_account r n ∷ [] → t'.log.events ≡ t.log.events
+    → t'.index.triples ≡ t.index.triples
     → history_of t' ≡ with_account (history_of t) (record { request = r; timestamp = n }) → IsKept t'
 IsKept-opened t t' r n kept free later within accounts log index same =
     let h : History = history_of t in
     let o : Opened = record { request = r; timestamp = n } in
     IsKept-from t' (with_account h o) same
-    (accounts ∙ ap (λ xs. xs ++ fresh_account r n ∷ []) kept.balanced ∙ sym (accounts_now-with_account h o kept.sound.past kept.sound.known free later))
+    (accounts ∙ ap (λ xs. xs ++ fresh_account r n ∷ []) kept.balanced
+    ∙ sym (accounts_now-with_account h o kept.sound.past kept.sound.known free later))
     (log ∙ kept.logged ∙ sym (events-with_account h o kept.sound.known))
     (index ∙ kept.indexed ∙ sym (index_of-later h (with_account h o).accounts n h.closed kept.sound later))
     (IsSound-with_account h o kept.sound free later within)

@@ -25,14 +25,16 @@ use Rattle.cdc_ledger.proofs.PulseLaws.{IsSound-pulse}
 use Rattle.cdc_ledger.proofs.SoundLaws.{IsSound-empty, IsSound-timed, IsSound-shut, IsSound-with_account, IsSound-pushed}
 
 -- a request takes its timestamp, whatever becomes of it
-pub last-after_account : (h : History) (a : NewAccount) (t : ℕ) (verdict : AccountResult) → (after_account h a t verdict).last ≡ t
+pub last-after_account : (h : History) (a : NewAccount) (t : ℕ) (verdict : AccountResult)
+    → (after_account h a t verdict).last ≡ t
 last-after_account h a t verdict = either (account_number verdict == 0)
   where
     either : (b : Bool) → (if b then with_account h (opened_by a t) else timed h t).last ≡ t
     either true = refl
     either false = refl
 
-pub last-after_transfer : (h : History) (r : NewTransfer) (t : ℕ) (verdict : TransferResult) → (after_transfer h r t verdict).last ≡ t
+pub last-after_transfer : (h : History) (r : NewTransfer) (t : ℕ) (verdict : TransferResult)
+    → (after_transfer h r t verdict).last ≡ t
 last-after_transfer h r t verdict = either (transfer_number verdict == 0)
   where
     either : (b : Bool) → (if b then pushed h (entry_of h r t) else timed h t).last ≡ t
@@ -56,25 +58,30 @@ pub IsSound-after_transfer : (h : History) (r : NewTransfer) (t : ℕ) → IsSou
     → IsSound (after_transfer h r t (transfer_verdict features h r t))
 IsSound-after_transfer h r t sound later fits =
     sound_either (transfer_number (transfer_verdict features h r t) == 0) (pushed h (entry_of h r t)) (timed h t)
-    (λ zero. IsSound-pushed h (entry_of h r t) sound (Follows-accepted features h r t sound later (no_line_from_accepted features h r t zero)) later fits)
+    (λ zero. IsSound-pushed h (entry_of h r t) sound
+    (Follows-accepted features h r t sound later (no_line_from_accepted features h r t zero)) later fits)
     (IsSound-timed h t sound (omega arith) fits)
 
 -- requests for accounts, of which the last comes no later than the greatest timestamp
-pub IsSound-accounts_from : (h : History) (t : ℕ) (rs : List NewAccount) → IsSound h → h.last < t → (0 < length rs → t + length rs ≤ max_timestamp + 1)
+pub IsSound-accounts_from : (h : History) (t : ℕ) (rs : List NewAccount) → IsSound h → h.last < t
+    → (0 < length rs → t + length rs ≤ max_timestamp + 1)
     → IsSound (accounts_from features h t rs).1
 IsSound-accounts_from h t [] sound later fits = sound
 IsSound-accounts_from h t (r ∷ rs) sound later fits =
     let whole : t + length (r ∷ rs) ≤ max_timestamp + 1 = fits (omega arith) in
-    let last : (after_account h r t (account_verdict features h r)).last ≡ t = last-after_account h r t (account_verdict features h r) in
+    let last : (after_account h r t (account_verdict features h r)).last ≡ t =
+    last-after_account h r t (account_verdict features h r) in
     IsSound-accounts_from (after_account h r t (account_verdict features h r)) (t + 1) rs
     (IsSound-after_account h r t sound later (omega arith)) (omega arith) (λ some. omega arith)
 
-pub IsSound-transfers_from : (h : History) (t : ℕ) (rs : List NewTransfer) → IsSound h → h.last < t → (0 < length rs → t + length rs ≤ max_timestamp + 1)
+pub IsSound-transfers_from : (h : History) (t : ℕ) (rs : List NewTransfer) → IsSound h → h.last < t
+    → (0 < length rs → t + length rs ≤ max_timestamp + 1)
     → IsSound (transfers_from features h t rs).1
 IsSound-transfers_from h t [] sound later fits = sound
 IsSound-transfers_from h t (r ∷ rs) sound later fits =
     let whole : t + length (r ∷ rs) ≤ max_timestamp + 1 = fits (omega arith) in
-    let last : (after_transfer h r t (transfer_verdict features h r t)).last ≡ t = last-after_transfer h r t (transfer_verdict features h r t) in
+    let last : (after_transfer h r t (transfer_verdict features h r t)).last ≡ t =
+    last-after_transfer h r t (transfer_verdict features h r t) in
     IsSound-transfers_from (after_transfer h r t (transfer_verdict features h r t)) (t + 1) rs
     (IsSound-after_transfer h r t sound later (omega arith)) (omega arith) (λ some. omega arith)
 
@@ -83,13 +90,15 @@ within_end : (h : History) (now n : ℕ) → is_past_the_end h now n ≡ false �
 within_end h now n not_past some =
     ⊎_elim
     (λ e. let no : n ≤ 0 = ltb-false 0 n e in absurd (omega arith))
-    (λ e. let short : base h now + n - 1 ≤ max_timestamp = ltb-false max_timestamp (base h now + n - 1) e in omega arith)
+    (λ e. let short : base h now + n - 1 ≤ max_timestamp = ltb-false max_timestamp
+    (base h now + n - 1) e in omega arith)
     (and_cases (nat_lt 0 n) (nat_lt max_timestamp (base h now + n - 1)) not_past)
 
 after_last : (h : History) (now : ℕ) → h.last < base h now
 after_last h now = omega arith
 
-answered_parts : (refusal : Option BatchError) (answer found : BatchResults × History) → answered refusal answer ≡ Ok found → (refusal ≡ None) × (answer ≡ found)
+answered_parts : (refusal : Option BatchError) (answer found : BatchResults × History)
+    → answered refusal answer ≡ Ok found → (refusal ≡ None) × (answer ≡ found)
 answered_parts None answer found e = (refl, cc)
 answered_parts (Some error) answer found e = cc
 
@@ -97,35 +106,46 @@ answered_parts (Some error) answer found e = cc
 submit_parts : (h : History) (b : Batch) (answer : BatchResults × History) → submit h b ≡ Ok answer
     → (is_past_the_end h (moment b) (items_of h b) ≡ false) × (taken features h b ≡ answer)
 submit_parts h b answer e =
-    let parts : (refusal_of h b ≡ None) × (taken features h b ≡ answer) = answered_parts (refusal_of h b) (taken features h b) answer e in
-    let lines : List (Bool × BatchError) = (h.closed, LedgerClosed) ∷ (is_too_large b, BatchTooLarge) ∷ (is_past_the_end h (moment b) (items_of h b), TimestampsExhausted) ∷ [] in
+    let parts : (refusal_of h b ≡ None) × (taken features h b ≡ answer) =
+    answered_parts (refusal_of h b) (taken features h b) answer e in
+    let lines : List (Bool × BatchError) =
+    (h.closed, LedgerClosed) ∷ (is_too_large b, BatchTooLarge) ∷
+    (is_past_the_end h (moment b) (items_of h b), TimestampsExhausted) ∷ [] in
     ((none_applies lines parts.0).1.1.0, parts.1)
 
 -- a batch that is answered
-pub IsSound-submit : (h : History) (b : Batch) (answer : BatchResults × History) → IsSound h → submit h b ≡ Ok answer → IsSound answer.1
+pub IsSound-submit : (h : History) (b : Batch) (answer : BatchResults × History) → IsSound h → submit h b ≡ Ok answer
+    → IsSound answer.1
 IsSound-submit h (batch.Accounts now items) answer sound e =
-    let parts : (is_past_the_end h now (length items) ≡ false) × (taken features h (batch.Accounts now items) ≡ answer) = submit_parts h (batch.Accounts now items) answer e in
+    let parts : (is_past_the_end h now (length items) ≡ false) ×
+        (taken features h (batch.Accounts now items) ≡ answer) = submit_parts h (batch.Accounts now items) answer e in
     subst (λ (a : BatchResults × History). IsSound a.1) parts.1
     (IsSound-accounts_from h (base h now) items sound (after_last h now) (within_end h now (length items) parts.0))
 IsSound-submit h (batch.Transfers now items) answer sound e =
-    let parts : (is_past_the_end h now (length items) ≡ false) × (taken features h (batch.Transfers now items) ≡ answer) = submit_parts h (batch.Transfers now items) answer e in
+    let parts : (is_past_the_end h now (length items) ≡ false) ×
+        (taken features h (batch.Transfers now items) ≡ answer) = submit_parts h (batch.Transfers now items) answer e in
     subst (λ (a : BatchResults × History). IsSound a.1) parts.1
     (IsSound-transfers_from h (base h now) items sound (after_last h now) (within_end h now (length items) parts.0))
 IsSound-submit h (batch.Pulse now) answer sound e =
-    let parts : (is_past_the_end h now (length (due h now)) ≡ false) × (taken features h (batch.Pulse now) ≡ answer) = submit_parts h (batch.Pulse now) answer e in
+    let parts : (is_past_the_end h now (length (due h now)) ≡ false) × (taken features h (batch.Pulse now) ≡ answer) =
+    submit_parts h (batch.Pulse now) answer e in
     subst (λ (a : BatchResults × History). IsSound a.1) parts.1
     (IsSound-pulse h now (base h now) sound (after_last h now) (within_end h now (length (due h now)) parts.0))
 
-sound_or : (h : History) (b : Batch) (r : Result (BatchResults × History) BatchError) → submit h b ≡ r → IsSound h → IsSound (history_or h r)
+sound_or : (h : History) (b : Batch) (r : Result (BatchResults × History) BatchError) → submit h b ≡ r → IsSound h
+    → IsSound (history_or h r)
 sound_or h b (Ok answer) e sound = IsSound-submit h b answer sound e
 sound_or h b (Err error) e sound = sound
 
 pub IsSound-after_batches : (h : History) (bs : List Batch) → IsSound h → IsSound (after_batches features h bs)
 IsSound-after_batches h [] sound = sound
-IsSound-after_batches h (b ∷ bs) sound = IsSound-after_batches (history_or h (submit h b)) bs (sound_or h b (submit h b) refl sound)
+IsSound-after_batches h (b ∷ bs) sound =
+    IsSound-after_batches (history_or h (submit h b)) bs (sound_or h b (submit h b) refl sound)
 
 -- every history that batches make
 pub IsSound-from_legal : (h : History) → IsLegal h → IsSound h
 IsSound-from_legal h legal =
     let before : History = after_batches features empty_history legal.batches in
-    subst IsSound (sym legal.made) (IsSound-shut before (legal.close || before.closed) (IsSound-after_batches empty_history legal.batches IsSound-empty))
+    subst IsSound (sym legal.made)
+    (IsSound-shut before (legal.close || before.closed)
+    (IsSound-after_batches empty_history legal.batches IsSound-empty))

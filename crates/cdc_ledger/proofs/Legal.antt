@@ -25,7 +25,8 @@ on_ok P (Err e) holds = tt
 
 module _ {A : Type 0} (shown : A → BatchResults) (h g : History) (b : Batch) where
   -- it stays legal, whatever the answer
-  pub IsLegal-answered : (r : Result A BatchError) → IsLegal h → OnOk r (BatchFits b) → Answers shown h b r g → IsLegal g
+  pub IsLegal-answered : (r : Result A BatchError) → IsLegal h → OnOk r (BatchFits b) → Answers shown h b r g
+      → IsLegal g
   IsLegal-answered (Ok results) legal fit answers = IsLegal-submit h g b (shown results) fit legal answers
   IsLegal-answered (Err LedgerClosed) legal fit answers = subst IsLegal (sym answers.1) legal
   IsLegal-answered (Err BatchTooLarge) legal fit answers = subst IsLegal (sym answers.1) legal
@@ -33,28 +34,34 @@ module _ {A : Type 0} (shown : A → BatchResults) (h g : History) (b : Batch) w
   IsLegal-answered (Err OutOfMemory) legal fit answers = subst IsLegal (sym answers.1) legal
 
 balances_found : (h : History) (id : ℕ) (found : Option Opened) → opened h id ≡ found
-    → option_map (λ (a : Account). a.balances) (option_map (account_now h) found) ≡ option_map (λ (o : Opened). balances h id h.last) found
+    → option_map (λ (a : Account). a.balances) (option_map (account_now h) found)
+    ≡ option_map (λ (o : Opened). balances h id h.last) found
 balances_found h id None is = refl
 balances_found h id (Some o) is = ap (λ i. Some (balances h i h.last)) (opened_id h o id is)
 
 -- the balances of the account that is found
 pub balances-account_now : (h : History) (id : ℕ)
-    → option_map (λ (a : Account). a.balances) (option_map (account_now h) (opened h id)) ≡ option_map (λ (o : Opened). balances h id h.last) (opened h id)
+    → option_map (λ (a : Account). a.balances) (option_map (account_now h) (opened h id))
+    ≡ option_map (λ (o : Opened). balances h id h.last) (opened h id)
 balances-account_now h id = balances_found h id (opened h id) refl
 
 some_bounded : (h : History) (id : ℕ) (found : Option Opened) → IsBounded h
-    → IfSome (option_map (λ (o : Opened). balances h id h.last) found) (λ b. b.debits_pending + b.debits_posted ≤ max_128)
-    × IfSome (option_map (λ (o : Opened). balances h id h.last) found) (λ b. b.credits_pending + b.credits_posted ≤ max_128)
+    → IfSome (option_map (λ (o : Opened). balances h id h.last) found)
+    (λ b. b.debits_pending + b.debits_posted ≤ max_128)
+    × IfSome (option_map (λ (o : Opened). balances h id h.last) found)
+        (λ b. b.credits_pending + b.credits_posted ≤ max_128)
 some_bounded h id None bounded = (tt, tt)
 some_bounded h id (Some o) bounded = bounded id
 
-pub debits_bounded : (h : History) (id : ℕ) (r : Option Balances) → IsBounded h → r ≡ option_map (λ (o : Opened). balances h id h.last) (opened h id)
+pub debits_bounded : (h : History) (id : ℕ) (r : Option Balances) → IsBounded h
+    → r ≡ option_map (λ (o : Opened). balances h id h.last) (opened h id)
     → IfSome r (λ b. b.debits_pending + b.debits_posted ≤ max_128)
 debits_bounded h id r bounded is =
     let P : Option Balances → Type 0 = λ found. IfSome found (λ b. b.debits_pending + b.debits_posted ≤ max_128) in
     subst P (sym is) (some_bounded h id (opened h id) bounded).0
 
-pub credits_bounded : (h : History) (id : ℕ) (r : Option Balances) → IsBounded h → r ≡ option_map (λ (o : Opened). balances h id h.last) (opened h id)
+pub credits_bounded : (h : History) (id : ℕ) (r : Option Balances) → IsBounded h
+    → r ≡ option_map (λ (o : Opened). balances h id h.last) (opened h id)
     → IfSome r (λ b. b.credits_pending + b.credits_posted ≤ max_128)
 credits_bounded h id r bounded is =
     let P : Option Balances → Type 0 = λ found. IfSome found (λ b. b.credits_pending + b.credits_posted ≤ max_128) in

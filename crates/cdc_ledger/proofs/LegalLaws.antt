@@ -16,22 +16,27 @@ use Rattle.cdc_ledger.proofs.LineLaws.{first_line_none_parts}
 pub Extends_same : (h : History) → Extends h h
 Extends_same h = record { batches = []; close = false; fit = tt; made = refl }
 
-pub answered_ok : (refusal : Option BatchError) (answer found : BatchResults × History) → answered refusal answer ≡ Ok found → refusal ≡ None
+pub answered_ok : (refusal : Option BatchError) (answer found : BatchResults × History)
+    → answered refusal answer ≡ Ok found → refusal ≡ None
 answered_ok None answer found e = refl
 answered_ok (Some error) answer found e = cc
 
 -- a batch that is answered came to a ledger that wasn't closed
-pub submit_open : (h : History) (b : Batch) (answer : BatchResults × History) → submit h b ≡ Ok answer → h.closed ≡ false
+pub submit_open : (h : History) (b : Batch) (answer : BatchResults × History) → submit h b ≡ Ok answer
+    → h.closed ≡ false
 submit_open h b answer e =
-    (first_line_none_parts (h.closed, LedgerClosed) ((is_too_large b, BatchTooLarge) ∷ (is_past_the_end h (moment b) (items_of h b), TimestampsExhausted) ∷ [])
+    (first_line_none_parts (h.closed, LedgerClosed)
+    ((is_too_large b, BatchTooLarge) ∷ (is_past_the_end h (moment b) (items_of h b), TimestampsExhausted) ∷ [])
     (answered_ok (refusal_of h b) (taken features h b) answer e)).0
 
 pub after_batches_push : (offered : Features) (h : History) (bs : List Batch) (b : Batch)
-    → after_batches offered h (bs ++ b ∷ []) ≡ history_or (after_batches offered h bs) (submit_by offered (after_batches offered h bs) b)
+    → after_batches offered h (bs ++ b ∷ []) ≡ history_or (after_batches offered h bs)
+    (submit_by offered (after_batches offered h bs) b)
 after_batches_push offered h [] b = refl
 after_batches_push offered h (x ∷ bs) b = after_batches_push offered (history_or h (submit_by offered h x)) bs b
 
-pub Extends-submit : (g h k : History) (b : Batch) (r : BatchResults) → BatchFits b → Extends g h → submit g b ≡ Ok (r, k) → Extends k h
+pub Extends-submit : (g h k : History) (b : Batch) (r : BatchResults) → BatchFits b → Extends g h
+    → submit g b ≡ Ok (r, k) → Extends k h
 Extends-submit g h k b r fits from e =
     let before : History = after_batches features h from.batches in
     let shut : from.close || before.closed ≡ false = sym (ap (λ x. x.closed) from.made) ∙ submit_open g b (r, k) e in
@@ -55,7 +60,8 @@ Extends-closed g h from = record {
 pub IsLegal-empty : IsLegal empty_history
 IsLegal-empty = Extends_same empty_history
 
-pub IsLegal-submit : (h g : History) (b : Batch) (r : BatchResults) → BatchFits b → IsLegal h → submit h b ≡ Ok (r, g) → IsLegal g
+pub IsLegal-submit : (h g : History) (b : Batch) (r : BatchResults) → BatchFits b → IsLegal h → submit h b ≡ Ok (r, g)
+    → IsLegal g
 IsLegal-submit h g b r fits legal e = Extends-submit h empty_history g b r fits legal e
 
 pub IsLegal-closed : (h : History) → IsLegal h → IsLegal (record h { closed = true })

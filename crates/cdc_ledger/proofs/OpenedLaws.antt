@@ -12,23 +12,29 @@ use Rattle.cdc_ledger.specs.Sound.{HasAccounts, AreApart}
 use Rattle.cdc_ledger.proofs.Changes.{with_account}
 use Rattle.cdc_ledger.proofs.Elements.{AllByRecursion-weaker, AllByRecursion-both, AllByRecursion_push, AllByRecursion-map}
 
-pub opened-with_account : (h : History) (o : Opened) (id : ℕ) → opened (with_account h o) id ≡ option_or (opened h id) (if o.request.id == id then Some o else None)
+pub opened-with_account : (h : History) (o : Opened) (id : ℕ)
+    → opened (with_account h o) id ≡ option_or (opened h id) (if o.request.id == id then Some o else None)
 opened-with_account h o id = find-append (λ x. x.request.id == id) h.accounts (o ∷ [])
 
 -- an account that was there stays
-pub opened-with_account_kept : (h : History) (o x : Opened) (id : ℕ) → opened h id ≡ Some x → opened (with_account h o) id ≡ Some x
-opened-with_account_kept h o x id there = opened-with_account h o id ∙ ap (λ p. option_or p (if o.request.id == id then Some o else None)) there
+pub opened-with_account_kept : (h : History) (o x : Opened) (id : ℕ) → opened h id ≡ Some x
+    → opened (with_account h o) id ≡ Some x
+opened-with_account_kept h o x id there =
+    opened-with_account h o id ∙ ap (λ p. option_or p (if o.request.id == id then Some o else None)) there
 
 some_stays : (p q : Option Opened) → IsSome p → option_or p q ≡ p
 some_stays None q h = cc
 some_stays (Some x) q h = refl
 
-pub opened-with_account_same : (h : History) (o : Opened) (id : ℕ) → IsSome (opened h id) → opened (with_account h o) id ≡ opened h id
+pub opened-with_account_same : (h : History) (o : Opened) (id : ℕ) → IsSome (opened h id)
+    → opened (with_account h o) id ≡ opened h id
 opened-with_account_same h o id there = opened-with_account h o id ∙ some_stays (opened h id) _ there
 
 -- the new one is found where its id was free
-pub opened-with_account_new : (h : History) (o : Opened) → opened h o.request.id ≡ None → opened (with_account h o) o.request.id ≡ Some o
-opened-with_account_new h o free = opened-with_account h o o.request.id ∙ (ap (λ p. option_or p (if o.request.id == o.request.id then Some o else None)) free
+pub opened-with_account_new : (h : History) (o : Opened) → opened h o.request.id ≡ None
+    → opened (with_account h o) o.request.id ≡ Some o
+opened-with_account_new h o free = opened-with_account h o o.request.id
+    ∙ (ap (λ p. option_or p (if o.request.id == o.request.id then Some o else None)) free
     ∙ ap (λ b. if b then Some o else None) (eq-eqb o.request.id o.request.id refl))
 
 or_none : (p : Option Opened) → option_or p None ≡ p
@@ -36,60 +42,76 @@ or_none None = refl
 or_none (Some x) = refl
 
 -- the new one changes no other id
-pub opened-with_account_other : (h : History) (o : Opened) (id : ℕ) → o.request.id ≢ id → opened (with_account h o) id ≡ opened h id
+pub opened-with_account_other : (h : History) (o : Opened) (id : ℕ) → o.request.id ≢ id
+    → opened (with_account h o) id ≡ opened h id
 opened-with_account_other h o id other = opened-with_account h o id
-    ∙ (ap (λ b. option_or (opened h id) (if b then Some o else None)) (ne_eqb o.request.id id other) ∙ or_none (opened h id))
+    ∙ (ap (λ b. option_or (opened h id) (if b then Some o else None)) (ne_eqb o.request.id id other)
+    ∙ or_none (opened h id))
 
-found_id : (id : ℕ) (o x : Opened) (rest : Option Opened) (b : Bool) → (x.request.id == id) ≡ b → (rest ≡ Some o → o.request.id ≡ id) → (if b then Some x else rest) ≡ Some o → o.request.id ≡ id
+found_id : (id : ℕ) (o x : Opened) (rest : Option Opened) (b : Bool) → (x.request.id == id) ≡ b
+    → (rest ≡ Some o → o.request.id ≡ id) → (if b then Some x else rest) ≡ Some o → o.request.id ≡ id
 found_id id o x rest true same later e = let is : x.request.id ≡ id = eqb-true x.request.id id same in cc
 found_id id o x rest false same later e = later e
 
 find_id : (id : ℕ) (o : Opened) (xs : List Opened) → find (λ x. x.request.id == id) xs ≡ Some o → o.request.id ≡ id
 find_id id o [] e = cc
-find_id id o (x ∷ xs) e = found_id id o x (find (λ y. y.request.id == id) xs) (x.request.id == id) refl (find_id id o xs) e
+find_id id o (x ∷ xs) e = found_id id o x (find (λ y. y.request.id == id) xs) (x.request.id == id) refl
+    (find_id id o xs) e
 
 -- the account that is found has the id
 pub opened_id : (h : History) (o : Opened) (id : ℕ) → opened h id ≡ Some o → o.request.id ≡ id
 opened_id h o id e = find_id id o h.accounts e
 
 -- what holds of the accounts of every entry stays
-pub HasAccounts-with_account : (h : History) (o : Opened) (e : Entry) → HasAccounts h e → HasAccounts (with_account h o) e
+pub HasAccounts-with_account : (h : History) (o : Opened) (e : Entry) → HasAccounts h e
+    → HasAccounts (with_account h o) e
 HasAccounts-with_account h o e has =
-    (ap is_some (opened-with_account_same h o e.transfer.debit_account_id has.0) ∙ has.0, ap is_some (opened-with_account_same h o e.transfer.credit_account_id has.1) ∙ has.1)
+    (ap is_some (opened-with_account_same h o e.transfer.debit_account_id has.0) ∙ has.0,
+    ap is_some (opened-with_account_same h o e.transfer.credit_account_id has.1) ∙ has.1)
 
 -- ids that don't occur twice
 
 pub AreApart_push : (ns : List ℕ) (n : ℕ) → AreApart ns → AllByRecursion (λ m. m ≢ n) ns → AreApart (ns ++ n ∷ [])
 AreApart_push [] n apart new = (tt, tt)
-AreApart_push (m ∷ ns) n apart new = (AllByRecursion_push (λ k. m ≢ k) ns n apart.0 new.0, AreApart_push ns n apart.1 new.1)
+AreApart_push (m ∷ ns) n apart new =
+    (AllByRecursion_push (λ k. m ≢ k) ns n apart.0 new.0, AreApart_push ns n apart.1 new.1)
 
-not_found_id : (id : ℕ) (x : Opened) (rest : Option Opened) (b : Bool) → (x.request.id == id) ≡ b → (if b then Some x else rest) ≡ None → (x.request.id ≢ id) × (rest ≡ None)
+not_found_id : (id : ℕ) (x : Opened) (rest : Option Opened) (b : Bool) → (x.request.id == id) ≡ b
+    → (if b then Some x else rest) ≡ None → (x.request.id ≢ id) × (rest ≡ None)
 not_found_id id x rest true same e = cc
 not_found_id id x rest false same e = (eqb-false x.request.id id same, e)
 
-free_ids : (id : ℕ) (xs : List Opened) → find (λ x. x.request.id == id) xs ≡ None → AllByRecursion (λ m. m ≢ id) (map (λ x. x.request.id) xs)
+free_ids : (id : ℕ) (xs : List Opened) → find (λ x. x.request.id == id) xs ≡ None
+    → AllByRecursion (λ m. m ≢ id) (map (λ x. x.request.id) xs)
 free_ids id [] e = tt
 free_ids id (x ∷ xs) e =
-    let both : (x.request.id ≢ id) × (find (λ y. y.request.id == id) xs ≡ None) = not_found_id id x (find (λ y. y.request.id == id) xs) (x.request.id == id) refl e in
+    let both : (x.request.id ≢ id) × (find (λ y. y.request.id == id) xs ≡ None) =
+    not_found_id id x (find (λ y. y.request.id == id) xs) (x.request.id == id) refl e in
     (both.0, free_ids id xs both.1)
 
 -- one more account, of a free id, is apart from the others
-pub AreApart-with_account : (h : History) (o : Opened) → AreApart (map (λ x. x.request.id) h.accounts) → opened h o.request.id ≡ None
+pub AreApart-with_account : (h : History) (o : Opened) → AreApart (map (λ x. x.request.id) h.accounts)
+    → opened h o.request.id ≡ None
     → AreApart (map (λ x. x.request.id) (with_account h o).accounts)
 AreApart-with_account h o apart free =
     subst AreApart (sym (map_push (λ x. x.request.id) h.accounts o))
     (AreApart_push (map (λ x. x.request.id) h.accounts) o.request.id apart (free_ids o.request.id h.accounts free))
 
-find_each : (xs : List Opened) → AreApart (map (λ x. x.request.id) xs) → AllByRecursion (λ o. find (λ x. x.request.id == o.request.id) xs ≡ Some o) xs
+find_each : (xs : List Opened) → AreApart (map (λ x. x.request.id) xs)
+    → AllByRecursion (λ o. find (λ x. x.request.id == o.request.id) xs ≡ Some o) xs
 find_each [] apart = tt
 find_each (x ∷ xs) apart = (
   ap (λ b. if b then Some x else find (λ y. y.request.id == x.request.id) xs) (eq-eqb x.request.id x.request.id refl),
-  AllByRecursion-weaker (λ o. (x.request.id ≢ o.request.id) × (find (λ y. y.request.id == o.request.id) xs ≡ Some o)) (λ o. find (λ y. y.request.id == o.request.id) (x ∷ xs) ≡ Some o)
-      (λ o both. ap (λ b. if b then Some x else find (λ y. y.request.id == o.request.id) xs) (ne_eqb x.request.id o.request.id both.0) ∙ both.1) xs
-      (AllByRecursion-both (λ o. x.request.id ≢ o.request.id) (λ o. find (λ y. y.request.id == o.request.id) xs ≡ Some o) xs
+  AllByRecursion-weaker (λ o. (x.request.id ≢ o.request.id) × (find (λ y. y.request.id == o.request.id) xs ≡ Some o))
+  (λ o. find (λ y. y.request.id == o.request.id) (x ∷ xs) ≡ Some o)
+      (λ o both. ap (λ b. if b then Some x else find (λ y. y.request.id == o.request.id) xs)
+      (ne_eqb x.request.id o.request.id both.0) ∙ both.1) xs
+      (AllByRecursion-both (λ o. x.request.id ≢ o.request.id)
+      (λ o. find (λ y. y.request.id == o.request.id) xs ≡ Some o) xs
       (AllByRecursion-map (λ m. x.request.id ≢ m) (λ o. o.request.id) xs apart.0) (find_each xs apart.1)),
 )
 
 -- each account is the one that is found by its id
-pub opened_each : (h : History) → AreApart (map (λ x. x.request.id) h.accounts) → AllByRecursion (λ o. opened h o.request.id ≡ Some o) h.accounts
+pub opened_each : (h : History) → AreApart (map (λ x. x.request.id) h.accounts)
+    → AllByRecursion (λ o. opened h o.request.id ≡ Some o) h.accounts
 opened_each h apart = find_each h.accounts apart

@@ -19,14 +19,18 @@ use Rattle.cdc_ledger.proofs.StoredLaws.{stored_each}
 
 -- where the entry e settles the entry x, it is between the same accounts
 pub record HasSidesOf (e x : Entry) : Type 0 where
-  pub debit : holds x.kind ≡ true → resolves x.transfer e ≡ true → e.transfer.debit_account_id ≡ x.transfer.debit_account_id
-  pub credit : holds x.kind ≡ true → resolves x.transfer e ≡ true → e.transfer.credit_account_id ≡ x.transfer.credit_account_id
+  pub debit : holds x.kind ≡ true → resolves x.transfer e ≡ true
+      → e.transfer.debit_account_id ≡ x.transfer.debit_account_id
+  pub credit : holds x.kind ≡ true → resolves x.transfer e ≡ true
+      → e.transfer.credit_account_id ≡ x.transfer.credit_account_id
 
 -- so it is for each two entries of a history
 module _ (h : History) (sound : IsSound h) where
-  settled_entry : (e x y : Entry) → Settles h e y → stored h x.transfer.id ≡ Some x → (settled_id e.kind e.transfer == x.transfer.id) ≡ true → y ≡ x
+  settled_entry : (e x y : Entry) → Settles h e y → stored h x.transfer.id ≡ Some x
+      → (settled_id e.kind e.transfer == x.transfer.id) ≡ true → y ≡ x
   settled_entry e x y of found same =
-      let ids : settled_id e.kind e.transfer ≡ x.transfer.id = eqb-true (settled_id e.kind e.transfer) x.transfer.id same in
+      let ids : settled_id e.kind e.transfer ≡ x.transfer.id =
+      eqb-true (settled_id e.kind e.transfer) x.transfer.id same in
       let both : ◌≡◌ {A = Option Entry} (Some y) (Some x) = sym of.named ∙ (ap (stored h) ids ∙ found) in
       cc
 
@@ -36,16 +40,22 @@ module _ (h : History) (sound : IsSound h) where
     credit = λ holding is. (settled holding is).1;
   }
     where
-      settled : holds x.kind ≡ true → resolves x.transfer e ≡ true → (e.transfer.debit_account_id ≡ x.transfer.debit_account_id) × (e.transfer.credit_account_id ≡ x.transfer.credit_account_id)
+      settled : holds x.kind ≡ true → resolves x.transfer e ≡ true
+          → (e.transfer.debit_account_id ≡ x.transfer.debit_account_id) ×
+          (e.transfer.credit_account_id ≡ x.transfer.credit_account_id)
       settled holding is =
-          let parts : (settles e.kind ≡ true) × ((settled_id e.kind e.transfer == x.transfer.id) ≡ true) = and_parts (settles e.kind) (settled_id e.kind e.transfer == x.transfer.id) (sym (resolves_is e x.transfer) ∙ is) in
+          let parts : (settles e.kind ≡ true) × ((settled_id e.kind e.transfer == x.transfer.id) ≡ true) =
+          and_parts (settles e.kind) (settled_id e.kind e.transfer == x.transfer.id)
+          (sym (resolves_is e x.transfer) ∙ is) in
           let named : (y : Entry) × Settles h e y = stands.settling parts.0 in
           let same : named.0 ≡ x = settled_entry e x named.0 named.1 (found (stores-holds x.kind holding)) parts.1 in
-          (named.1.debit ∙ ap (λ (y : Entry). y.transfer.debit_account_id) same, named.1.credit ∙ ap (λ (y : Entry). y.transfer.credit_account_id) same)
+          (named.1.debit ∙ ap (λ (y : Entry). y.transfer.debit_account_id) same, named.1.credit
+          ∙ ap (λ (y : Entry). y.transfer.credit_account_id) same)
 
   pub sides_of_all : AllByRecursion (λ e. AllByRecursion (HasSidesOf e) h.entries) h.entries
   sides_of_all = AllByRecursion-weaker (Stands h) (λ e. AllByRecursion (HasSidesOf e) h.entries)
-      (λ e stands. AllByRecursion-weaker (λ x. stores x.kind ≡ true → stored h x.transfer.id ≡ Some x) (HasSidesOf e) (λ x found. one_entry e x stands found) h.entries (stored_each h sound.once))
+      (λ e stands. AllByRecursion-weaker (λ x. stores x.kind ≡ true → stored h x.transfer.id ≡ Some x) (HasSidesOf e)
+      (λ x found. one_entry e x stands found) h.entries (stored_each h sound.once))
       h.entries sound.standing
 
 module _ (h : History) (e : Entry) (a : ℕ) (within : IsUpTo h.last h) (after : h.last < e.timestamp) where
@@ -60,14 +70,16 @@ module _ (h : History) (e : Entry) (a : ℕ) (within : IsUpTo h.last h) (after :
   kept x unresolved =
       ap (λ b. held_by b x)
       (resolved-pushed h e x.transfer e.timestamp
-      ∙ (ap₂ (λ b c. b || c) (resolved_later h x.transfer h.last e.timestamp within (omega arith)) (and_right (nat_le e.timestamp e.timestamp) (resolves x.transfer e) unresolved)
+      ∙ (ap₂ (λ b c. b || c) (resolved_later h x.transfer h.last e.timestamp within (omega arith))
+      (and_right (nat_le e.timestamp e.timestamp) (resolves x.transfer e) unresolved)
       ∙ or_no (resolved h x.transfer h.last)))
     where
       or_no : (b : Bool) → (b || false) ≡ b
       or_no true = refl
       or_no false = refl
 
-  held_either : (x : Entry) (holding done : Bool) → holds x.kind ≡ holding → resolves x.transfer e ≡ done → (holding ≡ true → done ≡ true → false ≡ true) → held (pushed h e) e.timestamp x ≡ held h h.last x
+  held_either : (x : Entry) (holding done : Bool) → holds x.kind ≡ holding → resolves x.transfer e ≡ done
+      → (holding ≡ true → done ≡ true → false ≡ true) → held (pushed h e) e.timestamp x ≡ held h h.last x
   held_either x holding false is settled never = kept x settled
   held_either x true true is settled never = absurd (false≢true (never refl refl))
   held_either x false true is settled never =
@@ -75,39 +87,58 @@ module _ (h : History) (e : Entry) (a : ℕ) (within : IsUpTo h.last h) (after :
       ∙ sym (ap (λ b. if b && not (resolved h x.transfer h.last) then x.transfer.amount else 0) is)
 
   -- the shares of the account in what was there
-  one_share : (side : Transfer → ℕ) (x : Entry) (b : Bool) → (side x.transfer == a) ≡ b → side e.transfer ≢ a → (holds x.kind ≡ true → resolves x.transfer e ≡ true → side e.transfer ≡ side x.transfer)
+  one_share : (side : Transfer → ℕ) (x : Entry) (b : Bool) → (side x.transfer == a) ≡ b → side e.transfer ≢ a
+      → (holds x.kind ≡ true → resolves x.transfer e ≡ true → side e.transfer ≡ side x.transfer)
       → x.timestamp ≤ h.last → right_after side x ≡ before side x
   one_share side x false is other sides at =
-      ap (λ b. if b then held (pushed h e) e.timestamp x else 0) (and_right (nat_le x.timestamp e.timestamp) (side x.transfer == a) is)
-      ∙ sym (ap (λ b. if b then held h h.last x else 0) (and_right (nat_le x.timestamp h.last) (side x.transfer == a) is))
+      ap (λ b. if b then held (pushed h e) e.timestamp x else 0)
+      (and_right (nat_le x.timestamp e.timestamp) (side x.transfer == a) is)
+      ∙ sym (ap (λ b. if b then held h h.last x else 0)
+      (and_right (nat_le x.timestamp h.last) (side x.transfer == a) is))
   one_share side x true is other sides at =
       ap₂ (λ b n. if b && (side x.transfer == a) then n else 0) (seen_alike x h.last e.timestamp at (omega arith))
-      (held_either x (holds x.kind) (resolves x.transfer e) refl refl (λ holding settled. absurd (other (sides holding settled ∙ eqb-true (side x.transfer) a is))))
+      (held_either x (holds x.kind) (resolves x.transfer e) refl refl
+      (λ holding settled. absurd (other (sides holding settled ∙ eqb-true (side x.transfer) a is))))
 
-  all_shares : (side : Transfer → ℕ) → side e.transfer ≢ a → AllByRecursion (λ x. holds x.kind ≡ true → resolves x.transfer e ≡ true → side e.transfer ≡ side x.transfer) h.entries
+  all_shares : (side : Transfer → ℕ) → side e.transfer ≢ a
+      → AllByRecursion (λ x. holds x.kind ≡ true → resolves x.transfer e ≡ true → side e.transfer ≡ side x.transfer)
+      h.entries
       → sum_by (right_after side) (h.entries ++ e ∷ []) ≡ sum_by (before side) h.entries
   all_shares side other sides =
       sum_by_push (right_after side) h.entries e
       ∙ (ap₂ (λ m n. m + n)
       (sum_by_same (right_after side) (before side) h.entries
-      (AllByRecursion-weaker (λ x. (holds x.kind ≡ true → resolves x.transfer e ≡ true → side e.transfer ≡ side x.transfer) × (x.timestamp ≤ h.last)) (λ x. right_after side x ≡ before side x)
+      (AllByRecursion-weaker
+      (λ x. (holds x.kind ≡ true → resolves x.transfer e ≡ true → side e.transfer ≡ side x.transfer) ×
+      (x.timestamp ≤ h.last)) (λ x. right_after side x ≡ before side x)
       (λ x both. one_share side x (side x.transfer == a) refl other both.0 both.1) h.entries
-      (AllByRecursion-both (λ x. holds x.kind ≡ true → resolves x.transfer e ≡ true → side e.transfer ≡ side x.transfer) (λ x. x.timestamp ≤ h.last) h.entries sides within)))
-      (ap (λ b. if b then held (pushed h e) e.timestamp e else 0) (and_right (nat_le e.timestamp e.timestamp) (side e.transfer == a) (ne_eqb (side e.transfer) a other)))
+      (AllByRecursion-both (λ x. holds x.kind ≡ true → resolves x.transfer e ≡ true → side e.transfer ≡ side x.transfer)
+      (λ x. x.timestamp ≤ h.last) h.entries sides within)))
+      (ap (λ b. if b then held (pushed h e) e.timestamp e else 0)
+      (and_right (nat_le e.timestamp e.timestamp) (side e.transfer == a) (ne_eqb (side e.transfer) a other)))
       ∙ add-zero (sum_by (before side) h.entries))
 
-  all_moved : (side : Transfer → ℕ) → side e.transfer ≢ a → sum_by (share moved side a e.timestamp) (h.entries ++ e ∷ []) ≡ sum_by (share moved side a h.last) h.entries
+  all_moved : (side : Transfer → ℕ) → side e.transfer ≢ a
+      → sum_by (share moved side a e.timestamp) (h.entries ++ e ∷ []) ≡ sum_by (share moved side a h.last) h.entries
   all_moved side other =
       sum_by_push (share moved side a e.timestamp) h.entries e
       ∙ (ap₂ (λ m n. m + n) (moved_agree h a h.last e.timestamp within (omega arith) side)
-      (ap (λ b. if b then moved e else 0) (and_right (nat_le e.timestamp e.timestamp) (side e.transfer == a) (ne_eqb (side e.transfer) a other)))
+      (ap (λ b. if b then moved e else 0)
+      (and_right (nat_le e.timestamp e.timestamp) (side e.transfer == a) (ne_eqb (side e.transfer) a other)))
       ∙ add-zero (sum_by (share moved side a h.last) h.entries))
 
   -- an account that the entry doesn't name
-  pub balances-pushed_other : AllByRecursion (HasSidesOf e) h.entries → e.transfer.debit_account_id ≢ a → e.transfer.credit_account_id ≢ a → balances (pushed h e) a e.timestamp ≡ balances h a h.last
+  pub balances-pushed_other : AllByRecursion (HasSidesOf e) h.entries → e.transfer.debit_account_id ≢ a
+      → e.transfer.credit_account_id ≢ a → balances (pushed h e) a e.timestamp ≡ balances h a h.last
   balances-pushed_other sides debit credit =
       same_balances _ _ _ _ _ _ _ _
-      (all_shares debit_side debit (AllByRecursion-weaker (HasSidesOf e) (λ x. holds x.kind ≡ true → resolves x.transfer e ≡ true → e.transfer.debit_account_id ≡ x.transfer.debit_account_id) (λ x of. of.debit) h.entries sides))
+      (all_shares debit_side debit
+      (AllByRecursion-weaker (HasSidesOf e)
+      (λ x. holds x.kind ≡ true → resolves x.transfer e ≡ true → e.transfer.debit_account_id
+      ≡ x.transfer.debit_account_id) (λ x of. of.debit) h.entries sides))
       (all_moved debit_side debit)
-      (all_shares credit_side credit (AllByRecursion-weaker (HasSidesOf e) (λ x. holds x.kind ≡ true → resolves x.transfer e ≡ true → e.transfer.credit_account_id ≡ x.transfer.credit_account_id) (λ x of. of.credit) h.entries sides))
+      (all_shares credit_side credit
+      (AllByRecursion-weaker (HasSidesOf e)
+      (λ x. holds x.kind ≡ true → resolves x.transfer e ≡ true → e.transfer.credit_account_id
+      ≡ x.transfer.credit_account_id) (λ x of. of.credit) h.entries sides))
       (all_moved credit_side credit)

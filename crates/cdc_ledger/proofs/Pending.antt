@@ -128,7 +128,7 @@ other_ids e (x ∷ front) back is apart =
         → (stores x.kind ≡ true → AllByRecursion (HasOtherId x) (front ++ e ∷ back)) → HasOtherId e x
     turned true stored others =
         let other : (stores e.kind && (e.transfer.id == x.transfer.id)) ≡ false = here (HasOtherId x) e front back
-            (others stored) in
+        (others stored) in
         id_turned (stores x.kind) e.transfer.id x.transfer.id
         (ap (λ b. b && (e.transfer.id == x.transfer.id)) (sym is) ∙ other)
     turned false stored others = ap (λ b. b && (x.transfer.id == e.transfer.id)) stored
@@ -181,7 +181,7 @@ pub IsOther-around : (h : History) (e : Entry) (among : IsAmong h.entries e) →
     → Around (λ y. stores y.kind ≡ true → IsOther e y) among.front among.back
 IsOther-around h e among sound stored =
     let own : e.transfer.timestamp ≡ e.timestamp = (All-among (Stands h) h.entries e among sound.standing).dated
-        stored in
+    stored in
     Around-weaker (λ y. HasOtherId e y × (y.timestamp ≢ e.timestamp) × Stands h y)
     (λ y. stores y.kind ≡ true → IsOther e y)
     (λ y known is. record {

@@ -31,19 +31,27 @@ never_memory false false true wrong = cc
 never_memory false false false wrong = cc
 
 module _ (h : History) (now count : ℕ) (counted : count ≡ length (due h now)) where
-
   by_refusal : submit h (Pulse now)
       ≡ answered (refusal_at h false now count) (Pulsed (length (due h now)), expiries_from h (base h now) (due h now))
   by_refusal = ap (λ n. answered (refusal_at h false now n)
       (Pulsed (length (due h now)), expiries_from h (base h now) (due h now))) (sym counted)
 
   pub pulse-refused : (e : BatchError) → refusal_at h false now count ≡ Some e → Answers Pulsed h (Pulse now) (Err e) h
-  pulse-refused LedgerClosed refused = (by_refusal
-      ∙ ap (λ r. answered r (Pulsed (length (due h now)), expiries_from h (base h now) (due h now))) refused, refl)
-  pulse-refused BatchTooLarge refused = (by_refusal
-      ∙ ap (λ r. answered r (Pulsed (length (due h now)), expiries_from h (base h now) (due h now))) refused, refl)
-  pulse-refused TimestampsExhausted refused = (by_refusal
-      ∙ ap (λ r. answered r (Pulsed (length (due h now)), expiries_from h (base h now) (due h now))) refused, refl)
+  pulse-refused LedgerClosed refused = (
+    by_refusal
+        ∙ ap (λ r. answered r (Pulsed (length (due h now)), expiries_from h (base h now) (due h now))) refused,
+    refl,
+  )
+  pulse-refused BatchTooLarge refused = (
+    by_refusal
+        ∙ ap (λ r. answered r (Pulsed (length (due h now)), expiries_from h (base h now) (due h now))) refused,
+    refl,
+  )
+  pulse-refused TimestampsExhausted refused = (
+    by_refusal
+        ∙ ap (λ r. answered r (Pulsed (length (due h now)), expiries_from h (base h now) (due h now))) refused,
+    refl,
+  )
   pulse-refused OutOfMemory refused = absurd (never_memory h.closed false (is_past_the_end h now count) refused)
 
   taken : refusal_at h false now count ≡ None

@@ -26,10 +26,12 @@ abbrev FitBoth : Balances → Type 0
 FitBoth b = (b.debits_pending + b.debits_posted ≤ max_128) × (b.credits_pending + b.credits_posted ≤ max_128)
 
 bounded_later : (h : History) (t : ℕ) → IsSound h → h.last ≤ t → (id : ℕ) → FitBoth (balances h id t)
-bounded_later h t sound later id = subst FitBoth (sym (balances_later h id h.last t sound.past later)) (sound.bounded id)
+bounded_later h t sound later id =
+    subst FitBoth (sym (balances_later h id h.last t sound.past later)) (sound.bounded id)
 
 IsUpTo-later : (h : History) (s t : ℕ) → IsUpTo s h → s ≤ t → IsUpTo t h
-IsUpTo-later h s t within later = AllByRecursion-weaker (λ e. e.timestamp ≤ s) (λ e. e.timestamp ≤ t) (λ e at. omega arith) h.entries within
+IsUpTo-later h s t within later =
+    AllByRecursion-weaker (λ e. e.timestamp ≤ s) (λ e. e.timestamp ≤ t) (λ e at. omega arith) h.entries within
 
 -- a change that stores no transfer, or stores one more
 Settles-again : (h g : History) (e x : Entry) → g.entries ≡ h.entries → Settles h e x → Settles g e x
@@ -50,8 +52,10 @@ Stands-again h g e same stands = record {
   settling = λ is. ((stands.settling is).0, Settles-again h g e (stands.settling is).0 same (stands.settling is).1);
 }
 
-standing_again : (h g : History) (es : List Entry) → g.entries ≡ h.entries → AllByRecursion (Stands h) es → AllByRecursion (Stands g) es
-standing_again h g es same standing = AllByRecursion-weaker (Stands h) (Stands g) (λ e stands. Stands-again h g e same stands) es standing
+standing_again : (h g : History) (es : List Entry) → g.entries ≡ h.entries → AllByRecursion (Stands h) es
+    → AllByRecursion (Stands g) es
+standing_again h g es same standing =
+    AllByRecursion-weaker (Stands h) (Stands g) (λ e stands. Stands-again h g e same stands) es standing
 
 Settles-pushed : (h : History) (new e x : Entry) → Settles h e x → Settles (pushed h new) e x
 Settles-pushed h new e x of = record {
@@ -111,12 +115,14 @@ IsSound-shut h closed sound = record {
 pub IsSound-closed : (h : History) → IsSound h → IsSound (record h { closed = true })
 IsSound-closed h sound = IsSound-shut h true sound
 
-pub IsSound-with_account : (h : History) (o : Opened) → IsSound h → opened h o.request.id ≡ None → h.last ≤ o.timestamp → o.timestamp ≤ max_timestamp
+pub IsSound-with_account : (h : History) (o : Opened) → IsSound h → opened h o.request.id ≡ None → h.last ≤ o.timestamp
+    → o.timestamp ≤ max_timestamp
     → IsSound (with_account h o)
 IsSound-with_account h o sound free later fits = record {
   rising = sound.rising;
   past = IsUpTo-later h h.last o.timestamp sound.past later;
-  known = AllByRecursion-weaker (HasAccounts h) (HasAccounts (with_account h o)) (HasAccounts-with_account h o) h.entries sound.known;
+  known = AllByRecursion-weaker (HasAccounts h) (HasAccounts (with_account h o))
+      (HasAccounts-with_account h o) h.entries sound.known;
   unique = AreApart-with_account h o sound.unique free;
   once = sound.once;
   standing = standing_again h (with_account h o) h.entries refl sound.standing;
@@ -124,9 +130,11 @@ IsSound-with_account h o sound free later fits = record {
   within = fits;
 }
 
-RiseFrom_push : (t m : ℕ) (es : List Entry) (e : Entry) → RiseFrom t es → AllByRecursion (λ x. x.timestamp ≤ m) es → t ≤ m → m < e.timestamp → RiseFrom t (es ++ e ∷ [])
+RiseFrom_push : (t m : ℕ) (es : List Entry) (e : Entry) → RiseFrom t es → AllByRecursion (λ x. x.timestamp ≤ m) es
+    → t ≤ m → m < e.timestamp → RiseFrom t (es ++ e ∷ [])
 RiseFrom_push t m [] e rising past before after = (omega arith, tt)
-RiseFrom_push t m (x ∷ es) e rising past before after = (rising.0, RiseFrom_push x.timestamp m es e rising.1 past.1 past.0 after)
+RiseFrom_push t m (x ∷ es) e rising past before after =
+    (rising.0, RiseFrom_push x.timestamp m es e rising.1 past.1 past.0 after)
 
 -- an entry holds its amount or moves it, and not both
 one_amount : (k : EventKind) (n : ℕ) → (if holds k then n else 0) + (if moves k then n else 0) ≤ n
@@ -139,40 +147,55 @@ one_amount TwoPhaseExpired n = omega arith
 -- what joins the sums of an account fits in the place of what leaves them
 module _ (h : History) (e : Entry) (sound : IsSound h) (follows : Follows h e) where
   abbrev pub DebitFits : ℕ → Type 0
-  DebitFits a = (balances h a h.last).debits_pending + (balances h a h.last).debits_posted + (effect_of h e).held + (effect_of h e).moved ≤ max_128 + (effect_of h e).released
+  DebitFits a = (balances h a h.last).debits_pending + (balances h a h.last).debits_posted + (effect_of h e).held +
+      (effect_of h e).moved ≤ max_128 + (effect_of h e).released
 
   abbrev pub CreditFits : ℕ → Type 0
-  CreditFits a = (balances h a h.last).credits_pending + (balances h a h.last).credits_posted + (effect_of h e).held + (effect_of h e).moved ≤ max_128 + (effect_of h e).released
+  CreditFits a = (balances h a h.last).credits_pending + (balances h a h.last).credits_posted + (effect_of h e).held +
+      (effect_of h e).moved ≤ max_128 + (effect_of h e).released
 
-  pub both_fit : (b : Bool) → settles e.kind ≡ b → DebitFits e.transfer.debit_account_id × CreditFits e.transfer.credit_account_id
+  pub both_fit : (b : Bool) → settles e.kind ≡ b
+      → DebitFits e.transfer.debit_account_id × CreditFits e.transfer.credit_account_id
   both_fit true is =
       let of : SettlesOpen h e = follows.settling is in
-      let out : (effect_of h e).released ≡ of.pending.transfer.amount = ap amount_of (settled_by_is h e of.pending is of.settles) in
+      let out : (effect_of h e).released ≡ of.pending.transfer.amount =
+      ap amount_of (settled_by_is h e of.pending is of.settles) in
       let less : e.transfer.amount ≤ of.pending.transfer.amount = of.settles.within in
-      let one : (effect_of h e).held + (effect_of h e).moved ≤ e.transfer.amount = one_amount e.kind e.transfer.amount in
-      let debits : FitBoth (balances h e.transfer.debit_account_id h.last) = sound.bounded e.transfer.debit_account_id in
-      let credits : FitBoth (balances h e.transfer.credit_account_id h.last) = sound.bounded e.transfer.credit_account_id in
+      let one : (effect_of h e).held + (effect_of h e).moved ≤ e.transfer.amount =
+      one_amount e.kind e.transfer.amount in
+      let debits : FitBoth (balances h e.transfer.debit_account_id h.last) =
+      sound.bounded e.transfer.debit_account_id in
+      let credits : FitBoth (balances h e.transfer.credit_account_id h.last) =
+      sound.bounded e.transfer.credit_account_id in
       (omega (arith, debits.0), omega (arith, credits.1))
   both_fit false is =
       let room : HasRoom h e = follows.room is in
-      let one : (effect_of h e).held + (effect_of h e).moved ≤ e.transfer.amount = one_amount e.kind e.transfer.amount in
+      let one : (effect_of h e).held + (effect_of h e).moved ≤ e.transfer.amount =
+      one_amount e.kind e.transfer.amount in
       (omega (arith, room.debit), omega (arith, room.credit))
 
-part_fits : (m n held moved released side account top : ℕ) (b : Bool) → (side == account) ≡ b → m + n ≤ top → (if b then released else 0) ≤ m → (side ≡ account → m + n + held + moved ≤ top + released)
+part_fits : (m n held moved released side account top : ℕ) (b : Bool) → (side == account) ≡ b → m + n ≤ top
+    → (if b then released else 0) ≤ m → (side ≡ account → m + n + held + moved ≤ top + released)
     → (m + (if b then held else 0) - (if b then released else 0)) + (n + (if b then moved else 0)) ≤ top
-part_fits m n held moved released side account top true same small enough fits = let more : m + n + held + moved ≤ top + released = fits (eqb-true side account same) in omega arith
+part_fits m n held moved released side account top true same small enough fits =
+    let more : m + n + held + moved ≤ top + released = fits (eqb-true side account same) in omega arith
 part_fits m n held moved released side account top false same small enough fits = omega arith
 
-bounded-pushed : (h : History) (e : Entry) → IsSound h → Follows h e → h.last < e.timestamp → (id : ℕ) → FitBoth (balances (pushed h e) id e.timestamp)
+bounded-pushed : (h : History) (e : Entry) → IsSound h → Follows h e → h.last < e.timestamp → (id : ℕ)
+    → FitBoth (balances (pushed h e) id e.timestamp)
 bounded-pushed h e sound follows after id =
-    let fits : DebitFits h e sound follows e.transfer.debit_account_id × CreditFits h e sound follows e.transfer.credit_account_id = both_fit h e sound follows (settles e.kind) refl in
+    let fits : DebitFits h e sound follows e.transfer.debit_account_id × CreditFits h e sound follows
+        e.transfer.credit_account_id = both_fit h e sound follows (settles e.kind) refl in
     let f = effect_of h e in
     let now = balances h id h.last in
     let was : FitBoth now = sound.bounded id in
     let enough = released_fits h e id sound follows after in
     subst FitBoth (sym (balances-pushed h e id sound follows after)) (
-      part_fits now.debits_pending now.debits_posted f.held f.moved f.released e.transfer.debit_account_id id max_128 (e.transfer.debit_account_id == id) refl was.0 enough.0 (λ same. subst (DebitFits h e sound follows) same fits.0),
-      part_fits now.credits_pending now.credits_posted f.held f.moved f.released e.transfer.credit_account_id id max_128 (e.transfer.credit_account_id == id) refl was.1 enough.1 (λ same. subst (CreditFits h e sound follows) same fits.1),
+      part_fits now.debits_pending now.debits_posted f.held f.moved f.released e.transfer.debit_account_id id max_128
+      (e.transfer.debit_account_id == id) refl was.0 enough.0 (λ same. subst (DebitFits h e sound follows) same fits.0),
+      part_fits now.credits_pending now.credits_posted f.held f.moved f.released e.transfer.credit_account_id id max_128
+      (e.transfer.credit_account_id == id) refl was.1 enough.1
+      (λ same. subst (CreditFits h e sound follows) same fits.1),
     )
 
 -- the new entry stands too
@@ -181,13 +204,17 @@ Stands-new h e follows = record {
   apart = follows.apart;
   dated = follows.dated;
   timely = follows.timely;
-  settling = λ is. ((follows.settling is).pending, Settles-pushed h e e (follows.settling is).pending (follows.settling is).settles);
+  settling =
+      λ is. ((follows.settling is).pending,
+      Settles-pushed h e e (follows.settling is).pending (follows.settling is).settles);
 }
 
-pub IsSound-pushed : (h : History) (e : Entry) → IsSound h → Follows h e → h.last < e.timestamp → e.timestamp ≤ max_timestamp → IsSound (pushed h e)
+pub IsSound-pushed : (h : History) (e : Entry) → IsSound h → Follows h e → h.last < e.timestamp
+    → e.timestamp ≤ max_timestamp → IsSound (pushed h e)
 IsSound-pushed h e sound follows after top = record {
   rising = RiseFrom_push 0 h.last h.entries e sound.rising sound.past (omega arith) after;
-  past = AllByRecursion_push (λ x. x.timestamp ≤ e.timestamp) h.entries e (IsUpTo-later h h.last e.timestamp sound.past (omega arith)) (omega arith);
+  past = AllByRecursion_push (λ x. x.timestamp ≤ e.timestamp) h.entries e
+      (IsUpTo-later h h.last e.timestamp sound.past (omega arith)) (omega arith);
   known = AllByRecursion_push (HasAccounts h) h.entries e sound.known follows.accounts;
   unique = sound.unique;
   once = once-pushed h e sound.once follows.fresh;

@@ -18,32 +18,41 @@ use Rattle.cdc_ledger.proofs.OpenedLaws.{AreApart_push}
 abbrev pub is_stored : ℕ → Entry → Bool
 is_stored id e = stores e.kind && (e.transfer.id == id)
 
-pub stored-pushed : (h : History) (e : Entry) (id : ℕ) → stored (pushed h e) id ≡ option_or (stored h id) (if is_stored id e then Some e else None)
+pub stored-pushed : (h : History) (e : Entry) (id : ℕ)
+    → stored (pushed h e) id ≡ option_or (stored h id) (if is_stored id e then Some e else None)
 stored-pushed h e id = find-append (is_stored id) h.entries (e ∷ [])
 
 -- what was stored stays
 pub stored-pushed_kept : (h : History) (e x : Entry) (id : ℕ) → stored h id ≡ Some x → stored (pushed h e) id ≡ Some x
-stored-pushed_kept h e x id there = stored-pushed h e id ∙ ap (λ p. option_or p (if is_stored id e then Some e else None)) there
+stored-pushed_kept h e x id there =
+    stored-pushed h e id ∙ ap (λ p. option_or p (if is_stored id e then Some e else None)) there
 
 -- a new one is found
-pub stored-pushed_new : (h : History) (e : Entry) → stores e.kind ≡ true → stored h e.transfer.id ≡ None → stored (pushed h e) e.transfer.id ≡ Some e
+pub stored-pushed_new : (h : History) (e : Entry) → stores e.kind ≡ true → stored h e.transfer.id ≡ None
+    → stored (pushed h e) e.transfer.id ≡ Some e
 stored-pushed_new h e stored_now free =
     stored-pushed h e e.transfer.id
     ∙ (ap (λ p. option_or p (if is_stored e.transfer.id e then Some e else None)) free
-    ∙ ap (λ b. if b then Some e else None) (and_from (stores e.kind) (e.transfer.id == e.transfer.id) stored_now (eq-eqb e.transfer.id e.transfer.id refl)))
+    ∙ ap (λ b. if b then Some e else None)
+    (and_from (stores e.kind) (e.transfer.id == e.transfer.id) stored_now (eq-eqb e.transfer.id e.transfer.id refl)))
 
 module _ {X : Type 0} (test : X → Bool) where
-  found_from : (P : X → Type 0) (b : Bool) (x found : X) (rest : Option X) → test x ≡ b → P x → (rest ≡ Some found → (test found ≡ true) × P found)
+  found_from : (P : X → Type 0) (b : Bool) (x found : X) (rest : Option X) → test x ≡ b → P x
+      → (rest ≡ Some found → (test found ≡ true) × P found)
       → (if b then Some x else rest) ≡ Some found → (test found ≡ true) × P found
-  found_from P true x found rest is here later e = let same : x ≡ found = cc in subst (λ y. (test y ≡ true) × P y) same (is, here)
+  found_from P true x found rest is here later e = let same : x ≡ found = cc in
+      subst (λ y. (test y ≡ true) × P y) same (is, here)
   found_from P false x found rest is here later e = later e
 
   -- what is found passes the test, and has what all have
-  pub find_all : (P : X → Type 0) (xs : List X) (found : X) → AllByRecursion P xs → find test xs ≡ Some found → (test found ≡ true) × P found
+  pub find_all : (P : X → Type 0) (xs : List X) (found : X) → AllByRecursion P xs → find test xs ≡ Some found
+      → (test found ≡ true) × P found
   find_all P [] found all e = cc
-  find_all P (x ∷ xs) found all e = found_from P (test x) x found (find test xs) refl all.0 (find_all P xs found all.1) e
+  find_all P (x ∷ xs) found all e =
+      found_from P (test x) x found (find test xs) refl all.0 (find_all P xs found all.1) e
 
-  not_found_from : (b : Bool) (x : X) (rest : Option X) → test x ≡ b → (if b then Some x else rest) ≡ None → (test x ≡ false) × (rest ≡ None)
+  not_found_from : (b : Bool) (x : X) (rest : Option X) → test x ≡ b → (if b then Some x else rest) ≡ None
+      → (test x ≡ false) × (rest ≡ None)
   not_found_from true x rest is e = cc
   not_found_from false x rest is e = (is, e)
 
@@ -55,69 +64,90 @@ module _ {X : Type 0} (test : X → Bool) where
       (both.0, find_none xs both.1)
 
 -- what the entry that is found has
-pub stored_has : (P : Entry → Type 0) (h : History) (id : ℕ) (x : Entry) → AllByRecursion P h.entries → stored h id ≡ Some x → P x
+pub stored_has : (P : Entry → Type 0) (h : History) (id : ℕ) (x : Entry) → AllByRecursion P h.entries
+    → stored h id ≡ Some x → P x
 stored_has P h id x all there = (find_all (is_stored id) P h.entries x all there).1
 
 all_stored : (id : ℕ) (es : List Entry) → AllByRecursion (λ e. Unit {0}) es
 all_stored id [] = tt
 all_stored id (e ∷ es) = (tt, all_stored id es)
 
-pub stored_is : (h : History) (id : ℕ) (x : Entry) → stored h id ≡ Some x → (stores x.kind ≡ true) × (x.transfer.id ≡ id)
+pub stored_is : (h : History) (id : ℕ) (x : Entry) → stored h id ≡ Some x
+    → (stores x.kind ≡ true) × (x.transfer.id ≡ id)
 stored_is h id x there =
-    let both : (stores x.kind ≡ true) × ((x.transfer.id == id) ≡ true) = and_parts (stores x.kind) (x.transfer.id == id) (find_all (is_stored id) (λ e. Unit {0}) h.entries x (all_stored id h.entries) there).0 in
+    let both : (stores x.kind ≡ true) × ((x.transfer.id == id) ≡ true) =
+    and_parts (stores x.kind) (x.transfer.id == id)
+    (find_all (is_stored id) (λ e. Unit {0}) h.entries x (all_stored id h.entries) there).0 in
     (both.0, eqb-true x.transfer.id id both.1)
 
 -- ids of stored transfers, one entry after another
 
-other_id : (id : ℕ) (b : Bool) (e : Entry) (ns : List ℕ) → stores e.kind ≡ b → AllByRecursion (λ m. id ≢ m) (if b then e.transfer.id ∷ ns else ns)
+other_id : (id : ℕ) (b : Bool) (e : Entry) (ns : List ℕ) → stores e.kind ≡ b
+    → AllByRecursion (λ m. id ≢ m) (if b then e.transfer.id ∷ ns else ns)
     → (is_stored id e ≡ false) × AllByRecursion (λ m. id ≢ m) ns
-other_id id true e ns is others = (and_right (stores e.kind) (e.transfer.id == id) (ne_eqb e.transfer.id id (λ same. others.0 (sym same))), others.1)
+other_id id true e ns is others =
+    (and_right (stores e.kind) (e.transfer.id == id) (ne_eqb e.transfer.id id (λ same. others.0 (sym same))), others.1)
 other_id id false e ns is others = (ap (λ b. b && (e.transfer.id == id)) is, others)
 
-ids_cons : (e : Entry) (es : List Entry) (b : Bool) → map (λ x. x.transfer.id) (if b then e ∷ filter (λ x. stores x.kind) es else filter (λ x. stores x.kind) es)
+ids_cons : (e : Entry) (es : List Entry) (b : Bool)
+    → map (λ x. x.transfer.id) (if b then e ∷ filter (λ x. stores x.kind) es else filter (λ x. stores x.kind) es)
     ≡ (if b then e.transfer.id ∷ stored_ids es else stored_ids es)
 ids_cons e es true = refl
 ids_cons e es false = refl
 
-pub stored_ids-cons : (e : Entry) (es : List Entry) → stored_ids (e ∷ es) ≡ (if stores e.kind then e.transfer.id ∷ stored_ids es else stored_ids es)
+pub stored_ids-cons : (e : Entry) (es : List Entry)
+    → stored_ids (e ∷ es) ≡ (if stores e.kind then e.transfer.id ∷ stored_ids es else stored_ids es)
 stored_ids-cons e es = ids_cons e es (stores e.kind)
 
 -- an id that isn't among the stored ones
-pub none_stored : (id : ℕ) (es : List Entry) → AllByRecursion (λ m. id ≢ m) (stored_ids es) → AllByRecursion (λ e. is_stored id e ≡ false) es
+pub none_stored : (id : ℕ) (es : List Entry) → AllByRecursion (λ m. id ≢ m) (stored_ids es)
+    → AllByRecursion (λ e. is_stored id e ≡ false) es
 none_stored id [] others = tt
 none_stored id (e ∷ es) others =
     let both : (is_stored id e ≡ false) × AllByRecursion (λ m. id ≢ m) (stored_ids es) =
-    other_id id (stores e.kind) e (stored_ids es) refl (subst (AllByRecursion (λ m. id ≢ m)) (stored_ids-cons e es) others) in
+    other_id id (stores e.kind) e (stored_ids es) refl
+    (subst (AllByRecursion (λ m. id ≢ m)) (stored_ids-cons e es) others) in
     (both.0, none_stored id es both.1)
 
-none_id : (id : ℕ) (b : Bool) (e : Entry) (ns : List ℕ) → stores e.kind ≡ b → is_stored id e ≡ false → AllByRecursion (λ m. m ≢ id) ns → AllByRecursion (λ m. m ≢ id) (if b then e.transfer.id ∷ ns else ns)
-none_id id true e ns is other others = (eqb-false e.transfer.id id (sym (ap (λ b. b && (e.transfer.id == id)) is) ∙ other), others)
+none_id : (id : ℕ) (b : Bool) (e : Entry) (ns : List ℕ) → stores e.kind ≡ b → is_stored id e ≡ false
+    → AllByRecursion (λ m. m ≢ id) ns → AllByRecursion (λ m. m ≢ id) (if b then e.transfer.id ∷ ns else ns)
+none_id id true e ns is other others =
+    (eqb-false e.transfer.id id (sym (ap (λ b. b && (e.transfer.id == id)) is) ∙ other), others)
 none_id id false e ns is other others = others
 
-ids_without : (id : ℕ) (es : List Entry) → AllByRecursion (λ e. is_stored id e ≡ false) es → AllByRecursion (λ m. m ≢ id) (stored_ids es)
+ids_without : (id : ℕ) (es : List Entry) → AllByRecursion (λ e. is_stored id e ≡ false) es
+    → AllByRecursion (λ m. m ≢ id) (stored_ids es)
 ids_without id [] others = tt
-ids_without id (e ∷ es) others = subst (AllByRecursion (λ m. m ≢ id)) (sym (stored_ids-cons e es)) (none_id id (stores e.kind) e (stored_ids es) refl others.0 (ids_without id es others.1))
+ids_without id (e ∷ es) others =
+    subst (AllByRecursion (λ m. m ≢ id)) (sym (stored_ids-cons e es))
+    (none_id id (stores e.kind) e (stored_ids es) refl others.0 (ids_without id es others.1))
 
-apart_parts : (b : Bool) (id : ℕ) (ns : List ℕ) → AreApart (if b then id ∷ ns else ns) → AreApart ns × (b ≡ true → AllByRecursion (λ m. id ≢ m) ns)
+apart_parts : (b : Bool) (id : ℕ) (ns : List ℕ) → AreApart (if b then id ∷ ns else ns)
+    → AreApart ns × (b ≡ true → AllByRecursion (λ m. id ≢ m) ns)
 apart_parts true id ns apart = (apart.1, λ q. apart.0)
 apart_parts false id ns apart = (apart, λ q. absurd (false≢true q))
 
 -- the first entry's id, and the others
-pub apart-cons : (e : Entry) (es : List Entry) → AreApart (stored_ids (e ∷ es)) → AreApart (stored_ids es) × (stores e.kind ≡ true → AllByRecursion (λ x. is_stored e.transfer.id x ≡ false) es)
+pub apart-cons : (e : Entry) (es : List Entry) → AreApart (stored_ids (e ∷ es))
+    → AreApart (stored_ids es) × (stores e.kind ≡ true → AllByRecursion (λ x. is_stored e.transfer.id x ≡ false) es)
 apart-cons e es apart =
-    let both : AreApart (stored_ids es) × (stores e.kind ≡ true → AllByRecursion (λ m. e.transfer.id ≢ m) (stored_ids es)) =
+    let both : AreApart (stored_ids es) ×
+        (stores e.kind ≡ true → AllByRecursion (λ m. e.transfer.id ≢ m) (stored_ids es)) =
     apart_parts (stores e.kind) e.transfer.id (stored_ids es) (subst AreApart (stored_ids-cons e es) apart) in
     (both.0, λ is. none_stored e.transfer.id es (both.1 is))
 
-ids_last : (b : Bool) (e : Entry) → (if b then e.transfer.id ∷ [] else []) ≡ map (λ x. x.transfer.id) (if b then e ∷ [] else [])
+ids_last : (b : Bool) (e : Entry)
+    → (if b then e.transfer.id ∷ [] else []) ≡ map (λ x. x.transfer.id) (if b then e ∷ [] else [])
 ids_last true e = refl
 ids_last false e = refl
 
-cons_if : (b : Bool) (n : ℕ) (ns ms : List ℕ) → (if b then n ∷ (ns ++ ms) else (ns ++ ms)) ≡ ((if b then n ∷ ns else ns) ++ ms)
+cons_if : (b : Bool) (n : ℕ) (ns ms : List ℕ)
+    → (if b then n ∷ (ns ++ ms) else (ns ++ ms)) ≡ ((if b then n ∷ ns else ns) ++ ms)
 cons_if true n ns ms = refl
 cons_if false n ns ms = refl
 
-pub stored_ids_push : (es : List Entry) (e : Entry) → stored_ids (es ++ e ∷ []) ≡ stored_ids es ++ (if stores e.kind then e.transfer.id ∷ [] else [])
+pub stored_ids_push : (es : List Entry) (e : Entry)
+    → stored_ids (es ++ e ∷ []) ≡ stored_ids es ++ (if stores e.kind then e.transfer.id ∷ [] else [])
 stored_ids_push [] e = stored_ids-cons e []
 stored_ids_push (x ∷ es) e =
     stored_ids-cons x (es ++ e ∷ [])
@@ -125,7 +155,8 @@ stored_ids_push (x ∷ es) e =
     ∙ (cons_if (stores x.kind) x.transfer.id (stored_ids es) (if stores e.kind then e.transfer.id ∷ [] else [])
     ∙ sym (ap (λ ns. ns ++ (if stores e.kind then e.transfer.id ∷ [] else [])) (stored_ids-cons x es))))
 
-apart_more : (b : Bool) (id : ℕ) (ns : List ℕ) → AreApart ns → (b ≡ true → AllByRecursion (λ m. m ≢ id) ns) → AreApart (ns ++ (if b then id ∷ [] else []))
+apart_more : (b : Bool) (id : ℕ) (ns : List ℕ) → AreApart ns → (b ≡ true → AllByRecursion (λ m. m ≢ id) ns)
+    → AreApart (ns ++ (if b then id ∷ [] else []))
 apart_more true id ns apart new = AreApart_push ns id apart (new refl)
 apart_more false id ns apart new = subst AreApart (sym (append_nothing ns)) apart
   where
@@ -134,7 +165,8 @@ apart_more false id ns apart new = subst AreApart (sym (append_nothing ns)) apar
     append_nothing (m ∷ ms) = ap (λ ks. m ∷ ks) (append_nothing ms)
 
 -- one more entry, whose id is new where it stores a transfer
-pub once-pushed : (h : History) (e : Entry) → AreApart (stored_ids h.entries) → (stores e.kind ≡ true → stored h e.transfer.id ≡ None) → AreApart (stored_ids (pushed h e).entries)
+pub once-pushed : (h : History) (e : Entry) → AreApart (stored_ids h.entries)
+    → (stores e.kind ≡ true → stored h e.transfer.id ≡ None) → AreApart (stored_ids (pushed h e).entries)
 once-pushed h e apart fresh =
     subst AreApart (sym (stored_ids_push h.entries e))
     (apart_more (stores e.kind) e.transfer.id (stored_ids h.entries) apart
@@ -145,30 +177,42 @@ abbrev IsFound : List Entry → Entry → Type 0
 IsFound es e = stores e.kind ≡ true → stored_in es e.transfer.id ≡ Some e
 
 found_first : (x : Entry) (es : List Entry) → stores x.kind ≡ true → stored_in (x ∷ es) x.transfer.id ≡ Some x
-found_first x es is = ap (λ b. if b then Some x else stored_in es x.transfer.id) (and_from (stores x.kind) (x.transfer.id == x.transfer.id) is (eq-eqb x.transfer.id x.transfer.id refl))
+found_first x es is = ap (λ b. if b then Some x else stored_in es x.transfer.id)
+    (and_from (stores x.kind) (x.transfer.id == x.transfer.id) is (eq-eqb x.transfer.id x.transfer.id refl))
 
 -- an entry that stored another id is passed over
-other_first : (x y : Entry) (es : List Entry) → (stores x.kind ≡ true → is_stored x.transfer.id y ≡ false) → IsFound es y → IsFound (x ∷ es) y
+other_first : (x y : Entry) (es : List Entry) → (stores x.kind ≡ true → is_stored x.transfer.id y ≡ false)
+    → IsFound es y → IsFound (x ∷ es) y
 other_first x y es apart found is =
     let differs : is_stored y.transfer.id x ≡ false = not_both (stores x.kind) refl in
     ap (λ b. if b then Some x else stored_in es y.transfer.id) differs ∙ found is
   where
     not_both : (b : Bool) → stores x.kind ≡ b → is_stored y.transfer.id x ≡ false
     not_both true stored_x =
-        let other : (y.transfer.id == x.transfer.id) ≡ false = sym (ap (λ b. b && (y.transfer.id == x.transfer.id)) is) ∙ apart stored_x in
-        and_right (stores x.kind) (x.transfer.id == y.transfer.id) (ne_eqb x.transfer.id y.transfer.id (λ same. eqb-false y.transfer.id x.transfer.id other (sym same)))
+        let other : (y.transfer.id == x.transfer.id) ≡ false = sym (ap (λ b. b && (y.transfer.id == x.transfer.id)) is)
+            ∙ apart stored_x in
+        and_right (stores x.kind) (x.transfer.id == y.transfer.id)
+        (ne_eqb x.transfer.id y.transfer.id (λ same. eqb-false y.transfer.id x.transfer.id other (sym same)))
     not_both false stored_x = ap (λ b. b && (x.transfer.id == y.transfer.id)) stored_x
 
 all_found : (es : List Entry) → AreApart (stored_ids es) → AllByRecursion (IsFound es) es
 all_found [] apart = tt
 all_found (x ∷ es) apart =
-    let both : AreApart (stored_ids es) × (stores x.kind ≡ true → AllByRecursion (λ y. is_stored x.transfer.id y ≡ false) es) = apart-cons x es apart in
+    let both : AreApart (stored_ids es) ×
+        (stores x.kind ≡ true → AllByRecursion (λ y. is_stored x.transfer.id y ≡ false) es) = apart-cons x es apart in
     (found_first x es, under (stores x.kind) refl both.1 es (all_found es both.0))
   where
-    under : (b : Bool) → stores x.kind ≡ b → (stores x.kind ≡ true → AllByRecursion (λ y. is_stored x.transfer.id y ≡ false) es) → (ys : List Entry) → AllByRecursion (IsFound es) es → AllByRecursion (IsFound (x ∷ es)) es
-    under true is others ys found = AllByRecursion-weaker (λ y. (is_stored x.transfer.id y ≡ false) × IsFound es y) (IsFound (x ∷ es)) (λ y at. other_first x y es (λ q. at.0) at.1) es
+    under : (b : Bool) → stores x.kind ≡ b
+        → (stores x.kind ≡ true → AllByRecursion (λ y. is_stored x.transfer.id y ≡ false) es) → (ys : List Entry)
+        → AllByRecursion (IsFound es) es → AllByRecursion (IsFound (x ∷ es)) es
+    under true is others ys found =
+        AllByRecursion-weaker (λ y. (is_stored x.transfer.id y ≡ false) × IsFound es y) (IsFound (x ∷ es))
+        (λ y at. other_first x y es (λ q. at.0) at.1) es
         (AllByRecursion-both (λ y. is_stored x.transfer.id y ≡ false) (IsFound es) es (others is) found)
-    under false is others ys found = AllByRecursion-weaker (IsFound es) (IsFound (x ∷ es)) (λ y at. other_first x y es (λ q. absurd (false≢true (sym is ∙ q))) at) es found
+    under false is others ys found =
+        AllByRecursion-weaker (IsFound es) (IsFound (x ∷ es))
+        (λ y at. other_first x y es (λ q. absurd (false≢true (sym is ∙ q))) at) es found
 
-pub stored_each : (h : History) → AreApart (stored_ids h.entries) → AllByRecursion (λ e. stores e.kind ≡ true → stored h e.transfer.id ≡ Some e) h.entries
+pub stored_each : (h : History) → AreApart (stored_ids h.entries)
+    → AllByRecursion (λ e. stores e.kind ≡ true → stored h e.transfer.id ≡ Some e) h.entries
 stored_each h apart = all_found h.entries apart

@@ -7,7 +7,8 @@ use Rattle.cdc_ledger.specs.Kinds.{holds}
 use Rattle.cdc_ledger.specs.Balances.{resolved}
 use Rattle.cdc_ledger.specs.Filling.{expires_at}
 
--- the entry's transfer is pending, has a timeout that is up at the moment now, and was neither posted, voided nor expired
+-- the entry's transfer is pending, has a timeout that is up at the moment now, and was neither posted, voided nor
+-- expired
 abbrev pub is_due : History → ℕ → Entry → Bool
 is_due h now e =
     holds e.kind && not (e.transfer.timeout == 0) && nat_le (expires_at e.transfer) now

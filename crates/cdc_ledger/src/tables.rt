@@ -1,6 +1,6 @@
 //! What the ledger keeps, and the steps that it takes.
 
-ghost use Rattle.std.specs.Prelude.{◌≡◌, ℕ, ◌+◌, ◌≤◌, ◌<◌, true, false, None, Some, option_map, [], length, vec_capacity, OnOk, IfErr};
+ghost use Rattle.std.specs.Prelude.{◌≡◌, ℕ, ◌+◌, ◌≤◌, ◌<◌, nat_lt, true, false, None, Some, option_map, [], length, vec_capacity, OnOk, IfErr};
 ghost use Rattle.std.specs.List.{AllByRecursion};
 ghost use Rattle.std.specs.Option.{option_copied};
 ghost use Rattle.cdc_types.specs.Features.{features};
@@ -243,6 +243,14 @@ impl Tables {
         }
     }
 
+    /// Why a batch of this many requests at this moment is refused, if it is.
+    fn items_refusal(&self, now: u64, items: usize) -> Option<BatchError>
+        requires { self.now.last ≤ max_timestamp }
+        ensures { result ≡ refusal_at (history_of self.now) (nat_lt 1000 items) now items }
+    {
+        self.batch_refusal(items > Limits::BATCH_ITEMS, now, items)
+    }
+
     /// Makes room for this many more accounts.
     fn reserve_accounts(&mut self, additional: usize) -> Result<(), BatchError>
         requires { IsKept self.old }
@@ -344,11 +352,7 @@ impl Tables {
         ensures fit { OnOk result (BatchFits (Batch.Accounts now requests.now)) }
         ensures kept { IsKept self.new }
     {
-        if let Some(refusal) = self.batch_refusal(
-            requests.len() > Limits::BATCH_ITEMS,
-            now,
-            requests.len(),
-        ) {
+        if let Some(refusal) = self.items_refusal(now, requests.len()) {
             return Err(refusal);
         }
         let results = Vec::with_capacity(alloc, requests.len())?;
@@ -370,11 +374,7 @@ impl Tables {
         ensures fit { OnOk result (BatchFits (Batch.Transfers now requests.now)) }
         ensures kept { IsKept self.new }
     {
-        if let Some(refusal) = self.batch_refusal(
-            requests.len() > Limits::BATCH_ITEMS,
-            now,
-            requests.len(),
-        ) {
+        if let Some(refusal) = self.items_refusal(now, requests.len()) {
             return Err(refusal);
         }
         let results = Vec::with_capacity(alloc, requests.len())?;

@@ -19,18 +19,18 @@ pub index-requires : goal.index-requires
 index-requires c =
     let some : c.due.result ≡ Some c.unwrap-first.result = cc in
     let next : IsNext (history_of c.loop-place.self) c.args.now c.unwrap-first.result =
-        IsNext-answer (history_of c.loop-place.self) c.loop-place.self.index.triples c.args.now c.due.result
-        c.unwrap-first.result
-        c.loop-place.invariant.kept.sound c.loop-place.invariant.kept.indexed c.due.ensures some in
+    IsNext-answer (history_of c.loop-place.self) c.loop-place.self.index.triples c.args.now c.due.result
+    c.unwrap-first.result
+    c.loop-place.invariant.kept.sound c.loop-place.invariant.kept.indexed c.due.ensures some in
     omega (arith, next.found.within)
 
 pub expire-requires-clause-follows : goal.expire-requires-clause-follows
 expire-requires-clause-follows c =
     let some : c.due.result ≡ Some c.unwrap-first.result = cc in
     let next : IsNext (history_of c.loop-place.self) c.args.now c.unwrap-first.result =
-        IsNext-answer (history_of c.loop-place.self) c.loop-place.self.index.triples c.args.now c.due.result
-        c.unwrap-first.result
-        c.loop-place.invariant.kept.sound c.loop-place.invariant.kept.indexed c.due.ensures some in
+    IsNext-answer (history_of c.loop-place.self) c.loop-place.self.index.triples c.args.now c.due.result
+    c.unwrap-first.result
+    c.loop-place.invariant.kept.sound c.loop-place.invariant.kept.indexed c.due.ensures some in
     let same : c.index.result.now ≡ next.found.entry = c.index.ensures ∙ next.found.at c.index.result.now in
     subst (λ (x : Entry). Follows (history_of c.loop-place.self)
     (expiry x.transfer (c.args.base + c.loop-place.place))) (sym same)
@@ -41,17 +41,17 @@ pub loop-place-preserved : goal.loop-place-preserved
 loop-place-preserved c =
     let some : c.due.result ≡ Some c.unwrap-first.result = cc in
     let next : IsNext (history_of c.loop-place.self) c.args.now c.unwrap-first.result =
-        IsNext-answer (history_of c.loop-place.self) c.loop-place.self.index.triples c.args.now c.due.result
-        c.unwrap-first.result
-        c.loop-place.invariant.kept.sound c.loop-place.invariant.kept.indexed c.due.ensures some in
+    IsNext-answer (history_of c.loop-place.self) c.loop-place.self.index.triples c.args.now c.due.result
+    c.unwrap-first.result
+    c.loop-place.invariant.kept.sound c.loop-place.invariant.kept.indexed c.due.ensures some in
     let same : c.index.result.now ≡ next.found.entry = c.index.ensures ∙ next.found.at c.index.result.now in
     let history : history_of c.expire.new.self ≡ pushed (history_of c.loop-place.self)
-        (expiry c.index.result.now.transfer (c.args.base + c.loop-place.place)) =
-        c.expire.ensures.history in
+    (expiry c.index.result.now.transfer (c.args.base + c.loop-place.place)) =
+    c.expire.ensures.history in
     let end : history_of c.expire.new.self ≡ pushed (history_of c.loop-place.self)
-        (expiry next.found.entry.transfer (c.args.base + c.loop-place.place)) =
-        history ∙ ap (λ (x : Entry). pushed (history_of c.loop-place.self)
-        (expiry x.transfer (c.args.base + c.loop-place.place))) same in
+    (expiry next.found.entry.transfer (c.args.base + c.loop-place.place)) =
+    history ∙ ap (λ (x : Entry). pushed (history_of c.loop-place.self)
+    (expiry x.transfer (c.args.base + c.loop-place.place))) same in
     let last : c.expire.new.self.last ≡ c.args.base + c.loop-place.place = ap (λ (g : History). g.last) end in
     let room : room_for_entries c.expire.new.self + 1 ≡ room_for_entries c.loop-place.self = c.expire.ensures.room in
     record {

@@ -25,7 +25,7 @@ pub expires_at-requires : goal.expires_at-requires
 expires_at-requires c =
     let some : settled_by (history_of c.args.self.now) c.args.movement.now.entry ≡ Some c.in-Some.pending = cc in
     let fits = expires_at-settled (history_of c.args.self.now) c.args.movement.now.entry c.in-Some.pending
-        c.requires.sound c.requires.follows some in
+    c.requires.sound c.requires.follows some in
     omega arith
 
 pub returns-in-Some-clause-indexed : goal.returns-in-Some-clause-indexed
@@ -47,10 +47,10 @@ pending_or_not TwoPhaseExpired = refl
 pub add-requires-clause-fresh : goal.add-requires-clause-fresh
 add-requires-clause-fresh c =
     let held : holds c.args.movement.now.entry.kind ≡ true = sym (pending_or_not c.args.movement.now.entry.kind)
-        ∙ (sym c.eq.ensures ∙ c.if-eq.true) in
+    ∙ (sym c.eq.ensures ∙ c.if-eq.true) in
     let own = c.requires.follows.dated (stores-holds c.args.movement.now.entry.kind held) in
     let later : c.args.self.now.last < c.args.movement.now.entry.transfer.timestamp = omega
-        (arith, own, c.requires.later) in
+    (arith, own, c.requires.later) in
     subst (λ s. IsNewTimestamp s c.args.movement.now.entry.transfer.timestamp) (sym c.requires.indexed)
     (IsNewTimestamp-index_of (history_of c.args.self.now) c.args.movement.now.entry.transfer.timestamp
     c.requires.sound later)
@@ -59,7 +59,7 @@ pub returns-then-entry-ne0-clause-indexed : goal.returns-then-entry-ne0-clause-i
 returns-then-entry-ne0-clause-indexed c =
     let none : settled_by (history_of c.args.self.now) c.args.movement.now.entry ≡ None = cc in
     let held : holds c.args.movement.now.entry.kind ≡ true = sym (pending_or_not c.args.movement.now.entry.kind)
-        ∙ (sym c.eq.ensures ∙ c.if-eq.true) in
+    ∙ (sym c.eq.ensures ∙ c.if-eq.true) in
     let long : vec_len c.args.self.now.entries ≡ length c.args.self.now.entries.items = omega arith in
     c.add.ensures.triples
     ∙ (ap₂ (λ s (x : Triple). set.insert s x) c.requires.indexed
@@ -75,10 +75,10 @@ returns-else-eq-clause-indexed c =
     let none : settled_by (history_of c.args.self.now) c.args.movement.now.entry ≡ None = cc in
     let isnt : opens c.args.movement.now.entry ≡ false = elim c.else-eq.branch [
       | else-eq-via-then-eq+else-entry-ne0 w ↦ and_right (holds c.args.movement.now.entry.kind)
-      (not (c.args.movement.now.entry.transfer.timeout == 0))
+          (not (c.args.movement.now.entry.transfer.timeout == 0))
           (ap not (eq-eqb c.args.movement.now.entry.transfer.timeout 0 w.if-entry-ne0.false))
       | else-eq-via-else-eq w ↦ and_left (holds c.args.movement.now.entry.kind)
-      (not (c.args.movement.now.entry.transfer.timeout == 0))
+          (not (c.args.movement.now.entry.transfer.timeout == 0))
           (sym (pending_or_not c.args.movement.now.entry.kind) ∙ (sym c.eq.ensures ∙ w.if-eq.false))
     ] in
     c.requires.indexed

@@ -18,9 +18,9 @@ returns-in-Some-clause-answers c =
 pub returns-in_err-reserve_entries-clause-answers : goal.returns-in_err-reserve_entries-clause-answers
 returns-in_err-reserve_entries-clause-answers c =
     let out : c.in_err-reserve_entries.field-0.0 ≡ OutOfMemory =
-        subst (λ r. IfErr r (λ e. e ≡ OutOfMemory)) c.in_err-reserve_entries.was c.reserve_entries.ensures.memory in
+    subst (λ r. IfErr r (λ e. e ≡ OutOfMemory)) c.in_err-reserve_entries.was c.reserve_entries.ensures.memory in
     let same : IsErrAnd c.from_residual.result (λ e. e ≡ c.in_err-reserve_entries.field-0.0) =
-        c.from_residual.ensures.1 in
+    c.from_residual.ensures.1 in
     pulse-unmade (history_of c.args.self.now) c.args.now c.due_count-count.result
     (due_count-kept (history_of c.args.self.now) c.args.self.now.index.triples c.args.now c.due_count-count.result
     c.requires.sound c.requires.indexed c.due_count-count.ensures)
