@@ -239,11 +239,11 @@ none_of_three : (p : Transfer) (t : ℕ) (es : List Entry)
 none_of_three p t [] posted voided expired = refl
 none_of_three p t (e ∷ es) posted voided expired =
     let post = or_parts (nat_le e.timestamp t && posts e.kind e.transfer p)
-        (list_any (λ x. nat_le x.timestamp t && posts x.kind x.transfer p) es) posted in
+    (list_any (λ x. nat_le x.timestamp t && posts x.kind x.transfer p) es) posted in
     let void = or_parts (nat_le e.timestamp t && voids e.kind e.transfer p)
-        (list_any (λ x. nat_le x.timestamp t && voids x.kind x.transfer p) es) voided in
+    (list_any (λ x. nat_le x.timestamp t && voids x.kind x.transfer p) es) voided in
     let expire = or_parts (nat_le e.timestamp t && expires e.kind e.transfer p)
-        (list_any (λ x. nat_le x.timestamp t && expires x.kind x.transfer p) es) expired in
+    (list_any (λ x. nat_le x.timestamp t && expires x.kind x.transfer p) es) expired in
     or_from (nat_le e.timestamp t && resolves p e) (list_any (λ x. nat_le x.timestamp t && resolves p x) es)
     (three (nat_le e.timestamp t) (posts e.kind e.transfer p) (voids e.kind e.transfer p)
     (expires e.kind e.transfer p) post.0 void.0 expire.0)
@@ -315,9 +315,10 @@ Follows-settling k h r t sound later requested new passes =
     let known : HasAccounts h x = stored_has (HasAccounts h) h r.pending_id x sound.known passes.there in
     let stands : Stands h x = stored_has (Stands h) h r.pending_id x sound.standing passes.there in
     record {
-      accounts =
-          (subst (λ id. IsSome (opened h id)) (sym debit) known.0,
-          subst (λ id. IsSome (opened h id)) (sym credit) known.1);
+      accounts = (
+        subst (λ id. IsSome (opened h id)) (sym debit) known.0,
+        subst (λ id. IsSome (opened h id)) (sym credit) known.1,
+      );
       apart = λ same. stands.apart (sym debit ∙ same ∙ credit);
       fresh = λ is. new;
       dated = λ is. refl;
@@ -353,8 +354,14 @@ Follows-expiry h x t sound there holding unsettled =
       settling = λ is. record {
         pending = x;
         settles =
-            record { named = there; pending = holding; debit = refl; credit = refl; within = omega arith;
-                shown = λ same. refl };
+            record {
+              named = there;
+              pending = holding;
+              debit = refl;
+              credit = refl;
+              within = omega arith;
+              shown = λ same. refl;
+            };
         unsettled = unsettled;
       };
     }
@@ -393,7 +400,7 @@ pub Follows-accepted : (offered : Features) (h : History) (r : NewTransfer) (t :
     → first_line (transfer_lines offered h r t) ≡ None → Follows h (entry_of h r t)
 Follows-accepted offered h r t sound later none =
     let parts : (first_line (transfer_shape_lines offered r) ≡ None) × (stored h r.id ≡ None) ×
-        (first_line (own_lines h r t) ≡ None) = no_line_parts offered h r t none in
+    (first_line (own_lines h r t) ≡ None) = no_line_parts offered h r t none in
     by (is_plain_request r) refl (shape_passes offered r parts.0) parts.1 parts.2
   where
     by : (plain : Bool) → is_plain_request r ≡ plain → ShapePasses r → stored h r.id ≡ None

@@ -119,12 +119,12 @@ balances-pushed_before h e a t after =
     let none : (p : Transfer) → (nat_le e.timestamp t && resolves p e) ≡ false =
     λ p. ap (λ b. b && resolves p e) (lt-leb e.timestamp t after) in
     let held_same : (side : Transfer → ℕ) → sum_by (share (held (pushed h e) t) side a t) (h.entries ++ e ∷ [])
-        ≡ sum_by (share (held h t) side a t) h.entries =
+    ≡ sum_by (share (held h t) side a t) h.entries =
     λ side. share-pushed h e a t none side
     ∙ (ap (λ n. sum_by (share (held h t) side a t) h.entries + n) (share_after (held h t) side a t e after)
     ∙ add-zero _) in
     let moved_same : (side : Transfer → ℕ) → sum_by (share moved side a t) (h.entries ++ e ∷ [])
-        ≡ sum_by (share moved side a t) h.entries =
+    ≡ sum_by (share moved side a t) h.entries =
     λ side. sum_by_push (share moved side a t) h.entries e
     ∙ (ap (λ n. sum_by (share moved side a t) h.entries + n) (share_after moved side a t e after) ∙ add-zero _) in
     same_balances _ _ _ _ _ _ _ _ (held_same debit_side) (moved_same debit_side) (held_same credit_side)
@@ -134,8 +134,12 @@ balances-pushed_before h e a t after =
 same_changed : (x y z w dr dh dm cr ch cm : ℕ) (b : Balances) → x + dr ≡ b.debits_pending + dh
     → y ≡ b.debits_posted + dm → z + cr ≡ b.credits_pending + ch → w ≡ b.credits_posted + cm
     → ◌≡◌ {A = Balances} (record { debits_pending = x; debits_posted = y; credits_pending = z; credits_posted = w })
-    (record { debits_pending = b.debits_pending + dh - dr; debits_posted = b.debits_posted + dm;
-    credits_pending = b.credits_pending + ch - cr; credits_posted = b.credits_posted + cm })
+    (record {
+      debits_pending = b.debits_pending + dh - dr;
+      debits_posted = b.debits_posted + dm;
+      credits_pending = b.credits_pending + ch - cr;
+      credits_posted = b.credits_posted + cm;
+    })
 same_changed x y z w dr dh dm cr ch cm b p q r s =
     let debits : x ≡ b.debits_pending + dh - dr = omega arith in
     let credits : z ≡ b.credits_pending + ch - cr = omega arith in
@@ -344,11 +348,13 @@ module _ (h : History) (e : Entry) (a : ℕ) (sound : IsSound h) (follows : Foll
       (AllByRecursion-weaker (λ x. x.timestamp ≤ h.last)
       (λ x. (held (pushed h e) e.timestamp x ≡ held h h.last x) ×
       (nat_le x.timestamp e.timestamp ≡ nat_le x.timestamp h.last))
-      (λ x at.
-      (ap (λ b. held_by b x)
-      (resolved_then h e x.transfer sound.past after
-      ∙ ap (λ b. resolved h x.transfer h.last || (b && (settled_id e.kind e.transfer == x.transfer.id))) none
-      ∙ or_none (resolved h x.transfer h.last) false refl), seen_alike x h.last e.timestamp at (omega arith)))
+      (λ x at. (
+        ap (λ b. held_by b x)
+            (resolved_then h e x.transfer sound.past after
+            ∙ ap (λ b. resolved h x.transfer h.last || (b && (settled_id e.kind e.transfer == x.transfer.id))) none
+            ∙ or_none (resolved h x.transfer h.last) false refl),
+        seen_alike x h.last e.timestamp at (omega arith),
+      ))
       h.entries sound.past)
 
   -- where it settles one, that one holds nothing any more
@@ -358,7 +364,7 @@ module _ (h : History) (e : Entry) (a : ℕ) (sound : IsSound h) (follows : Foll
       let sees : nat_le x.timestamp e.timestamp ≡ nat_le x.timestamp h.last =
       seen_alike x h.last e.timestamp at (omega arith) in
       let done : resolved (pushed h e) x.transfer e.timestamp
-          ≡ (resolved h x.transfer h.last || (x.transfer.id == settled_id e.kind e.transfer)) =
+      ≡ (resolved h x.transfer h.last || (x.transfer.id == settled_id e.kind e.transfer)) =
       resolved_then h e x.transfer sound.past after
       ∙ ap₂ (λ b c. resolved h x.transfer h.last || (b && c)) is
       (eqb_swap (settled_id e.kind e.transfer) x.transfer.id) in
@@ -403,9 +409,10 @@ module _ (h : History) (e : Entry) (a : ℕ) (sound : IsSound h) (follows : Foll
 
   taken_out : (b : Bool) → settles e.kind ≡ b → Fits debit_side × Fits credit_side
   taken_out true is =
-      let of : SettlesOpen h e = follows.settling is in
-      (settled_sum debit_side is of.pending of.settles of.unsettled of.settles.debit,
-      settled_sum credit_side is of.pending of.settles of.unsettled of.settles.credit)
+      let of : SettlesOpen h e = follows.settling is in (
+        settled_sum debit_side is of.pending of.settles of.unsettled of.settles.debit,
+        settled_sum credit_side is of.pending of.settles of.unsettled of.settles.credit,
+      )
   taken_out false is =
       let none : (effect_of h e).released ≡ 0 = ap amount_of (settled_by_none h e is) in
       (nothing_out debit_side none, nothing_out credit_side none)
@@ -413,7 +420,7 @@ module _ (h : History) (e : Entry) (a : ℕ) (sound : IsSound h) (follows : Foll
       nothing_out : (side : Transfer → ℕ) → (effect_of h e).released ≡ 0 → Fits side
       nothing_out side none =
           let zero_out : part (side e.transfer) a (effect_of h e).released ≡ 0 = ap (part (side e.transfer) a) none
-              ∙ nothing (side e.transfer == a) in
+          ∙ nothing (side e.transfer == a) in
           let same : sum_by (right_after side) h.entries ≡ sum_by (before side) h.entries = unchanged is side in
           omega arith
 
@@ -422,7 +429,7 @@ module _ (h : History) (e : Entry) (a : ℕ) (sound : IsSound h) (follows : Foll
       ≡ sum_by (before side) h.entries + part (side e.transfer) a (effect_of h e).held
   pending_then side fits =
       let all : sum_by (right_after side) (h.entries ++ e ∷ []) ≡ sum_by (right_after side) h.entries + part
-          (side e.transfer) a (effect_of h e).held = then_sum side in
+      (side e.transfer) a (effect_of h e).held = then_sum side in
       omega arith
 
   moved_then : (side : Transfer → ℕ)

@@ -78,8 +78,8 @@ module _ (offered : Features) (h : History) (t : ℕ) where
       let next : History = after_account now r (t + i) verdict in
       let rest : ℕ → List AccountResult × History = λ n. accounts_from offered next n (drop (i + 1) all) in
       let cut : accounts_from offered now (t + i) (drop i all)
-          ≡ (verdict ∷ (rest (t + i + 1)).0, (rest (t + i + 1)).1) =
-              at_drop_more (λ xs. accounts_from offered now (t + i) xs) all i d inside in
+      ≡ (verdict ∷ (rest (t + i + 1)).0, (rest (t + i + 1)).1) =
+      at_drop_more (λ xs. accounts_from offered now (t + i) xs) all i d inside in
       let moment : t + (i + 1) ≡ t + i + 1 = omega arith in
       record {
         answers = ap (λ n. (done ++ verdict ∷ []) ++ (rest n).0) moment
@@ -144,8 +144,8 @@ module _ (offered : Features) (h : History) (t : ℕ) where
       let next : History = after_transfer now r (t + i) verdict in
       let rest : ℕ → List TransferResult × History = λ n. transfers_from offered next n (drop (i + 1) all) in
       let cut : transfers_from offered now (t + i) (drop i all)
-          ≡ (verdict ∷ (rest (t + i + 1)).0, (rest (t + i + 1)).1) =
-              at_drop_more (λ xs. transfers_from offered now (t + i) xs) all i d inside in
+      ≡ (verdict ∷ (rest (t + i + 1)).0, (rest (t + i + 1)).1) =
+      at_drop_more (λ xs. transfers_from offered now (t + i) xs) all i d inside in
       let moment : t + (i + 1) ≡ t + i + 1 = omega arith in
       record {
         answers = ap (λ n. (done ++ verdict ∷ []) ++ (rest n).0) moment

@@ -38,7 +38,7 @@ use Rattle.cdc_ledger.proofs.Elements.{AllByRecursion-weaker, list_any_same}
 use Rattle.cdc_ledger.proofs.Found.{find-kept}
 use Rattle.cdc_ledger.proofs.LineLaws.{first_line-append_none, first_line-append_some, none_applies}
 use Rattle.cdc_ledger.proofs.OpenedLaws.{opened_id}
-use Rattle.cdc_ledger.proofs.Places.{place-find}
+use Rattle.cdc_ledger.proofs.Places.{place-find, position_in}
 
 -- the lines on a request's own fields and on a known id don't apply: its own lines decide
 module _ (h : History) (r : NewTransfer) (t : ℕ) (shape : transfer_refusal features r ≡ None)
@@ -48,19 +48,23 @@ module _ (h : History) (r : NewTransfer) (t : ℕ) (shape : transfer_refusal fea
       if plain then plain_lines (opened h r.debit_account_id) (opened h r.credit_account_id) h r t
       else settling_lines (stored h r.pending_id) h r t
 
-  decides : (plain : Bool) → is_plain_request r ≡ plain → first_line (transfer_lines features h r t) ≡ first_line (own_lines plain)
+  decides : (plain : Bool) → is_plain_request r ≡ plain
+      → first_line (transfer_lines features h r t) ≡ first_line (own_lines plain)
   unfolding own_lines
   decides plain is =
       first_line-append_none (transfer_shape_lines features r ++ known_transfer_lines (stored h r.id) h r) _
-      (first_line-append_none (transfer_shape_lines features r) (known_transfer_lines (stored h r.id) h r) shape ∙ unknown)
+      (first_line-append_none (transfer_shape_lines features r) (known_transfer_lines (stored h r.id) h r) shape
+      ∙ unknown)
       ∙ ap (λ b. first_line (own_lines b)) is
 
   pub first_line-plain : is_plain_request r ≡ true
-      → first_line (transfer_lines features h r t) ≡ first_line (plain_lines (opened h r.debit_account_id) (opened h r.credit_account_id) h r t)
+      → first_line (transfer_lines features h r t)
+      ≡ first_line (plain_lines (opened h r.debit_account_id) (opened h r.credit_account_id) h r t)
   unfolding own_lines
   first_line-plain is = decides true is
 
-  pub first_line-settling : is_plain_request r ≡ false → first_line (transfer_lines features h r t) ≡ first_line (settling_lines (stored h r.pending_id) h r t)
+  first_line-settling : is_plain_request r ≡ false
+      → first_line (transfer_lines features h r t) ≡ first_line (settling_lines (stored h r.pending_id) h r t)
   unfolding own_lines
   first_line-settling is = decides false is
 
@@ -74,7 +78,8 @@ pub record IsOpened (h : History) (id : ℕ) (a : Account) : Type 0 where
   pub found : opened h id ≡ Some account
   pub now : a ≡ account_now h account
 
-opened_from : (h : History) (id : ℕ) (a : Account) (o : Option Opened) → opened h id ≡ o → Some a ≡ option_map (account_now h) o → IsOpened h id a
+opened_from : (h : History) (id : ℕ) (a : Account) (o : Option Opened) → opened h id ≡ o
+    → Some a ≡ option_map (account_now h) o → IsOpened h id a
 opened_from h id a None is e = cc
 opened_from h id a (Some o) is e = record { account = o; found = is; now = cc }
 
@@ -84,21 +89,32 @@ IsOpened-place t id place d kept at =
     opened_from (history_of t) id (get_or t.accounts.items place d) (opened (history_of t) id) refl
     (sym (place-find t.accounts.items id place d at) ∙ find-kept t id kept)
 
+-- the same where it was found among these accounts
+pub IsOpened-found : (t : Tables) (xs : List Account) (id place : ℕ) (found : Option ℕ) (d : Account) → IsKept t
+    → found ≡ position (λ a. a.id == id) xs → xs ≡ t.accounts.items → found ≡ Some place
+    → IsOpened (history_of t) id (get_or t.accounts.items place d)
+IsOpened-found t xs id place found d kept at same is =
+    IsOpened-place t id place d kept (position_in xs t.accounts.items id found (Some place) at same is)
+
 no_place : (b : Bool) (n : ℕ) → cond b (Some n) None ≡ None → b ≡ false
 no_place true n e = cc
 no_place false n e = refl
 
-pub unopened-no_place : (t : Tables) (id : ℕ) → IsKept t → position (λ a. a.id == id) t.accounts.items ≡ None → opened (history_of t) id ≡ None
+pub unopened-no_place : (t : Tables) (id : ℕ) → IsKept t → position (λ a. a.id == id) t.accounts.items ≡ None
+    → opened (history_of t) id ≡ None
 unopened-no_place t id kept at =
     let p : Account → Bool = λ a. a.id == id in
     let past : length t.accounts.items ≤ position_or_len p t.accounts.items =
-    ltb-false (position_or_len p t.accounts.items) (length t.accounts.items) (no_place (nat_lt (position_or_len p t.accounts.items) (length t.accounts.items)) _ at) in
+    ltb-false (position_or_len p t.accounts.items) (length t.accounts.items)
+    (no_place (nat_lt (position_or_len p t.accounts.items) (length t.accounts.items)) _ at) in
     none_from_option_map (account_now (history_of t)) (opened (history_of t) id)
     (sym (find_at p t.accounts.items ∙ slice_get_past t.accounts.items _ past) ∙ find-kept t id kept)
 
-some_option_map : {A B : Type 0} (f : A → B) (o : Option A) → IsSome o → IsSome (option_map f o)
-some_option_map f None has = has
-some_option_map f (Some x) has = refl
+-- the same where it wasn't found among these accounts
+pub unopened-not_found : (t : Tables) (xs : List Account) (id : ℕ) (found : Option ℕ) → IsKept t
+    → found ≡ position (λ a. a.id == id) xs → xs ≡ t.accounts.items → found ≡ None → opened (history_of t) id ≡ None
+unopened-not_found t xs id found kept at same is =
+    unopened-no_place t id kept (position_in xs t.accounts.items id found None at same is)
 
 -- an account that is there has a place
 pub IsSome-place : (t : Tables) (id : ℕ) (place : Option ℕ) → IsKept t → IsSome (opened (history_of t) id)
@@ -111,7 +127,8 @@ pub bounded-opened : (h : History) (id : ℕ) (a : Account) → IsOpened h id a 
 bounded-opened h id a was bounded = subst HasBoundedSums (sym was.now) (bounded was.account.request.id)
 
 -- both accounts are there: their balances now decide
-pub first_line-between : (h : History) (r : NewTransfer) (t : ℕ) (debited credited : Account) → IsUpTo h.last h → h.last ≤ t
+pub first_line-between : (h : History) (r : NewTransfer) (t : ℕ) (debited credited : Account) → IsUpTo h.last h
+    → h.last ≤ t
     → IsOpened h r.debit_account_id debited → IsOpened h r.credit_account_id credited
     → first_line (plain_lines (opened h r.debit_account_id) (opened h r.credit_account_id) h r t)
     ≡ first_line (lines_between debited credited r t)
@@ -126,17 +143,21 @@ first_line-between h r t debited credited within later debit credit =
     ∙ ap (λ id. balances h id h.last) (sym (opened_id h c r.credit_account_id credit.found)) in
     ap (λ o. first_line (plain_lines o (opened h r.credit_account_id) h r t)) debit.found
     ∙ ap (λ o. first_line (plain_lines (Some d) o h r t)) credit.found
-    ∙ ap (λ b. first_line (lines_between (account_with d b) (account_with c (balances h r.credit_account_id t)) r t)) debit_balances
+    ∙ ap (λ b. first_line (lines_between (account_with d b) (account_with c (balances h r.credit_account_id t)) r t))
+    debit_balances
     ∙ ap (λ b. first_line (lines_between (account_now h d) (account_with c b) r t)) credit_balances
     ∙ ap₂ (λ (x y : Account). first_line (lines_between x y r t)) (sym debit.now) (sym credit.now)
 
 -- an account is missing
 pub first_line-no_debit : (h : History) (r : NewTransfer) (t : ℕ) → opened h r.debit_account_id ≡ None
-    → first_line (plain_lines (opened h r.debit_account_id) (opened h r.credit_account_id) h r t) ≡ Some transfer.DebitAccountNotFound
+    → first_line (plain_lines (opened h r.debit_account_id) (opened h r.credit_account_id) h r t)
+    ≡ Some transfer.DebitAccountNotFound
 first_line-no_debit h r t none = ap (λ o. first_line (plain_lines o (opened h r.credit_account_id) h r t)) none
 
-pub first_line-no_credit : (h : History) (r : NewTransfer) (t : ℕ) (debited : Account) → IsOpened h r.debit_account_id debited → opened h r.credit_account_id ≡ None
-    → first_line (plain_lines (opened h r.debit_account_id) (opened h r.credit_account_id) h r t) ≡ Some transfer.CreditAccountNotFound
+pub first_line-no_credit : (h : History) (r : NewTransfer) (t : ℕ) (debited : Account)
+    → IsOpened h r.debit_account_id debited → opened h r.credit_account_id ≡ None
+    → first_line (plain_lines (opened h r.debit_account_id) (opened h r.credit_account_id) h r t)
+    ≡ Some transfer.CreditAccountNotFound
 first_line-no_credit h r t debited debit none =
     ap (λ o. first_line (plain_lines o (opened h r.credit_account_id) h r t)) debit.found
     ∙ ap (λ o. first_line (plain_lines (Some debit.account) o h r t)) none
@@ -148,10 +169,16 @@ some_by-all h t test within =
     (AllByRecursion-weaker (λ e. e.timestamp ≤ t) (λ e. (nat_le e.timestamp t && test e) ≡ test e)
     (λ e at. ap (λ b. b && test e) (le-leb e.timestamp t at)) h.entries within)
 
--- the lines on a post or a void, by its fields and then by what came before
-module _ (h : History) (r : NewTransfer) (t : ℕ) (x : Entry) (there : stored h r.pending_id ≡ Some x) (within : IsUpTo t h) where
-  pub first_line-fields : first_line (settling_lines (stored h r.pending_id) h r t) ≡ first_line (field_lines x r ++ end_lines h.entries x.transfer t)
-  first_line-fields =
+-- the lines on a post or a void whose pending transfer is there: by its fields, and then by what came before
+module _ (h : History) (r : NewTransfer) (t : ℕ) (x : Entry) (shape : transfer_refusal features r ≡ None)
+    (unknown : first_line (known_transfer_lines (stored h r.id) h r) ≡ None) (settles : is_plain_request r ≡ false)
+    (there : stored h r.pending_id ≡ Some x) (past : IsUpTo h.last h) (later : h.last ≤ t) where
+  within : IsUpTo t h
+  within = AllByRecursion-weaker (λ e. e.timestamp ≤ h.last) (λ e. e.timestamp ≤ t) (λ e at. omega arith) h.entries past
+
+  by_parts : first_line (settling_lines (stored h r.pending_id) h r t)
+      ≡ first_line (field_lines x r ++ end_lines h.entries x.transfer t)
+  by_parts =
       let p : Transfer = x.transfer in
       ap (λ o. first_line (settling_lines o h r t)) there
       ∙ (let posted = some_by-all h t (λ e. posts e.kind e.transfer p) within in
@@ -159,16 +186,33 @@ module _ (h : History) (r : NewTransfer) (t : ℕ) (x : Entry) (there : stored h
       let expired = some_by-all h t (λ e. expires e.kind e.transfer p) within in
       rw (posted, voided, expired) refl)
 
+  pub first_line-field : (refusal : TransferResult) → first_line (field_lines x r) ≡ Some refusal
+      → first_line (transfer_lines features h r t) ≡ Some refusal
+  first_line-field refusal is =
+      first_line-settling h r t shape unknown settles
+      ∙ by_parts ∙ first_line-append_some (field_lines x r) (end_lines h.entries x.transfer t) refusal is
+
+  pub first_line-end : first_line (field_lines x r) ≡ None
+      → first_line (transfer_lines features h r t) ≡ first_line (end_lines h.entries x.transfer t)
+  first_line-end none =
+      first_line-settling h r t shape unknown settles
+      ∙ by_parts ∙ first_line-append_none (field_lines x r) (end_lines h.entries x.transfer t) none
+
 -- what a request asks for, by its flags
 plain_settles : (pending post void : Bool) (h : History) (x : Transfer) → not (post || void) ≡ true
-    → settled_in (if pending then TwoPhasePending else if post then TwoPhasePosted else if void then TwoPhaseVoided else SinglePhase) h x ≡ None
+    → settled_in
+    (if pending then TwoPhasePending else if post then TwoPhasePosted else if void then TwoPhaseVoided else SinglePhase)
+    h x ≡ None
 plain_settles true post void h x plain = refl
 plain_settles false true void h x plain = absurd (false≢true plain)
 plain_settles false false true h x plain = absurd (false≢true plain)
 plain_settles false false false h x plain = refl
 
-settling_settles : (pending post void : Bool) (h : History) (x : Transfer) → not (post || void) ≡ false → ((pending && post) || (pending && void) || (post && void)) ≡ false
-    → settled_in (if pending then TwoPhasePending else if post then TwoPhasePosted else if void then TwoPhaseVoided else SinglePhase) h x
+settling_settles : (pending post void : Bool) (h : History) (x : Transfer) → not (post || void) ≡ false
+    → ((pending && post) || (pending && void) || (post && void)) ≡ false
+    → settled_in
+    (if pending then TwoPhasePending else if post then TwoPhasePosted else if void then TwoPhaseVoided else SinglePhase)
+    h x
     ≡ option_map (λ e. e.transfer) (stored h x.pending_id)
 settling_settles true true void h x plain one = absurd (false≢true (sym one))
 settling_settles true false true h x plain one = absurd (false≢true (sym one))
@@ -180,18 +224,23 @@ settling_settles false false false h x plain one = absurd (false≢true (sym pla
 pub filled-plain : (h : History) (r : NewTransfer) (t : ℕ) → is_plain_request r ≡ true → filled h r t ≡ as_asked r t
 filled-plain h r t plain = ap (λ b. if b then as_asked r t else filled_by (stored h r.pending_id) r t) plain
 
-pub filled-settling : (h : History) (r : NewTransfer) (t : ℕ) (x : Entry) → is_plain_request r ≡ false → stored h r.pending_id ≡ Some x
+pub filled-settling : (h : History) (r : NewTransfer) (t : ℕ) (x : Entry) → is_plain_request r ≡ false
+    → stored h r.pending_id ≡ Some x
     → filled h r t ≡ filled_from x.transfer r t
 filled-settling h r t x plain there =
     ap (λ b. if b then as_asked r t else filled_by (stored h r.pending_id) r t) plain ∙ ap (λ o. filled_by o r t) there
 
-pub settled-plain : (h : History) (r : NewTransfer) (t : ℕ) → is_plain_request r ≡ true → settled_by h (entry_of h r t) ≡ None
-settled-plain h r t plain = plain_settles (is_pending_request r) (is_post_request r) (is_void_request r) h (filled h r t) plain
+pub settled-plain : (h : History) (r : NewTransfer) (t : ℕ) → is_plain_request r ≡ true
+    → settled_by h (entry_of h r t) ≡ None
+settled-plain h r t plain = plain_settles (is_pending_request r) (is_post_request r) (is_void_request r) h
+    (filled h r t) plain
 
-pub settled-settling : (h : History) (r : NewTransfer) (t : ℕ) (x : Entry) → transfer_refusal features r ≡ None → is_plain_request r ≡ false
+pub settled-settling : (h : History) (r : NewTransfer) (t : ℕ) (x : Entry) → transfer_refusal features r ≡ None
+    → is_plain_request r ≡ false
     → stored h r.pending_id ≡ Some x → settled_by h (entry_of h r t) ≡ Some x.transfer
 settled-settling h r t x shape plain there =
     settling_settles (is_pending_request r) (is_post_request r) (is_void_request r) h (filled h r t) plain
     (none_applies (transfer_shape_lines features r) shape).1.1.1.0
-    ∙ ap (λ (y : Transfer). option_map (λ (e : Entry). e.transfer) (stored h y.pending_id)) (filled-settling h r t x plain there)
+    ∙ ap (λ (y : Transfer). option_map (λ (e : Entry). e.transfer) (stored h y.pending_id))
+    (filled-settling h r t x plain there)
     ∙ ap (option_map (λ (e : Entry). e.transfer)) there

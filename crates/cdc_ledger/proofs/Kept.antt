@@ -46,7 +46,7 @@ pub history-opened : (t t' : Tables) (r : NewAccount) (n : ℕ)
     → history_of t' ≡ with_account (history_of t) (record { request = r; timestamp = n })
 history-opened t t' r n accounts entries last closed =
     let opened : map opened_as t'.accounts.items
-        ≡ map opened_as t.accounts.items ++ record { request = r; timestamp = n } ∷ [] =
+    ≡ map opened_as t.accounts.items ++ record { request = r; timestamp = n } ∷ [] =
     ap (map opened_as) accounts ∙ map_push opened_as t.accounts.items (fresh_account r n) in
     cc
 

@@ -118,12 +118,12 @@ pub IsSound-submit : (h : History) (b : Batch) (answer : BatchResults × History
     → IsSound answer.1
 IsSound-submit h (batch.Accounts now items) answer sound e =
     let parts : (is_past_the_end h now (length items) ≡ false) ×
-        (taken features h (batch.Accounts now items) ≡ answer) = submit_parts h (batch.Accounts now items) answer e in
+    (taken features h (batch.Accounts now items) ≡ answer) = submit_parts h (batch.Accounts now items) answer e in
     subst (λ (a : BatchResults × History). IsSound a.1) parts.1
     (IsSound-accounts_from h (base h now) items sound (after_last h now) (within_end h now (length items) parts.0))
 IsSound-submit h (batch.Transfers now items) answer sound e =
     let parts : (is_past_the_end h now (length items) ≡ false) ×
-        (taken features h (batch.Transfers now items) ≡ answer) = submit_parts h (batch.Transfers now items) answer e in
+    (taken features h (batch.Transfers now items) ≡ answer) = submit_parts h (batch.Transfers now items) answer e in
     subst (λ (a : BatchResults × History). IsSound a.1) parts.1
     (IsSound-transfers_from h (base h now) items sound (after_last h now) (within_end h now (length items) parts.0))
 IsSound-submit h (batch.Pulse now) answer sound e =

@@ -49,7 +49,7 @@ some_bounded : (h : History) (id : ℕ) (found : Option Opened) → IsBounded h
     → IfSome (option_map (λ (o : Opened). balances h id h.last) found)
     (λ b. b.debits_pending + b.debits_posted ≤ max_128)
     × IfSome (option_map (λ (o : Opened). balances h id h.last) found)
-        (λ b. b.credits_pending + b.credits_posted ≤ max_128)
+    (λ b. b.credits_pending + b.credits_posted ≤ max_128)
 some_bounded h id None bounded = (tt, tt)
 some_bounded h id (Some o) bounded = bounded id
 

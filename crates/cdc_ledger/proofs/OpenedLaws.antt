@@ -65,9 +65,10 @@ opened_id h o id e = find_id id o h.accounts e
 -- what holds of the accounts of every entry stays
 pub HasAccounts-with_account : (h : History) (o : Opened) (e : Entry) → HasAccounts h e
     → HasAccounts (with_account h o) e
-HasAccounts-with_account h o e has =
-    (ap is_some (opened-with_account_same h o e.transfer.debit_account_id has.0) ∙ has.0,
-    ap is_some (opened-with_account_same h o e.transfer.credit_account_id has.1) ∙ has.1)
+HasAccounts-with_account h o e has = (
+  ap is_some (opened-with_account_same h o e.transfer.debit_account_id has.0) ∙ has.0,
+  ap is_some (opened-with_account_same h o e.transfer.credit_account_id has.1) ∙ has.1,
+)
 
 -- ids that don't occur twice
 
@@ -103,7 +104,7 @@ find_each [] apart = tt
 find_each (x ∷ xs) apart = (
   ap (λ b. if b then Some x else find (λ y. y.request.id == x.request.id) xs) (eq-eqb x.request.id x.request.id refl),
   AllByRecursion-weaker (λ o. (x.request.id ≢ o.request.id) × (find (λ y. y.request.id == o.request.id) xs ≡ Some o))
-  (λ o. find (λ y. y.request.id == o.request.id) (x ∷ xs) ≡ Some o)
+      (λ o. find (λ y. y.request.id == o.request.id) (x ∷ xs) ≡ Some o)
       (λ o both. ap (λ b. if b then Some x else find (λ y. y.request.id == o.request.id) xs)
       (ne_eqb x.request.id o.request.id both.0) ∙ both.1) xs
       (AllByRecursion-both (λ o. x.request.id ≢ o.request.id)

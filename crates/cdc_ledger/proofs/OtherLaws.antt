@@ -48,9 +48,11 @@ module _ (h : History) (sound : IsSound h) where
           and_parts (settles e.kind) (settled_id e.kind e.transfer == x.transfer.id)
           (sym (resolves_is e x.transfer) ∙ is) in
           let named : (y : Entry) × Settles h e y = stands.settling parts.0 in
-          let same : named.0 ≡ x = settled_entry e x named.0 named.1 (found (stores-holds x.kind holding)) parts.1 in
-          (named.1.debit ∙ ap (λ (y : Entry). y.transfer.debit_account_id) same, named.1.credit
-          ∙ ap (λ (y : Entry). y.transfer.credit_account_id) same)
+          let same : named.0 ≡ x = settled_entry e x named.0 named.1 (found (stores-holds x.kind holding)) parts.1 in (
+            named.1.debit ∙ ap (λ (y : Entry). y.transfer.debit_account_id) same,
+            named.1.credit
+                ∙ ap (λ (y : Entry). y.transfer.credit_account_id) same,
+          )
 
   pub sides_of_all : AllByRecursion (λ e. AllByRecursion (HasSidesOf e) h.entries) h.entries
   sides_of_all = AllByRecursion-weaker (Stands h) (λ e. AllByRecursion (HasSidesOf e) h.entries)

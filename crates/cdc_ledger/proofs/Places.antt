@@ -22,6 +22,14 @@ place_from : (b : Bool) (n k : ℕ) → cond b (Some n) None ≡ Some k → n �
 place_from true n k e = cc
 place_from false n k e = cc
 
+-- what was found among the accounts was found among the same ones elsewhere
+pub position_in : (xs ys : List Account) (id : ℕ) (found now : Option ℕ) → found ≡ position (λ a. a.id == id) xs
+    → xs ≡ ys
+    → found ≡ now → position (λ a. a.id == id) ys ≡ now
+position_in xs ys id found now at same is =
+    ap (λ (zs : List Account). position (λ a. a.id == id) zs) (sym same) ∙ sym at ∙ is
+
+-- the account at its place
 module _ (accounts : List Account) (id place : ℕ) (d : Account) (at : IsPlace accounts id place) where
   pub place-inside : place < length accounts
   place-inside = (position-Some (λ a. a.id == id) accounts place d at).0
@@ -48,7 +56,8 @@ apart_pairs [] h = λ i j d before inside. omega arith
 apart_pairs (n ∷ ns) h = AllPairs-cons (λ k m. k ≢ m) n ns (AllByRecursion-All (λ m. n ≢ m) ns h.0) (apart_pairs ns h.1)
 
 -- no other place has the account's id
-pub place-only : (accounts : List Account) (id place k : ℕ) (d : Account) → AreApart (account_ids accounts) → IsPlace accounts id place
+pub place-only : (accounts : List Account) (id place k : ℕ) (d : Account) → AreApart (account_ids accounts)
+    → IsPlace accounts id place
     → k < length accounts → k ≢ place → (get_or accounts k d).id ≢ id
 place-only accounts id place k d unique at inside other =
     let before : k < place → (get_or accounts k d).id ≢ id = λ lt same. false≢true
@@ -76,12 +85,14 @@ set_two g xs i j a b d in_i in_j apart first second rest =
     elim (k == j) as (λ t. (k == j) ≡ t → get_or (set (set xs i a) j b) k d ≡ get_or (map g xs) k d) [
       | true ↦ λ e. let same : k ≡ j = eqb-true k j e in
           ap (λ n. get_or (set (set xs i a) j b) n d) same
-          ∙ get_or-set_same (set xs i a) j b d (rw length-set in_j) ∙ second ∙ ap (λ n. g (get_or xs n d)) (sym same) ∙ sym mapped
+          ∙ get_or-set_same (set xs i a) j b d (rw length-set in_j) ∙ second ∙ ap (λ n. g (get_or xs n d)) (sym same)
+          ∙ sym mapped
       | false ↦ λ e. let other : k ≢ j = eqb-false k j e in
           get_or-set_other (set xs i a) j k b d other ∙
           elim (k == i) as (λ t. (k == i) ≡ t → get_or (set xs i a) k d ≡ get_or (map g xs) k d) [
             | true ↦ λ e'. let same : k ≡ i = eqb-true k i e' in
-                ap (λ n. get_or (set xs i a) n d) same ∙ get_or-set_same xs i a d in_i ∙ first ∙ ap (λ n. g (get_or xs n d)) (sym same) ∙ sym mapped
+                ap (λ n. get_or (set xs i a) n d) same ∙ get_or-set_same xs i a d in_i ∙ first
+                ∙ ap (λ n. g (get_or xs n d)) (sym same) ∙ sym mapped
             | false ↦ λ e'. let apart' : k ≢ i = eqb-false k i e' in
                 get_or-set_other xs i k a d apart' ∙ sym (rest k within apart' other) ∙ sym mapped
           ]
@@ -108,14 +119,16 @@ module _ (f : Effect) (debit credit : ℕ) (apart : debit ≢ credit) (a : Accou
       ap (λ (sums : Balances). record a { balances = sums }) (same_sums
       (let h = part-same debit a.id f.held at in let r = part-same debit a.id f.released at in rw (h, r) refl)
       (let m = part-same debit a.id f.moved at in rw m refl)
-      (let h = part-other credit a.id f.held not_credit in let r = part-other credit a.id f.released not_credit in rw (h, r) (omega arith))
+      (let h = part-other credit a.id f.held not_credit in let r = part-other credit a.id f.released not_credit in rw
+      (h, r) (omega arith))
       (let m = part-other credit a.id f.moved not_credit in rw m (omega arith)))
 
   pub changed-credited : a.id ≡ credit → credited f a ≡ account_changed f debit credit a
   changed-credited at =
       let not_debit : a.id ≢ debit = λ same. apart (sym same ∙ at) in
       ap (λ (sums : Balances). record a { balances = sums }) (same_sums
-      (let h = part-other debit a.id f.held not_debit in let r = part-other debit a.id f.released not_debit in rw (h, r) (omega arith))
+      (let h = part-other debit a.id f.held not_debit in let r = part-other debit a.id f.released not_debit in rw (h, r)
+      (omega arith))
       (let m = part-other debit a.id f.moved not_debit in rw m (omega arith))
       (let h = part-same credit a.id f.held at in let r = part-same credit a.id f.released at in rw (h, r) refl)
       (let m = part-same credit a.id f.moved at in rw m refl))
@@ -123,9 +136,11 @@ module _ (f : Effect) (debit credit : ℕ) (apart : debit ≢ credit) (a : Accou
   pub changed-neither : a.id ≢ debit → a.id ≢ credit → account_changed f debit credit a ≡ a
   changed-neither not_debit not_credit =
       ap (λ (sums : Balances). record a { balances = sums }) (same_sums
-      (let h = part-other debit a.id f.held not_debit in let r = part-other debit a.id f.released not_debit in rw (h, r) (omega arith))
+      (let h = part-other debit a.id f.held not_debit in let r = part-other debit a.id f.released not_debit in rw (h, r)
+      (omega arith))
       (let m = part-other debit a.id f.moved not_debit in rw m (omega arith))
-      (let h = part-other credit a.id f.held not_credit in let r = part-other credit a.id f.released not_credit in rw (h, r) (omega arith))
+      (let h = part-other credit a.id f.held not_credit in let r = part-other credit a.id f.released not_credit in rw
+      (h, r) (omega arith))
       (let m = part-other credit a.id f.moved not_credit in rw m (omega arith)))
 
 module _ (accounts : List Account) (m : Movement) (placed : IsPlaced accounts m)
@@ -133,23 +148,29 @@ module _ (accounts : List Account) (m : Movement) (placed : IsPlaced accounts m)
   places_apart : m.debit ≢ m.credit
   places_apart same =
       apart (sym (place-id accounts m.entry.transfer.debit_account_id m.debit d placed.debit)
-      ∙ ap (λ k. (get_or accounts k d).id) same ∙ place-id accounts m.entry.transfer.credit_account_id m.credit d placed.credit)
+      ∙ ap (λ k. (get_or accounts k d).id) same
+      ∙ place-id accounts m.entry.transfer.credit_account_id m.credit d placed.credit)
 
   -- the account that is credited is still as it was when the other one was debited
   pub credit-unchanged : (a : Account) → get_or (set accounts m.debit a) m.credit d ≡ get_or accounts m.credit d
   credit-unchanged a = get_or-set_other accounts m.debit m.credit a d (λ same. places_apart (sym same))
 
   -- one account debited and the other credited are the accounts after the movement
-  pub both-changed : (a b : Account) → AreApart (account_ids accounts) → a ≡ debited (effect_of_movement m) (get_or accounts m.debit d)
-      → b ≡ credited (effect_of_movement m) (get_or accounts m.credit d) → set (set accounts m.debit a) m.credit b ≡ accounts_changed m accounts
+  pub both-changed : (a b : Account) → AreApart (account_ids accounts)
+      → a ≡ debited (effect_of_movement m) (get_or accounts m.debit d)
+      → b ≡ credited (effect_of_movement m) (get_or accounts m.credit d)
+      → set (set accounts m.debit a) m.credit b ≡ accounts_changed m accounts
   both-changed a b unique first second =
       let debit_id : ℕ = m.entry.transfer.debit_account_id in
       let credit_id : ℕ = m.entry.transfer.credit_account_id in
       let f : Effect = effect_of_movement m in
       set_two (account_changed f debit_id credit_id) accounts m.debit m.credit a b d
-      (place-inside accounts debit_id m.debit d placed.debit) (place-inside accounts credit_id m.credit d placed.credit) places_apart
-      (first ∙ changed-debited f debit_id credit_id apart (get_or accounts m.debit d) (place-id accounts debit_id m.debit d placed.debit))
-      (second ∙ changed-credited f debit_id credit_id apart (get_or accounts m.credit d) (place-id accounts credit_id m.credit d placed.credit))
+      (place-inside accounts debit_id m.debit d placed.debit)
+      (place-inside accounts credit_id m.credit d placed.credit) places_apart
+      (first ∙ changed-debited f debit_id credit_id apart (get_or accounts m.debit d)
+      (place-id accounts debit_id m.debit d placed.debit))
+      (second ∙ changed-credited f debit_id credit_id apart (get_or accounts m.credit d)
+      (place-id accounts credit_id m.credit d placed.credit))
       (λ k inside not_debit not_credit. changed-neither f debit_id credit_id apart (get_or accounts k d)
       (place-only accounts debit_id m.debit k d unique placed.debit inside not_debit)
       (place-only accounts credit_id m.credit k d unique placed.credit inside not_credit))

@@ -78,8 +78,9 @@ module _ (test : Entry → Bool) where
           → HaveOwnIds (map (λ x. x.transfer) (if b then e ∷ filter test es else filter test es))
       either true passes more = (
         passing_all (λ q. e.transfer.id ≢ q.id) es
-        (AllByRecursion-weaker (λ x. is_stored e.transfer.id x ≡ false)
-        (λ x. test x ≡ true → e.transfer.id ≢ x.transfer.id) other es ((apart-cons e es apart).1 (storing e passes))),
+            (AllByRecursion-weaker (λ x. is_stored e.transfer.id x ≡ false)
+            (λ x. test x ≡ true → e.transfer.id ≢ x.transfer.id) other es
+            ((apart-cons e es apart).1 (storing e passes))),
         more,
       )
       either false passes more = more
@@ -92,7 +93,7 @@ record DueParts (h : History) (e : Entry) : Type 0 where
 due_parts : (h : History) (now : ℕ) (e : Entry) → is_due h now e ≡ true → DueParts h e
 due_parts h now e is =
     let last = and_parts (holds e.kind && not (e.transfer.timeout == 0) && nat_le (expires_at e.transfer) now)
-        (not (resolved h e.transfer h.last)) is in
+    (not (resolved h e.transfer h.last)) is in
     let ended = and_parts (holds e.kind && not (e.transfer.timeout == 0)) (nat_le (expires_at e.transfer) now) last.0 in
     let timed = and_parts (holds e.kind) (not (e.transfer.timeout == 0)) ended.0 in
     record { holding = timed.0; unsettled = not-true (resolved h e.transfer h.last) last.1 }
@@ -104,8 +105,13 @@ due_open h now sound = All-in_order (IsOpen h) (map (λ e. e.transfer) (filter (
     (AllByRecursion-weaker (λ e. stores e.kind ≡ true → stored h e.transfer.id ≡ Some e)
     (λ e. is_due h now e ≡ true → IsOpen h e.transfer)
     (λ e found is. let parts : DueParts h e = due_parts h now e is in
-    record { pending = e; there = found (stores-holds e.kind parts.holding); same = refl; holding = parts.holding;
-        unsettled = parts.unsettled })
+    record {
+      pending = e;
+      there = found (stores-holds e.kind parts.holding);
+      same = refl;
+      holding = parts.holding;
+      unsettled = parts.unsettled;
+    })
     h.entries (stored_each h sound.once)))
 
 pub due_ids : (h : History) (now : ℕ) → IsSound h → HaveOwnIds (due h now)

@@ -41,7 +41,8 @@ module _ (h : History) (e : Entry) (sound : IsSound h) (follows : Follows h e) (
   abbrev f : Effect
   f = effect_of h e
 
-  side_fits : (pending posted held moved released : ℕ) (g : Effect) → g.held ≡ held → g.moved ≡ moved → g.released ≡ released
+  side_fits : (pending posted held moved released : ℕ) (g : Effect) → g.held ≡ held → g.moved ≡ moved
+      → g.released ≡ released
       → pending + posted + held + moved ≤ max_128 + released → released ≤ pending → SideFits g pending posted
   side_fits pending posted held moved released g a b c fits enough = record {
     released = omega (arith, c);
@@ -49,14 +50,16 @@ module _ (h : History) (e : Entry) (sound : IsSound h) (follows : Follows h e) (
     moved = omega (arith, b);
   }
 
-  debit_fits : (id : ℕ) → id ≡ e.transfer.debit_account_id → SideFits f (balances h id h.last).debits_pending (balances h id h.last).debits_posted
+  debit_fits : (id : ℕ) → id ≡ e.transfer.debit_account_id
+      → SideFits f (balances h id h.last).debits_pending (balances h id h.last).debits_posted
   debit_fits id same =
       let b : Balances = balances h e.transfer.debit_account_id h.last in
       subst (λ n. SideFits f (balances h n h.last).debits_pending (balances h n h.last).debits_posted) (sym same)
       (side_fits b.debits_pending b.debits_posted f.held f.moved f.released f refl refl refl
       (both_fit h e sound follows (settles e.kind) refl).0 (released_debit h e sound follows after))
 
-  credit_fits : (id : ℕ) → id ≡ e.transfer.credit_account_id → SideFits f (balances h id h.last).credits_pending (balances h id h.last).credits_posted
+  credit_fits : (id : ℕ) → id ≡ e.transfer.credit_account_id
+      → SideFits f (balances h id h.last).credits_pending (balances h id h.last).credits_posted
   credit_fits id same =
       let b : Balances = balances h e.transfer.credit_account_id h.last in
       subst (λ n. SideFits f (balances h n h.last).credits_pending (balances h n h.last).credits_posted) (sym same)
@@ -69,14 +72,17 @@ module _ (h : History) (e : Entry) (sound : IsSound h) (follows : Follows h e) (
       (λ k d inside. (debit_fits (get_or h.accounts k d).request.id, credit_fits (get_or h.accounts k d).request.id))
 
 -- the movement of an entry has its effect
-effect-movement : (h : History) (m : Movement) → m.settled ≡ settled_by h m.entry → effect_of_movement m ≡ effect_of h m.entry
+effect-movement : (h : History) (m : Movement) → m.settled ≡ settled_by h m.entry
+    → effect_of_movement m ≡ effect_of h m.entry
 effect-movement h m settled = ap (λ p. effect_by p m.entry) settled
 
 pub All-Takes : (t : Tables) (m : Movement) → IsKept t → Follows (history_of t) m.entry → t.last < m.entry.timestamp
     → m.settled ≡ settled_by (history_of t) m.entry
-    → All (Takes (effect_of_movement m) m.entry.transfer.debit_account_id m.entry.transfer.credit_account_id) t.accounts.items
+    → All (Takes (effect_of_movement m) m.entry.transfer.debit_account_id m.entry.transfer.credit_account_id)
+    t.accounts.items
 All-Takes t m kept follows after settled =
-    let P : Effect → List Account → Type 0 = λ g xs. All (Takes g m.entry.transfer.debit_account_id m.entry.transfer.credit_account_id) xs in
+    let P : Effect → List Account → Type 0 =
+    λ g xs. All (Takes g m.entry.transfer.debit_account_id m.entry.transfer.credit_account_id) xs in
     subst (λ xs. P (effect_of_movement m) xs) (sym kept.balanced)
     (subst (λ g. P g (accounts_now (history_of t))) (sym (effect-movement (history_of t) m settled))
     (takes_each (history_of t) m.entry kept.sound follows after))
@@ -94,7 +100,8 @@ module _ (m : Movement) where
   opened_as-changed [] = refl
   opened_as-changed (a ∷ rest) = ap (λ os. opened_as a ∷ os) (opened_as-changed rest)
 
-  before_changed : (id : ℕ) (xs : List Account) → position_or_len (λ a. a.id == id) (accounts_changed m xs) ≡ position_or_len (λ a. a.id == id) xs
+  before_changed : (id : ℕ) (xs : List Account)
+      → position_or_len (λ a. a.id == id) (accounts_changed m xs) ≡ position_or_len (λ a. a.id == id) xs
   before_changed id [] = refl
   before_changed id (a ∷ rest) = ap (λ n. cond (not (a.id == id)) (1 + n) 0) (before_changed id rest)
 
@@ -110,21 +117,25 @@ module _ (m : Movement) where
       })
 
   pub history-recorded : (t t' : Tables) → t'.accounts.items ≡ accounts_changed m t.accounts.items
-      → t'.entries.items ≡ t.entries.items ++ m.entry ∷ [] → t'.last ≡ m.entry.timestamp → t'.closed ≡ t.closed → history_of t' ≡ pushed (history_of t) m.entry
+      → t'.entries.items ≡ t.entries.items ++ m.entry ∷ [] → t'.last ≡ m.entry.timestamp → t'.closed ≡ t.closed
+      → history_of t' ≡ pushed (history_of t) m.entry
   history-recorded t t' accounts entries last closed =
       let opened : map opened_as t'.accounts.items ≡ map opened_as t.accounts.items =
       ap (map opened_as) accounts ∙ opened_as-changed t.accounts.items in
       cc
 
 -- the accounts now, as they are shown
-shown_in-found : (h : History) (id : ℕ) (found : Option Opened) → opened h id ≡ found → IsSome found → shown_in (accounts_now h) id ≡ account_at h id h.last
+shown_in-found : (h : History) (id : ℕ) (found : Option Opened) → opened h id ≡ found → IsSome found
+    → shown_in (accounts_now h) id ≡ account_at h id h.last
 shown_in-found h id None is has = cc
 shown_in-found h id (Some o) is has =
-    ap (λ x. unwrap_or (option_map shown_as x) (shown_account nobody no_balances)) (find-accounts_now h id ∙ ap (option_map (account_now h)) is)
+    ap (λ x. unwrap_or (option_map shown_as x) (shown_account nobody no_balances))
+    (find-accounts_now h id ∙ ap (option_map (account_now h)) is)
     ∙ ap (λ i. shown_account o (balances h i h.last)) (opened_id h o id is)
     ∙ sym (ap (λ x. shown_account (unwrap_or x nobody) (balances h id h.last)) is)
 
-pub event_from-now : (h : History) (e : Entry) → IsSome (opened h e.transfer.debit_account_id) → IsSome (opened h e.transfer.credit_account_id)
+pub event_from-now : (h : History) (e : Entry) → IsSome (opened h e.transfer.debit_account_id)
+    → IsSome (opened h e.transfer.credit_account_id)
     → h.last ≡ e.timestamp → event_from (accounts_now h) e ≡ event_of h e
 event_from-now h e debit credit last =
     let shown : EventAccount → EventAccount → Event = λ d c. record {
@@ -136,12 +147,16 @@ event_from-now h e debit credit last =
       credit_account = c;
     } in
     ap₂ shown
-    (shown_in-found h e.transfer.debit_account_id (opened h e.transfer.debit_account_id) refl debit ∙ ap (account_at h e.transfer.debit_account_id) last)
-    (shown_in-found h e.transfer.credit_account_id (opened h e.transfer.credit_account_id) refl credit ∙ ap (account_at h e.transfer.credit_account_id) last)
+    (shown_in-found h e.transfer.debit_account_id (opened h e.transfer.debit_account_id) refl debit
+    ∙ ap (account_at h e.transfer.debit_account_id) last)
+    (shown_in-found h e.transfer.credit_account_id (opened h e.transfer.credit_account_id) refl credit
+    ∙ ap (account_at h e.transfer.credit_account_id) last)
 
 -- the accounts after the movement are those after its entry
-pub accounts-recorded : (t : Tables) (m : Movement) → IsKept t → Follows (history_of t) m.entry → t.last < m.entry.timestamp
-    → m.settled ≡ settled_by (history_of t) m.entry → accounts_changed m t.accounts.items ≡ accounts_now (pushed (history_of t) m.entry)
+pub accounts-recorded : (t : Tables) (m : Movement) → IsKept t → Follows (history_of t) m.entry
+    → t.last < m.entry.timestamp
+    → m.settled ≡ settled_by (history_of t) m.entry
+    → accounts_changed m t.accounts.items ≡ accounts_now (pushed (history_of t) m.entry)
 accounts-recorded t m kept follows after settled =
     let d : ℕ = m.entry.transfer.debit_account_id in
     let c : ℕ = m.entry.transfer.credit_account_id in
@@ -149,7 +164,8 @@ accounts-recorded t m kept follows after settled =
     ∙ ap (map (account_changed (effect_of (history_of t) m.entry) d c)) kept.balanced
     ∙ sym (accounts_now-pushed (history_of t) m.entry kept.sound follows after)
 
-last_from-events : (h : History) (s : ℕ) (es : List Entry) → s ≤ h.last → AllByRecursion (λ e. e.timestamp ≤ h.last) es → last_from s (map (event_of h) es) ≤ h.last
+last_from-events : (h : History) (s : ℕ) (es : List Entry) → s ≤ h.last → AllByRecursion (λ e. e.timestamp ≤ h.last) es
+    → last_from s (map (event_of h) es) ≤ h.last
 last_from-events h s [] before all = before
 last_from-events h s (e ∷ es) before all = last_from-events h e.timestamp es all.0 all.1
 
@@ -160,13 +176,15 @@ last_timestamp_of-kept t kept =
     subst P (sym kept.logged) (last_from-events (history_of t) 0 t.entries.items (omega arith) kept.sound.past)
 
 -- the vector after its elements were mapped in place
-pub items-with_items : {X Z : Type 0} (v : Vec X Z) (f : X → X) (ws xs : List X) → ws ≡ map f xs → xs ≡ v.items → (with_items v ws).items ≡ map f v.items
+pub items-with_items : {X Z : Type 0} (v : Vec X Z) (f : X → X) (ws xs : List X) → ws ≡ map f xs → xs ≡ v.items
+    → (with_items v ws).items ≡ map f v.items
 items-with_items v f ws xs mapped same =
     let written : ws ≡ map f v.items = mapped ∙ ap (map f) same in
     with_items_is v ws (ap length written ∙ length-map v.items f ∙ sym v.ok.0) ∙ written
 
 -- what is kept of the tables is kept after the movement
-pub IsKept-recorded : (t t' : Tables) (m : Movement) → IsKept t → Follows (history_of t) m.entry → t.last < m.entry.timestamp
+pub IsKept-recorded : (t t' : Tables) (m : Movement) → IsKept t → Follows (history_of t) m.entry
+    → t.last < m.entry.timestamp
     → m.entry.timestamp ≤ max_timestamp → m.settled ≡ settled_by (history_of t) m.entry
     → t'.accounts.items ≡ accounts_changed m t.accounts.items
     → t'.log.events ≡ t.log.events ++ event_from t'.accounts.items m.entry ∷ []
@@ -174,13 +192,15 @@ pub IsKept-recorded : (t t' : Tables) (m : Movement) → IsKept t → Follows (h
     → history_of t' ≡ pushed (history_of t) m.entry → IsKept t'
 IsKept-recorded t t' m kept follows after top settled accounts log index same =
     let h : History = history_of t in
-    let now : t'.accounts.items ≡ accounts_now (pushed h m.entry) = accounts ∙ accounts-recorded t m kept follows after settled in
+    let now : t'.accounts.items ≡ accounts_now (pushed h m.entry) =
+    accounts ∙ accounts-recorded t m kept follows after settled in
     let told : event_from t'.accounts.items m.entry ≡ event_of (pushed h m.entry) m.entry =
     ap (λ (xs : List Account). event_from xs m.entry) now
     ∙ event_from-now (pushed h m.entry) m.entry follows.accounts.0 follows.accounts.1 refl in
     record {
       balanced = now ∙ ap accounts_now (sym same);
-      logged = log ∙ ap₂ (λ xs x. xs ++ x ∷ []) kept.logged told ∙ sym (events-pushed h m.entry kept.sound.past after) ∙ ap events (sym same);
+      logged = log ∙ ap₂ (λ xs x. xs ++ x ∷ []) kept.logged told ∙ sym (events-pushed h m.entry kept.sound.past after)
+          ∙ ap events (sym same);
       indexed = index ∙ ap index_of (sym same);
       sound = subst IsSound (sym same) (IsSound-pushed h m.entry kept.sound follows after top);
     }

@@ -185,17 +185,18 @@ bounded-pushed : (h : History) (e : Entry) → IsSound h → Follows h e → h.l
     → FitBoth (balances (pushed h e) id e.timestamp)
 bounded-pushed h e sound follows after id =
     let fits : DebitFits h e sound follows e.transfer.debit_account_id × CreditFits h e sound follows
-        e.transfer.credit_account_id = both_fit h e sound follows (settles e.kind) refl in
+    e.transfer.credit_account_id = both_fit h e sound follows (settles e.kind) refl in
     let f = effect_of h e in
     let now = balances h id h.last in
     let was : FitBoth now = sound.bounded id in
     let enough = released_fits h e id sound follows after in
     subst FitBoth (sym (balances-pushed h e id sound follows after)) (
       part_fits now.debits_pending now.debits_posted f.held f.moved f.released e.transfer.debit_account_id id max_128
-      (e.transfer.debit_account_id == id) refl was.0 enough.0 (λ same. subst (DebitFits h e sound follows) same fits.0),
+          (e.transfer.debit_account_id == id) refl was.0 enough.0
+          (λ same. subst (DebitFits h e sound follows) same fits.0),
       part_fits now.credits_pending now.credits_posted f.held f.moved f.released e.transfer.credit_account_id id max_128
-      (e.transfer.credit_account_id == id) refl was.1 enough.1
-      (λ same. subst (CreditFits h e sound follows) same fits.1),
+          (e.transfer.credit_account_id == id) refl was.1 enough.1
+          (λ same. subst (CreditFits h e sound follows) same fits.1),
     )
 
 -- the new entry stands too
@@ -205,8 +206,10 @@ Stands-new h e follows = record {
   dated = follows.dated;
   timely = follows.timely;
   settling =
-      λ is. ((follows.settling is).pending,
-      Settles-pushed h e e (follows.settling is).pending (follows.settling is).settles);
+      λ is. (
+        (follows.settling is).pending,
+        Settles-pushed h e e (follows.settling is).pending (follows.settling is).settles,
+      );
 }
 
 pub IsSound-pushed : (h : History) (e : Entry) → IsSound h → Follows h e → h.last < e.timestamp

@@ -132,7 +132,7 @@ pub apart-cons : (e : Entry) (es : List Entry) → AreApart (stored_ids (e ∷ e
     → AreApart (stored_ids es) × (stores e.kind ≡ true → AllByRecursion (λ x. is_stored e.transfer.id x ≡ false) es)
 apart-cons e es apart =
     let both : AreApart (stored_ids es) ×
-        (stores e.kind ≡ true → AllByRecursion (λ m. e.transfer.id ≢ m) (stored_ids es)) =
+    (stores e.kind ≡ true → AllByRecursion (λ m. e.transfer.id ≢ m) (stored_ids es)) =
     apart_parts (stores e.kind) e.transfer.id (stored_ids es) (subst AreApart (stored_ids-cons e es) apart) in
     (both.0, λ is. none_stored e.transfer.id es (both.1 is))
 
@@ -190,7 +190,7 @@ other_first x y es apart found is =
     not_both : (b : Bool) → stores x.kind ≡ b → is_stored y.transfer.id x ≡ false
     not_both true stored_x =
         let other : (y.transfer.id == x.transfer.id) ≡ false = sym (ap (λ b. b && (y.transfer.id == x.transfer.id)) is)
-            ∙ apart stored_x in
+        ∙ apart stored_x in
         and_right (stores x.kind) (x.transfer.id == y.transfer.id)
         (ne_eqb x.transfer.id y.transfer.id (λ same. eqb-false y.transfer.id x.transfer.id other (sym same)))
     not_both false stored_x = ap (λ b. b && (x.transfer.id == y.transfer.id)) stored_x
@@ -199,7 +199,7 @@ all_found : (es : List Entry) → AreApart (stored_ids es) → AllByRecursion (I
 all_found [] apart = tt
 all_found (x ∷ es) apart =
     let both : AreApart (stored_ids es) ×
-        (stores x.kind ≡ true → AllByRecursion (λ y. is_stored x.transfer.id y ≡ false) es) = apart-cons x es apart in
+    (stores x.kind ≡ true → AllByRecursion (λ y. is_stored x.transfer.id y ≡ false) es) = apart-cons x es apart in
     (found_first x es, under (stores x.kind) refl both.1 es (all_found es both.0))
   where
     under : (b : Bool) → stores x.kind ≡ b

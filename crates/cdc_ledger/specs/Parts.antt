@@ -35,10 +35,10 @@ abbrev pub limit_lines : Account → Account → ℕ → List (Bool × TransferR
 limit_lines debited credited amount =
     let debit = debited.balances in
     let credit = credited.balances in
-    (has_flag debited.flags 2 && nat_lt debit.credits_posted (debit.debits_pending + debit.debits_posted + amount),
-    transfer.ExceedsCredits) ∷
-    (has_flag credited.flags 4 && nat_lt credit.debits_posted (credit.credits_pending + credit.credits_posted + amount),
-    transfer.ExceedsDebits) ∷
+    let debits = debit.debits_pending + debit.debits_posted + amount in
+    let credits = credit.credits_pending + credit.credits_posted + amount in
+    (has_flag debited.flags 2 && nat_lt debit.credits_posted debits, transfer.ExceedsCredits) ∷
+    (has_flag credited.flags 4 && nat_lt credit.debits_posted credits, transfer.ExceedsDebits) ∷
     []
 
 -- the lines on the fields of a post or a void, beside those of the entry that it names
@@ -59,7 +59,8 @@ field_lines e r =
 abbrev pub end_lines : List Entry → Transfer → ℕ → List (Bool × TransferResult)
 end_lines entries p t =
     (list_any (λ x. posts x.kind x.transfer p) entries, transfer.PendingTransferAlreadyPosted) ∷
-    (list_any (λ x. voids x.kind x.transfer p) entries, transfer.PendingTransferAlreadyVoided) ∷
-    (list_any (λ x. expires x.kind x.transfer p) entries || (not (p.timeout == 0) && nat_le (expires_at p) t),
-    transfer.PendingTransferExpired) ∷
+    (list_any (λ x. voids x.kind x.transfer p) entries, transfer.PendingTransferAlreadyVoided) ∷ (
+      list_any (λ x. expires x.kind x.transfer p) entries || (not (p.timeout == 0) && nat_le (expires_at p) t),
+      transfer.PendingTransferExpired,
+    ) ∷
     []

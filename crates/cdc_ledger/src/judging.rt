@@ -57,8 +57,9 @@ impl Tables {
         requires unknown { let h = history_of self.now in
             first_line (known_transfer_lines (stored h request.now.id) h request.now) ≡ None }
         requires plain { is_plain_request request.now ≡ true }
-        ensures { MatchResult result (IsJudged self.now request.now timestamp)
-            (λ refusal. first_line (transfer_lines features (history_of self.now) request.now timestamp) ≡ Some refusal) }
+        ensures { let lines = transfer_lines features (history_of self.now) request.now timestamp in
+            MatchResult result (IsJudged self.now request.now timestamp)
+            (λ refusal. first_line lines ≡ Some refusal) }
     {
         let accounts = self.accounts.as_slice();
         let Some(debit) = find_place(accounts, request.debit_account_id) else {
@@ -118,8 +119,9 @@ impl Tables {
         requires unknown { let h = history_of self.now in
             first_line (known_transfer_lines (stored h request.now.id) h request.now) ≡ None }
         requires settles { is_plain_request request.now ≡ false }
-        ensures { MatchResult result (IsJudged self.now request.now timestamp)
-            (λ refusal. first_line (transfer_lines features (history_of self.now) request.now timestamp) ≡ Some refusal) }
+        ensures { let lines = transfer_lines features (history_of self.now) request.now timestamp in
+            MatchResult result (IsJudged self.now request.now timestamp)
+            (λ refusal. first_line lines ≡ Some refusal) }
     {
         let Some(entry) = self.entry(request.pending_id) else {
             return Err(TransferResult::PendingTransferNotFound);
@@ -148,8 +150,9 @@ impl Tables {
         requires kept { IsKept self.now }
         requires later { self.now.last < timestamp }
         requires within { timestamp ≤ max_timestamp }
-        ensures { MatchResult result (IsJudged self.now request.now timestamp)
-            (λ refusal. first_line (transfer_lines features (history_of self.now) request.now timestamp) ≡ Some refusal) }
+        ensures { let lines = transfer_lines features (history_of self.now) request.now timestamp in
+            MatchResult result (IsJudged self.now request.now timestamp)
+            (λ refusal. first_line lines ≡ Some refusal) }
     {
         if let Some(refusal) = request.check_shape() {
             return Err(refusal);

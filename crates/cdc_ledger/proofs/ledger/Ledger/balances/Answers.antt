@@ -7,8 +7,10 @@ use Rattle.cdc_ledger.proofs.ledger.Ledger.balances.Goals as goal
 
 found : goal.returns-clause-balances
 found c =
-    let mapped : c.map.result ≡ option_map (λ (a : Account). a.balances) (option_copied c.account.result) = search rules in
-    mapped ∙ ap (option_map (λ (a : Account). a.balances)) c.account.ensures.account ∙ balances-account_now c.args.self.now c.args.id
+    let mapped : c.map.result ≡ option_map (λ (a : Account). a.balances) (option_copied c.account.result) =
+    search rules in
+    mapped ∙ ap (option_map (λ (a : Account). a.balances)) c.account.ensures.account
+    ∙ balances-account_now c.args.self.now c.args.id
 
 pub returns-clause-balances : goal.returns-clause-balances
 returns-clause-balances c = found c

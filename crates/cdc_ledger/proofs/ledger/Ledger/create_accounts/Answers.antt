@@ -7,6 +7,8 @@ use Rattle.cdc_ledger.proofs.ledger.Ledger.create_accounts.Goals as goal
 pub invariant_of-self : goal.invariant_of-self
 invariant_of-self c = record {
   kept = c.create_accounts.ensures.kept;
-  legal = IsLegal-answered (λ v. results.Accounts v.items) (history_of c.self.inside.tables) (history_of c.create_accounts.new.self)
-      (batch.Accounts c.args.now c.args.requests.now) c.create_accounts.result c.self.invariant.legal c.create_accounts.ensures.fit c.create_accounts.ensures.answers;
+  legal = IsLegal-answered (λ v. results.Accounts v.items) (history_of c.self.inside.tables)
+      (history_of c.create_accounts.new.self)
+      (batch.Accounts c.args.now c.args.requests.now) c.create_accounts.result c.self.invariant.legal
+      c.create_accounts.ensures.fit c.create_accounts.ensures.answers;
 }

@@ -9,5 +9,6 @@ pub invariant_of-self : goal.invariant_of-self
 invariant_of-self c = record {
   kept = c.pulse.ensures.kept;
   legal = IsLegal-answered results.Pulsed (history_of c.self.inside.tables) (history_of c.pulse.new.self)
-      (batch.Pulse c.args.now) c.pulse.result c.self.invariant.legal (on_ok _ c.pulse.result c.ranges.now.fits) c.pulse.ensures.answers;
+      (batch.Pulse c.args.now) c.pulse.result c.self.invariant.legal
+      (on_ok _ c.pulse.result c.ranges.now.fits) c.pulse.ensures.answers;
 }

@@ -22,7 +22,8 @@ credit-requires c =
     let xs = c.args.accounts.now in
     let d : Account = account_with nobody no_balances in
     rw (c.effect-effect.ensures, credit-unchanged xs m c.requires.placed c.requires.apart d c.debit.new.account)
-    ((c.requires.fits m.credit d (place-inside xs m.entry.transfer.credit_account_id m.credit d c.requires.placed.credit)).1
+    ((c.requires.fits m.credit d
+    (place-inside xs m.entry.transfer.credit_account_id m.credit d c.requires.placed.credit)).1
     (place-id xs m.entry.transfer.credit_account_id m.credit d c.requires.placed.credit))
 
 pub returns : goal.returns
@@ -32,5 +33,7 @@ returns c =
     let d : Account = account_with nobody no_balances in
     both-changed xs m c.requires.placed c.requires.apart d c.debit.new.account c.credit.new.account c.requires.unique
     (c.debit.ensures ∙ ap (λ (f : Effect). debited f (get_or xs m.debit d)) c.effect-effect.ensures)
-    (c.credit.ensures ∙ ap (λ (f : Effect). credited f (get_or (set xs m.debit c.debit.new.account) m.credit d)) c.effect-effect.ensures
-    ∙ ap (credited (effect_of_movement m)) (credit-unchanged xs m c.requires.placed c.requires.apart d c.debit.new.account))
+    (c.credit.ensures ∙ ap (λ (f : Effect). credited f (get_or (set xs m.debit c.debit.new.account) m.credit d))
+    c.effect-effect.ensures
+    ∙ ap (credited (effect_of_movement m))
+    (credit-unchanged xs m c.requires.placed c.requires.apart d c.debit.new.account))

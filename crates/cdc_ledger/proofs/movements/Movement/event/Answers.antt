@@ -18,5 +18,7 @@ returns c =
     } in
     rw c.shown_transfer.ensures
     (ap₂ shown
-    (c.shown_account.ensures ∙ sym (place-shown c.args.accounts.now e.transfer.debit_account_id c.args.self.now.debit _ c.requires.debit))
-    (c.shown_account-2.ensures ∙ sym (place-shown c.args.accounts.now e.transfer.credit_account_id c.args.self.now.credit _ c.requires.credit)))
+    (c.shown_account.ensures ∙ sym
+    (place-shown c.args.accounts.now e.transfer.debit_account_id c.args.self.now.debit _ c.requires.debit))
+    (c.shown_account-2.ensures ∙ sym
+    (place-shown c.args.accounts.now e.transfer.credit_account_id c.args.self.now.credit _ c.requires.credit)))

@@ -11,9 +11,11 @@ pub record-requires-clause-follows : goal.record-requires-clause-follows
 record-requires-clause-follows c =
     let h = history_of c.args.self.now in
     subst (λ (e : Entry). Follows h e) (sym c.in-Ok.ensures.entry)
-    (Follows-accepted features h c.args.request c.args.timestamp c.requires.kept.sound (omega arith) c.in-Ok.ensures.unrefused)
+    (Follows-accepted features h c.args.request c.args.timestamp c.requires.kept.sound
+    (omega arith) c.in-Ok.ensures.unrefused)
 
 pub returns-in-Err-clause-history : goal.returns-in-Err-clause-history
 returns-in-Err-clause-history c =
     c.take_timestamp.ensures.history
-    ∙ sym (after_transfer-refused (history_of c.args.self.now) c.args.request c.args.timestamp c.in-Err.refusal c.in-Err.ensures)
+    ∙ sym (after_transfer-refused (history_of c.args.self.now) c.args.request c.args.timestamp c.in-Err.refusal
+    c.in-Err.ensures)

@@ -40,13 +40,17 @@ loop-place-preserved c =
     let r : NewTransfer = get_or all i none in
     let verdict = transfer_verdict features now r (c.args.base + i) in
     let results : c.push_reserved.new.self.items ≡ c.loop-place.results.items ++ verdict ∷ [] =
-    c.push_reserved.ensures.items ∙ ap (λ (x : TransferResult). c.loop-place.results.items ++ x ∷ []) c.take_transfer.ensures.result in
+    c.push_reserved.ensures.items ∙ ap
+    (λ (x : TransferResult). c.loop-place.results.items ++ x ∷ []) c.take_transfer.ensures.result in
     let after : history_of c.take_transfer.new.self ≡ after_transfer now r (c.args.base + i) verdict =
     c.take_transfer.ensures.history ∙ ap (after_transfer now r (c.args.base + i)) c.take_transfer.ensures.result in
     record {
-      on = subst (λ (g : History). TransfersGoOn features h c.args.base all (i + 1) c.push_reserved.new.self.items g) (sym after)
-          (subst (λ (done : List TransferResult). TransfersGoOn features h c.args.base all (i + 1) done (after_transfer now r (c.args.base + i) verdict)) (sym results)
-          (TransfersGoOn_more features h c.args.base all i none c.loop-place.results.items now c.loop-place-test.true c.loop-place.invariant.on));
+      on = subst (λ (g : History). TransfersGoOn features h c.args.base all (i + 1) c.push_reserved.new.self.items g)
+          (sym after)
+          (subst (λ (done : List TransferResult). TransfersGoOn features h c.args.base all (i + 1) done
+          (after_transfer now r (c.args.base + i) verdict)) (sym results)
+          (TransfersGoOn_more features h c.args.base all i none c.loop-place.results.items now c.loop-place-test.true
+          c.loop-place.invariant.on));
       kept = c.take_transfer.ensures.kept;
       later = search rules;
       count = search rules;
