@@ -82,16 +82,16 @@ ShowsLast-pushed h e shows within after sides known id b found =
     at_last (credited same is) =
         let own = id_found h e.transfer.credit_account_id _ refl known.1 in
         is ∙ ap (λ
-            (n : ℕ). record { id = n; balances = balances (pushed h e) e.transfer.credit_account_id e.timestamp }) own
-            ∙ ap (λ (n : ℕ). entry_as_of (pushed h e) e.timestamp n) (sym own ∙ same)
+        (n : ℕ). record { id = n; balances = balances (pushed h e) e.transfer.credit_account_id e.timestamp }) own
+        ∙ ap (λ (n : ℕ). entry_as_of (pushed h e) e.timestamp n) (sym own ∙ same)
     at_last (debited same is) =
         let own = id_found h e.transfer.debit_account_id _ refl known.0 in
         is ∙ ap (λ (n : ℕ). record { id = n; balances = balances (pushed h e) e.transfer.debit_account_id e.timestamp })
-            own ∙ ap (λ (n : ℕ). entry_as_of (pushed h e) e.timestamp n) (sym own ∙ same)
+        own ∙ ap (λ (n : ℕ). entry_as_of (pushed h e) e.timestamp n) (sym own ∙ same)
     at_last (left credit debit was) =
         let other = balances-pushed_other h e id within after sides
-            (λ same. debit (id_found h e.transfer.debit_account_id _ refl known.0 ∙ same))
-            (λ same. credit (id_found h e.transfer.credit_account_id _ refl known.1 ∙ same)) in
+        (λ same. debit (id_found h e.transfer.debit_account_id _ refl known.0 ∙ same))
+        (λ same. credit (id_found h e.transfer.credit_account_id _ refl known.1 ∙ same)) in
         shows id b was ∙ ap (λ (sums : Balances). record { id = id; balances = sums }) (sym other)
 
 -- where the entries end
@@ -115,13 +115,13 @@ ShowsLast-followed : (all : List Entry) (h : History) (es : List Entry) → h.en
 ShowsLast-followed all h [] whole shows within rise sides known = rw append-nil shows
 ShowsLast-followed all h (e ∷ es) whole shows within rise sides known =
     let within' = AllByRecursion_push (λ x. x.timestamp ≤ e.timestamp) h.entries e
-        (AllByRecursion-weaker (λ x. x.timestamp ≤ h.last) (λ x. x.timestamp ≤ e.timestamp)
-        (λ x early. omega arith) h.entries within) (omega arith) in
+    (AllByRecursion-weaker (λ x. x.timestamp ≤ h.last) (λ x. x.timestamp ≤ e.timestamp)
+    (λ x early. omega arith) h.entries within) (omega arith) in
     let before = all_front (HasSidesOf e) h.entries (e ∷ es)
-        (subst (AllByRecursion (HasSidesOf e)) (sym whole) sides.0) in
+    (subst (AllByRecursion (HasSidesOf e)) (sym whole) sides.0) in
     let next = ShowsLast-pushed h e shows within rise.0 before known.0 in
     let rest = ShowsLast-followed all (pushed h e) es
-        (append_assoc h.entries (e ∷ []) es ∙ whole) next within' rise.1 sides.1 known.1 in
+    (append_assoc h.entries (e ∷ []) es ∙ whole) next within' rise.1 sides.1 known.1 in
     rw append_assoc at rest
 
 -- the moment of the last event is where the entries end
@@ -135,7 +135,7 @@ seen-as_of : (h : History) → IsSound h → (id : ℕ) (b : BookEntry) → seen
 seen-as_of h sound id b found =
     let start : History = record h { entries = []; last = 0 } in
     let shows = ShowsLast-followed h.entries start h.entries refl (λ n c none. cc) tt sound.rising
-        (sides_of_all h sound) sound.known in
+    (sides_of_all h sound) sound.known in
     rw (last_from-events h 0 h.entries) (shows id b found)
 
 -- what holds of numbers holds of their first appearances
@@ -155,13 +155,16 @@ all_found : (shown : List BookEntry)
     → AllByRecursion (λ id. IsSome (find (λ entry. entry.id == id) (reverse shown))) (map (λ entry. entry.id) shown)
 all_found [] = tt
 all_found (x ∷ rest) = (
-  rw (reverse-append (x ∷ []) rest, find-append (λ entry. entry.id == x.id) (reverse rest) (x ∷ []),
-  eq-eqb x.id x.id refl) (found_after (find (λ entry. entry.id == x.id) (reverse rest)) (Some x) refl),
+  rw (
+    reverse-append (x ∷ []) rest,
+    find-append (λ entry. entry.id == x.id) (reverse rest) (x ∷ []),
+    eq-eqb x.id x.id refl,
+  ) (found_after (find (λ entry. entry.id == x.id) (reverse rest)) (Some x) refl),
   AllByRecursion-weaker (λ id. IsSome (find (λ entry. entry.id == id) (reverse rest)))
-  (λ id. IsSome (find (λ entry. entry.id == id) (reverse (x ∷ rest))))
-  (λ id found. rw (reverse-append (x ∷ []) rest, find-append (λ entry. entry.id == id) (reverse rest) (x ∷ []))
-  (found_before (find (λ entry. entry.id == id) (reverse rest)) (find (λ entry. entry.id == id) (x ∷ [])) found))
-  (map (λ entry. entry.id) rest) (all_found rest),
+      (λ id. IsSome (find (λ entry. entry.id == id) (reverse (x ∷ rest))))
+      (λ id found. rw (reverse-append (x ∷ []) rest, find-append (λ entry. entry.id == id) (reverse rest) (x ∷ []))
+      (found_before (find (λ entry. entry.id == id) (reverse rest)) (find (λ entry. entry.id == id) (x ∷ [])) found))
+      (map (λ entry. entry.id) rest) (all_found rest),
 )
   where
     found_after : (a b : Option BookEntry) → IsSome b → IsSome (option_or a b)

@@ -56,6 +56,8 @@ abbrev pub TimestampsAreUnique : Triples → Type 0
 TimestampsAreUnique s =
     (x y : Triple) → set.contains s x ≡ true → set.contains s y ≡ true → x.timestamp ≡ y.timestamp → x ≡ y
 
+-- What the index keeps inside, of which no clause of a public call speaks.
+
 -- no two triples of the list have the same timestamp
 abbrev pub TimestampsDiffer : List Triple → Type 0
 TimestampsDiffer [] = Unit {0}

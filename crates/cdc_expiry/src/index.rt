@@ -8,8 +8,8 @@ use crate::triple::Triple;
 use std::alloc::{AllocError, Global};
 use std::marker::Model;
 
-/// The triples of the pending transfers that may still come to their end. A clause sees the set of them, and for how
-/// many more there is room.
+/// The triples of the pending transfers that may still come to their end (TigerBeetle, Two-Phase Transfers, `timeout`).
+/// A clause sees the set of them, and for how many more there is room.
 #[derive(Drop)]
 pub struct DueIndex {
     triples: Vec<Triple>,
@@ -65,7 +65,7 @@ impl DueIndex {
         self.triples.capacity() - self.triples.len()
     }
 
-    /// Adds a triple, which can't fail where there is room for it.
+    /// Adds a triple with a timestamp that no other has, which can't fail where there is room for it.
     pub fn add(&mut self, triple: Triple)
         requires room { 0 < self.old.room }
         requires fresh { IsNewTimestamp self.old.triples triple.timestamp }

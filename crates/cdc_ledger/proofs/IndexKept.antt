@@ -1,20 +1,18 @@
 -- The set that an index keeps, after each change of a history, and what its answers say of what is due.
-use Rattle.std.proofs.Common.{ℕ, ◌<◌, ◌≤◌, Bool, true, false, Some, None, List, [], ◌∷◌, ◌≡◌, length, refl, ap, ap₂, sym, ◌∙◌, arith, subst, ⊎_elim}
-use Rattle.std.specs.Prelude.{◌==◌, ◌&&◌, not, nat_le, filter, if◌then◌else◌}
+use Rattle.std.proofs.Common.{ℕ, ◌<◌, ◌≤◌, Bool, true, false, Some, None, List, [], ◌∷◌, ◌≡◌, length, refl, ap, sym, ◌∙◌, arith, subst, ⊎_elim}
+use Rattle.std.specs.Prelude.{nat_le, filter}
 use Rattle.std.specs.FinSet as set
-use Rattle.std.specs.List.{All, AllByRecursion}
-use Rattle.std.proofs.lemmas.Bool.{cases_eq, eq-eqb, ne_eqb}
+use Rattle.std.specs.List.{All}
+use Rattle.std.proofs.lemmas.Bool.{cases_eq}
 use Rattle.std.proofs.lemmas.List.Elements.{All-from_recursion}
 use Rattle.cdc_types.specs.declared.events.Entry.{Entry}
 use Rattle.cdc_types.specs.declared.transfers.Transfer.{Transfer}
-use Rattle.cdc_expiry.specs.declared.triple.Triple.{Triple}
 use Rattle.cdc_expiry.specs.Triples.{due_at, IsLeast, IsNewTimestamp, without}
 use Rattle.cdc_expiry.proofs.Lists.{set_of-push, without-set_of, due_at-set_of, due_count-set_of, IsNewTimestamp-set_of, IsLeastOf-set_of}
-use Rattle.cdc_ledger.specs.Balances.{resolved}
 use Rattle.cdc_ledger.specs.Changes.{pushed}
 use Rattle.cdc_ledger.specs.Due.{due}
 use Rattle.cdc_ledger.specs.Effects.{settled_by}
-use Rattle.cdc_ledger.specs.Filling.{stored, expires_at}
+use Rattle.cdc_ledger.specs.Filling.{expires_at}
 use Rattle.cdc_ledger.specs.Follows.{Follows}
 use Rattle.cdc_ledger.specs.History.{Opened, History}
 use Rattle.cdc_ledger.specs.Kinds.{holds, stores, settles, settled_id}
@@ -117,29 +115,6 @@ ends_alike h x sound among is =
     (λ y other has same. absurd ((other (stores-holds y.kind (holds-open h y has))).time same)) among.front among.back
     (IsOther-around h x among sound is))))
 
--- no triple has the timestamp of an entry that has none
-no_own : (h : History) (x : Entry) → IsSound h → IsAmong h.entries x → stores x.kind ≡ true → (is_open h x ≡ true → ⊥)
-    → AllByRecursion (λ t. not (t.timestamp == x.transfer.timestamp) ≡ true) (open_triples h)
-no_own h x sound among is closed =
-    triples_from-All (λ y. not (y.transfer.timestamp == x.transfer.timestamp) ≡ true)
-    (λ t. not (t.timestamp == x.transfer.timestamp) ≡ true) (λ n y apart. apart) (is_open h) 0 h.entries
-    (All-from_around (λ y. is_open h y ≡ true → not (y.transfer.timestamp == x.transfer.timestamp) ≡ true) h.entries x
-    among (λ has. absurd (closed has))
-    (Around-weaker (λ y. stores y.kind ≡ true → IsOther x y)
-    (λ y. is_open h y ≡ true → not (y.transfer.timestamp == x.transfer.timestamp) ≡ true)
-    (λ y other has. ap not (ne_eqb y.transfer.timestamp x.transfer.timestamp
-    (other (stores-holds y.kind (holds-open h y has))).time))
-    among.front among.back (IsOther-around h x among sound is)))
-
-filter_all : (keep : Triple → Bool) (xs : List Triple) → AllByRecursion (λ t. keep t ≡ true) xs → filter keep xs ≡ xs
-filter_all keep [] all = refl
-filter_all keep (x ∷ xs) all = ap₂ (λ b more. if b then x ∷ more else more) all.0 (filter_all keep xs all.1)
-
-endless_closed : (held done zero : Bool) → zero ≡ true → (held && not zero && not done) ≡ true → ⊥
-endless_closed true done true is has = cc
-endless_closed true done false is has = cc
-endless_closed false done zero is has = cc
-
 -- a post, a void or an expiry takes out the triple of the pending transfer that it settles
 pub index_of-settled : (h : History) (e : Entry) (p : Transfer) → IsSound h → Follows h e → h.last < e.timestamp
     → settled_by h e ≡ Some p
@@ -151,19 +126,6 @@ index_of-settled h e p sound follows after some =
     ∙ (sym (without-set_of (open_triples h) (expires_at it.x.transfer) it.x.transfer.timestamp
     (ends_alike h it.x sound at.among at.stores))
     ∙ ap (λ (q : Transfer). without (index_of h) (expires_at q) q.timestamp) it.own)
-
--- one without a timeout has none
-pub index_of-endless : (h : History) (e : Entry) (p : Transfer) → IsSound h → Follows h e → h.last < e.timestamp
-    → settled_by h e ≡ Some p
-    → p.timeout ≡ 0 → index_of (pushed h e) ≡ index_of h
-index_of-endless h e p sound follows after some endless =
-    let it = IsSettled-settled_by h e p follows some in
-    let at = IsStored-found h (settled_id e.kind e.transfer) it.x it.settled.named in
-    ap set.from_list (open_triples-settling h e it.x sound after it.is it.settled
-    ∙ filter_all (λ t. not (t.timestamp == it.x.transfer.timestamp)) (open_triples h)
-    (no_own h it.x sound at.among at.stores
-    (endless_closed (holds it.x.kind) (resolved h it.x.transfer h.last) (it.x.transfer.timeout == 0)
-    (eq-eqb it.x.transfer.timeout 0 (ap (λ (q : Transfer). q.timeout) it.own ∙ endless)))))
 
 -- the count of what is due
 pub due_count-index_of : (h : History) (now : ℕ) → IsSound h → set.len (due_at (index_of h) now) ≡ length (due h now)

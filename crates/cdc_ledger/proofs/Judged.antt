@@ -1,14 +1,12 @@
 -- Which line refuses a request for a transfer, part by part of its table, and what the movement of an accepted one is.
-use Rattle.std.proofs.Common.{ℕ, ◌<◌, ◌≤◌, Bool, true, false, cond, List, [], ◌∷◌, ◌++◌, ◌≡◌, Option, Some, None, length, get_or, refl, ap, ap₂, sym, ◌∙◌, subst, arith}
-use Rattle.std.specs.Prelude.{◌==◌, ◌&&◌, ◌||◌, not, nat_le, nat_lt, if◌then◌else◌, find, position, option_map, IsSome}
-use Rattle.std.specs.List.{AllByRecursion, list_any, position_or_len, slice_get}
+use Rattle.std.proofs.Common.{ℕ, ◌≤◌, Bool, true, false, cond, List, ◌++◌, ◌≡◌, Option, Some, None, length, get_or, refl, ap, ap₂, sym, ◌∙◌, subst, arith}
+use Rattle.std.specs.Prelude.{◌==◌, ◌&&◌, ◌||◌, not, nat_le, nat_lt, if◌then◌else◌, position, option_map, IsSome}
+use Rattle.std.specs.List.{list_any, position_or_len}
 use Rattle.std.proofs.lemmas.Bool.{le-leb, false≢true, ltb-false}
 use Rattle.std.proofs.lemmas.List.Folds.{find_at}
 use Rattle.std.proofs.lemmas.Option.{slice_get_past}
 use Rattle.cdc_types.specs.declared.accounts.Account.{Account}
-use Rattle.cdc_types.specs.declared.accounts.Balances.{Balances}
 use Rattle.cdc_types.specs.declared.events.Entry.{Entry}
-use Rattle.cdc_types.specs.declared.events.EventKind.{EventKind}
 use Rattle.cdc_types.specs.declared.events.EventKind.TheVariants.{SinglePhase, TwoPhasePending, TwoPhasePosted, TwoPhaseVoided}
 use Rattle.cdc_types.specs.declared.results.TransferResult.{TransferResult}
 use Rattle.cdc_types.specs.declared.results.TransferResult.TheVariants as transfer
@@ -17,9 +15,9 @@ use Rattle.cdc_types.specs.declared.transfers.Transfer.{Transfer}
 use Rattle.cdc_types.specs.Features.{features}
 use Rattle.cdc_types.specs.Flags.{is_pending_request, is_post_request, is_void_request, is_plain_request}
 use Rattle.cdc_types.specs.Lines.{first_line}
-use Rattle.cdc_types.specs.Shapes.{asks_for_two_kinds, transfer_shape_lines, transfer_refusal}
+use Rattle.cdc_types.specs.Shapes.{transfer_shape_lines, transfer_refusal}
 use Rattle.cdc_ledger.specs.declared.tables.Tables.{Tables}
-use Rattle.cdc_ledger.specs.Accounts.{HasBoundedSums, lines_between, opened_as}
+use Rattle.cdc_ledger.specs.Accounts.{HasBoundedSums, lines_between}
 use Rattle.cdc_ledger.specs.Balances.{balances, some_by}
 use Rattle.cdc_ledger.specs.Effects.{settled_in, settled_by}
 use Rattle.cdc_ledger.specs.Events.{account_now, account_with}
@@ -29,7 +27,7 @@ use Rattle.cdc_ledger.specs.Kinds.{posts, voids, expires}
 use Rattle.cdc_ledger.specs.Movements.{IsPlace}
 use Rattle.cdc_ledger.specs.Parts.{field_lines, end_lines}
 use Rattle.cdc_ledger.specs.Sound.{IsBounded}
-use Rattle.cdc_ledger.specs.Submit.{kind_of, entry_of}
+use Rattle.cdc_ledger.specs.Submit.{entry_of}
 use Rattle.cdc_ledger.specs.Tables.{IsKept, history_of}
 use Rattle.cdc_ledger.specs.Verdict.{transfer_lines, known_transfer_lines, plain_lines, settling_lines}
 use Rattle.cdc_ledger.proofs.BalanceLaws.{balances_later}

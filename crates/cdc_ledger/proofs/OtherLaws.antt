@@ -1,10 +1,9 @@
 -- An entry leaves the balances of every account that it doesn't name, also where it settles a pending transfer.
-use Rattle.std.proofs.Common.{ℕ, ◌<◌, ◌≤◌, ◌+◌, Bool, true, false, ◌∷◌, [], ◌++◌, ◌≡◌, ◌≢◌, Option, Some, refl, sym, ap, ap₂, ◌∙◌, arith, add-zero, le-leb}
+use Rattle.std.proofs.Common.{ℕ, ◌<◌, ◌≤◌, ◌+◌, Bool, true, false, ◌∷◌, [], ◌++◌, ◌≡◌, ◌≢◌, Option, Some, refl, sym, ap, ap₂, ◌∙◌, arith, add-zero}
 use Rattle.std.specs.Prelude.{◌==◌, ◌&&◌, ◌||◌, not, nat_le, if◌then◌else◌, sum_by}
 use Rattle.std.specs.List.{AllByRecursion}
 use Rattle.std.proofs.lemmas.Bool.{and_parts, and_right, eqb-true, ne_eqb, false≢true}
 use Rattle.std.proofs.lemmas.List.Sums.{sum_by_push}
-use Rattle.cdc_types.specs.declared.accounts.Balances.{Balances}
 use Rattle.cdc_types.specs.declared.events.Entry.{Entry}
 use Rattle.cdc_types.specs.declared.transfers.Transfer.{Transfer}
 use Rattle.cdc_ledger.specs.Balances.{balances, resolves, resolved, held, moved, share, debit_side, credit_side}

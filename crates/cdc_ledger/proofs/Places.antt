@@ -1,5 +1,5 @@
 -- Places of accounts, and what a change of the two accounts at two places makes of the list.
-use Rattle.std.proofs.Common.{ℕ, ◌+◌, ◌-◌, ◌<◌, ◌≤◌, ◌≡◌, ◌≢◌, Bool, true, false, cond, List, [], ◌∷◌, Option, Some, None, length, map, get_or, set, refl, ap, ap₂, sym, ◌∙◌, subst, arith}
+use Rattle.std.proofs.Common.{ℕ, ◌<◌, ◌≤◌, ◌≡◌, ◌≢◌, Bool, true, false, cond, List, [], ◌∷◌, Option, Some, None, length, map, get_or, set, refl, ap, sym, ◌∙◌, arith}
 use Rattle.std.specs.Prelude.{◌==◌, nat_lt, find, position, All, unwrap_or, option_map, if◌then◌else◌}
 use Rattle.std.specs.List.{AllByRecursion, AllPairs, position_or_len, slice_get}
 use Rattle.std.proofs.lemmas.Bool.{ltb-true, ltb-false, eqb-true, eq-eqb, ne_eqb, eqb-false, false≢true}
@@ -12,7 +12,7 @@ use Rattle.std.proofs.lemmas.Option.{slice_get-get_or}
 use Rattle.cdc_types.specs.declared.accounts.Account.{Account}
 use Rattle.cdc_types.specs.declared.accounts.Balances.{Balances}
 use Rattle.cdc_ledger.specs.Accounts.{no_balances, shown_as, shown_in}
-use Rattle.cdc_ledger.specs.Effects.{Effect, part, changed, account_changed}
+use Rattle.cdc_ledger.specs.Effects.{Effect, part, account_changed}
 use Rattle.cdc_ledger.specs.Events.{nobody, shown_account}
 use Rattle.cdc_ledger.specs.declared.movements.Movement.{Movement}
 use Rattle.cdc_ledger.specs.Movements.{IsPlace, IsPlaced, account_ids, accounts_changed, debited, credited, effect_of_movement}

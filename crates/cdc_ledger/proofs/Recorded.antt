@@ -1,6 +1,6 @@
 -- What the ledger's tables are after one more entry.
 use Rattle.std.proofs.Common.{ℕ, ◌+◌, ◌<◌, ◌≤◌, List, [], ◌∷◌, ◌++◌, ◌≡◌, Option, Some, None, cond, get_or, length, map, refl, ap, ap₂, sym, ◌∙◌, subst, arith}
-use Rattle.std.specs.Prelude.{◌==◌, not, nat_lt, find, position, unwrap_or, option_map, IsSome, All}
+use Rattle.std.specs.Prelude.{◌==◌, not, nat_lt, unwrap_or, option_map, IsSome, All}
 use Rattle.std.specs.List.{AllByRecursion, position_or_len}
 use Rattle.std.specs.Vec.{with_items}
 use Rattle.std.specs.declared.vec.Vec.{Vec}
@@ -23,7 +23,7 @@ use Rattle.cdc_ledger.specs.Events.{accounts_now, account_now, account_at, event
 use Rattle.cdc_ledger.specs.Follows.{Follows}
 use Rattle.cdc_ledger.specs.History.{History, Opened, opened}
 use Rattle.cdc_ledger.specs.Kinds.{settles}
-use Rattle.cdc_ledger.specs.Movements.{IsPlace, IsPlaced, IsMovement, SideFits, Takes, account_ids, accounts_changed, effect_of_movement}
+use Rattle.cdc_ledger.specs.Movements.{IsPlace, IsPlaced, SideFits, Takes, account_ids, accounts_changed, effect_of_movement}
 use Rattle.cdc_ledger.specs.OpenTriples.{index_of}
 use Rattle.cdc_ledger.specs.Sound.{AreApart, IsSound}
 use Rattle.cdc_ledger.specs.Tables.{IsKept, history_of}

@@ -2,7 +2,7 @@
 use Rattle.std.proofs.Common.{ℕ, ◌+◌, ◌-◌, ◌<◌, ◌≤◌, Bool, true, false, List, [], ◌∷◌, ◌++◌, ◌≡◌, None, refl, ap, sym, subst, arith}
 use Rattle.std.specs.Prelude.{◌==◌, if◌then◌else◌}
 use Rattle.std.specs.List.{AllByRecursion}
-use Rattle.std.proofs.lemmas.Bool.{eqb-true, false≢true}
+use Rattle.std.proofs.lemmas.Bool.{eqb-true}
 use Rattle.cdc_types.specs.declared.accounts.Balances.{Balances}
 use Rattle.cdc_types.specs.declared.events.Entry.{Entry}
 use Rattle.cdc_types.specs.declared.events.EventKind.{EventKind}
@@ -15,9 +15,9 @@ use Rattle.cdc_ledger.specs.History.{Opened, History, opened, empty_history}
 use Rattle.cdc_ledger.specs.Kinds.{holds, moves, settles}
 use Rattle.cdc_ledger.specs.Sound.{RiseFrom, HasAccounts, Settles, Stands, IsSound}
 use Rattle.cdc_ledger.specs.Verdict.{max_timestamp}
-use Rattle.cdc_ledger.proofs.Changes.{pushed, with_account, timed, IsUpTo, part, changed_by, effect_of}
+use Rattle.cdc_ledger.proofs.Changes.{pushed, with_account, timed, IsUpTo, effect_of}
 use Rattle.cdc_ledger.proofs.Elements.{AllByRecursion-weaker, AllByRecursion_push}
-use Rattle.cdc_ledger.proofs.BalanceLaws.{balances_later, balances-pushed, released_fits, settled_by_is, settled_by_none, holds-settles}
+use Rattle.cdc_ledger.proofs.BalanceLaws.{balances_later, balances-pushed, released_fits, settled_by_is}
 use Rattle.cdc_ledger.proofs.OpenedLaws.{AreApart-with_account, HasAccounts-with_account}
 use Rattle.cdc_ledger.proofs.StoredLaws.{stored-pushed_kept, once-pushed}
 

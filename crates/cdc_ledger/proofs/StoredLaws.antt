@@ -4,14 +4,14 @@ use Rattle.std.specs.Prelude.{if◌then◌else◌, ◌==◌, ◌&&◌, find, fil
 use Rattle.std.specs.Option.{option_or}
 use Rattle.std.specs.List.{AllByRecursion}
 use Rattle.std.proofs.lemmas.List.Folds.{find-append}
-use Rattle.std.proofs.lemmas.Bool.{and_from, and_parts, and_right, and_cases, eqb-true, eqb-false, eq-eqb, ne_eqb, both_ways, false≢true}
+use Rattle.std.proofs.lemmas.Bool.{and_from, and_parts, and_right, eqb-true, eqb-false, eq-eqb, ne_eqb, false≢true}
 use Rattle.cdc_types.specs.declared.events.Entry.{Entry}
 use Rattle.cdc_ledger.specs.Filling.{stored_in, stored}
 use Rattle.cdc_ledger.specs.History.{History}
 use Rattle.cdc_ledger.specs.Kinds.{stores}
 use Rattle.cdc_ledger.specs.Sound.{AreApart, stored_ids}
 use Rattle.cdc_ledger.proofs.Changes.{pushed}
-use Rattle.cdc_ledger.proofs.Elements.{AllByRecursion-weaker, AllByRecursion-both, AllByRecursion_push}
+use Rattle.cdc_ledger.proofs.Elements.{AllByRecursion-weaker, AllByRecursion-both}
 use Rattle.cdc_ledger.proofs.OpenedLaws.{AreApart_push}
 
 -- the entry stored a transfer of this id

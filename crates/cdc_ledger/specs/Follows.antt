@@ -1,13 +1,11 @@
 -- What it takes that an entry comes after a history (for private contracts and the laws).
-use Rattle.std.specs.Prelude.{ℕ, ◌+◌, ◌≤◌, ◌≡◌, ◌≢◌, true, false, None, Some}
+use Rattle.std.specs.Prelude.{◌+◌, ◌≤◌, ◌≡◌, ◌≢◌, true, false, None}
 use Rattle.cdc_types.specs.declared.events.Entry.{Entry}
-use Rattle.cdc_types.specs.declared.events.EventKind.TheVariants.{TwoPhaseExpired}
-use Rattle.cdc_types.specs.declared.transfers.Transfer.{Transfer}
 use Rattle.cdc_types.specs.Shapes.{max_128}
 use Rattle.cdc_ledger.specs.Balances.{balances, resolved}
 use Rattle.cdc_ledger.specs.Filling.{stored, expires_at}
 use Rattle.cdc_ledger.specs.History.{History}
-use Rattle.cdc_ledger.specs.Kinds.{holds, settles, settled_id, stores}
+use Rattle.cdc_ledger.specs.Kinds.{holds, settles, stores}
 use Rattle.cdc_ledger.specs.Sound.{HasAccounts, Settles}
 use Rattle.cdc_ledger.specs.Verdict.{max_timestamp}
 

@@ -14,7 +14,6 @@ pub mod Verdict
 -- what only private contracts and the laws cite
 pub mod Accounts
 pub mod Effects
-pub mod Entries
 pub mod Follows
 pub mod Movements
 pub mod OpenTriples

@@ -1,7 +1,7 @@
 //! The log itself.
 
-ghost use Rattle.std.specs.Prelude.{◌≡◌, ℕ, ◌+◌, ◌-◌, ◌<◌, ◌≤◌, [], ◌∷◌, ◌++◌, length, slice_get, OnOk, OnErr, ◌==◌};
-ghost use Rattle.std.specs.Option.{option_copied};
+ghost use Rattle.std.specs.Prelude.{◌≡◌, ◌≤◌, drop, length};
+ghost use Rattle.cdc_log.specs.Log.{events_after, RiseFrom};
 
 use cdc_types::Event;
 use std::alloc::{AllocError, Global};
@@ -97,12 +97,8 @@ impl EventLog {
     ) -> Result<Vec<Event>, AllocError>
         ensures { IfOk result (λ read. read.items ≡ take limit (events_after timestamp self.now.events)) }
     {
-        self.events
-            .iter()
-            .copied()
-            .filter(|event| timestamp < event.timestamp)
-            .take(limit)
-            .collect(alloc)
+        let later = &self.events[first_after(&self.events, timestamp)..];
+        Vec::from_slice(alloc, &later[..limit.min(later.len())])
     }
 
     /// How many events there are.
@@ -118,4 +114,13 @@ impl EventLog {
     {
         self.events.is_empty()
     }
+}
+
+// The place of the first event that is later than this moment, of events that are in the order of their timestamps.
+fn first_after(events: &[Event], timestamp: u64) -> usize
+    requires { RiseFrom 0 events.now }
+    ensures bound { result ≤ length events.now }
+    ensures parts { drop result events.now ≡ events_after timestamp events.now }
+{
+    events.partition_point(|event| event.timestamp <= timestamp)
 }

@@ -1,5 +1,5 @@
 -- The bits of the flags (TigerBeetle, Account and Transfer, `flags`).
-use Rattle.std.specs.Prelude.{ℕ, ◌-◌, Bool, not, ◌==◌, ◌&&◌, ◌||◌, bit_and}
+use Rattle.std.specs.Prelude.{ℕ, ◌-◌, Bool, not, ◌==◌, ◌||◌, bit_and}
 use Rattle.cdc_types.specs.declared.transfers.NewTransfer.{NewTransfer}
 
 -- some of these bits is set

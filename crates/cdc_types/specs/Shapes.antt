@@ -1,6 +1,6 @@
 -- The refusals that a request's own fields call for, whatever the ledger holds: the first lines of the two tables
 -- of results (TigerBeetle, `create_accounts` and `create_transfers`).
-use Rattle.std.specs.Prelude.{ℕ, ◌-◌, ◌^◌, Bool, not, ◌==◌, ◌&&◌, ◌||◌, Option, List, [], ◌∷◌}
+use Rattle.std.specs.Prelude.{ℕ, Bool, not, ◌==◌, ◌&&◌, ◌||◌, Option, List, [], ◌∷◌}
 use Rattle.cdc_types.specs.declared.accounts.NewAccount.{NewAccount}
 use Rattle.cdc_types.specs.declared.transfers.NewTransfer.{NewTransfer}
 use Rattle.cdc_types.specs.declared.results.AccountResult.{AccountResult}

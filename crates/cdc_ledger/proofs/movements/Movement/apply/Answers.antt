@@ -3,7 +3,7 @@ use Rattle.cdc_types.specs.declared.accounts.Account.{Account}
 use Rattle.cdc_ledger.specs.Accounts.{no_balances}
 use Rattle.cdc_ledger.specs.Effects.{Effect}
 use Rattle.cdc_ledger.specs.Events.{account_with, nobody}
-use Rattle.cdc_ledger.specs.Movements.{debited, credited, effect_of_movement, SideFits}
+use Rattle.cdc_ledger.specs.Movements.{debited, credited, effect_of_movement}
 use Rattle.cdc_ledger.proofs.Places.{place-inside, place-id, credit-unchanged, both-changed}
 use Rattle.cdc_ledger.proofs.movements.Movement.apply.Goals as goal
 

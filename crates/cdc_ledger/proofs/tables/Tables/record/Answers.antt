@@ -1,14 +1,13 @@
-use Rattle.std.proofs.Common.{ℕ, ◌<◌, ◌≡◌, ◌∙◌, ◌++◌, [], ◌∷◌, List, ap, sym, subst, refl, arith}
+use Rattle.std.proofs.Common.{◌<◌, ◌≡◌, ◌∙◌, ◌++◌, [], ◌∷◌, List, ap, sym, subst, refl, arith}
 use Rattle.std.specs.Prelude.{All}
 use Rattle.std.specs.Vec.{with_items}
 use Rattle.cdc_types.specs.declared.accounts.Account.{Account}
-use Rattle.cdc_types.specs.declared.events.Entry.{Entry}
 use Rattle.cdc_types.specs.declared.events.Event.{Event}
 use Rattle.cdc_log.specs.Log.{last_timestamp_of}
 use Rattle.cdc_ledger.specs.declared.tables.Tables.{Tables}
 use Rattle.cdc_ledger.specs.Accounts.{event_from}
 use Rattle.cdc_ledger.specs.Effects.{account_changed}
-use Rattle.cdc_ledger.specs.Movements.{IsPlaced, Takes, account_ids, accounts_changed, effect_of_movement}
+use Rattle.cdc_ledger.specs.Movements.{Takes, account_ids, accounts_changed, effect_of_movement}
 use Rattle.cdc_ledger.specs.Sound.{AreApart}
 use Rattle.cdc_ledger.proofs.Recorded.{All-Takes, AreApart-kept, IsPlaced-changed, history-recorded, last_timestamp_of-kept, items-with_items, IsKept-recorded}
 use Rattle.cdc_ledger.proofs.tables.Tables.record.Goals as goal

@@ -5,7 +5,8 @@ use Rattle.cdc_log.proofs.log.EventLog.push.Goals as goal
 
 pub invariant_of-self : goal.invariant_of-self
 invariant_of-self c =
-    let later = subst (λ (log : Log). last_timestamp_of log.events < c.args.event.timestamp) (sym c.self.view_is) c.requires.later in
+    let IsBefore = λ (log : Log). last_timestamp_of log.events < c.args.event.timestamp in
+    let later = subst IsBefore (sym c.self.view_is) c.requires.later in
     rw c.push_reserved.ensures.items (RiseFrom-push 0 _ _ c.self.invariant later)
 
 pub returns-clause-last : goal.returns-clause-last
