@@ -11,11 +11,13 @@ use Rattle.cdc_types.specs.declared.batches.BatchResults.TheVariants as results
 use Rattle.cdc_types.specs.declared.events.Event.{Event}
 use Rattle.cdc_types.specs.declared.events.EventKind.{EventKind}
 use Rattle.cdc_types.specs.declared.events.EventKind.TheVariants.{SinglePhase, TwoPhasePending, TwoPhasePosted, TwoPhaseVoided, TwoPhaseExpired}
+use Rattle.cdc_types.specs.declared.results.AccountResult.TheVariants as account_result
+use Rattle.cdc_types.specs.declared.results.TransferResult.{TransferResult}
+use Rattle.cdc_types.specs.declared.results.TransferResult.TheVariants as result
 use Rattle.cdc_types.specs.declared.transfers.NewTransfer.{NewTransfer}
 use Rattle.cdc_types.specs.Features.{features}
-use Rattle.cdc_types.specs.Results.{account_number, transfer_number}
 use Rattle.cdc_ledger.specs.declared.errors.BatchError.{BatchError}
-use Rattle.cdc_ledger.specs.BatchErrors.{batch_error_number}
+use Rattle.cdc_ledger.specs.declared.errors.BatchError.TheVariants.{TimestampsExhausted}
 use Rattle.cdc_ledger.specs.History.{History, empty_history}
 use Rattle.cdc_ledger.specs.Balances.{balances}
 use Rattle.cdc_ledger.specs.Submit.{submit_by, history_or, after_batches}
@@ -55,20 +57,36 @@ settling id pending_id amount flags =
 abbrev two_accounts : Batch
 two_accounts = batch.Accounts 1000 (account 1 0 ∷ account 2 0 ∷ [])
 
--- the numbers of a batch's results, a pulse's count, or of its refusal
-abbrev numbers : Result (BatchResults × History) BatchError → List ℕ
-numbers (Err e) = batch_error_number e ∷ []
-numbers (Ok answer) = numbers_of answer.0
-  where
-    numbers_of : BatchResults → List ℕ
-    numbers_of (results.Accounts items) = map account_number items
-    numbers_of (results.Transfers items) = map transfer_number items
-    numbers_of (results.Pulsed count) = count ∷ []
+-- what a batch is answered
+abbrev Answer : Type 0
+Answer = Result BatchResults BatchError
 
--- the numbers of each batch in turn
-abbrev answers : History → List Batch → List (List ℕ)
+-- an answer, without the history after the batch
+abbrev answer_of : Result (BatchResults × History) BatchError → Answer
+answer_of (Ok answer) = Ok answer.0
+answer_of (Err why) = Err why
+
+-- what each batch is answered in turn
+abbrev answers : History → List Batch → List Answer
 answers h [] = []
-answers h (b ∷ bs) = numbers (submit_by features h b) ∷ answers (history_or h (submit_by features h b)) bs
+answers h (b ∷ bs) = answer_of (submit_by features h b) ∷ answers (history_or h (submit_by features h b)) bs
+
+-- the results of requests for transfers, how many came to their end at a pulse, and a refusal of the whole batch
+abbrev given : List TransferResult → Answer
+given items = Ok (results.Transfers items)
+
+abbrev pulsed : ℕ → Answer
+pulsed count = Ok (results.Pulsed count)
+
+abbrev refused : BatchError → Answer
+refused why = Err why
+
+-- one account is opened, or two
+abbrev one_opened : Answer
+one_opened = Ok (results.Accounts (account_result.Accepted ∷ []))
+
+abbrev two_opened : Answer
+two_opened = Ok (results.Accounts (account_result.Accepted ∷ account_result.Accepted ∷ []))
 
 -- the four sums of an account
 abbrev sums : ℕ → ℕ → ℕ → ℕ → Balances
@@ -76,97 +94,148 @@ sums dp d cp c = record { debits_pending = dp; debits_posted = d; credits_pendin
 
 -- what an event says of the movement: when, what, how much, and the sums of both accounts
 abbrev told : Event → ℕ × EventKind × ℕ × Balances × Balances
-told e = (
-  e.timestamp,
-  e.kind,
-  e.transfer.amount,
-  sums e.debit_account.debits_pending e.debit_account.debits_posted e.debit_account.credits_pending
-      e.debit_account.credits_posted,
-  sums e.credit_account.debits_pending e.credit_account.debits_posted e.credit_account.credits_pending
-      e.credit_account.credits_posted,
-)
+told e =
+    let d = e.debit_account in
+    let c = e.credit_account in (
+      e.timestamp,
+      e.kind,
+      e.transfer.amount,
+      sums d.debits_pending d.debits_posted d.credits_pending d.credits_posted,
+      sums c.debits_pending c.debits_posted c.credits_pending c.credits_posted,
+    )
 
 abbrev history : List Batch → History
 history = after_batches features empty_history
 
+-- the greatest amount, which as that of a post stands for the whole
+abbrev whole : ℕ
+whole = 340282366920938463463374607431768211455
+
 -- one transfer of 100: its event shows the balances after it
 abbrev one_transfer : List Batch
-one_transfer = two_accounts ∷ batch.Transfers 2000 (transfer 1 1 2 100 ∷ []) ∷ []
+one_transfer =
+    two_accounts ∷
+    batch.Transfers 2000 (transfer 1 1 2 100 ∷ []) ∷
+    []
 
-one_transfer-answers : answers empty_history one_transfer ≡ (0 ∷ 0 ∷ []) ∷ (0 ∷ []) ∷ []
+one_transfer-answers : answers empty_history one_transfer ≡
+    two_opened ∷
+    given (result.Accepted ∷ []) ∷
+    []
 one_transfer-answers = refl
 
-one_transfer-events : map told (events (history one_transfer))
-    ≡ (2000, SinglePhase, 100, sums 0 100 0 0, sums 0 0 0 100) ∷ []
+one_transfer-events : map told (events (history one_transfer)) ≡
+    (2000, SinglePhase, 100, sums 0 100 0 0, sums 0 0 0 100) ∷
+    []
 one_transfer-events = refl
 
 -- two transfers in one batch: each event shows the balances after itself, not those of the batch's end
 abbrev two_transfers : List Batch
-two_transfers = two_accounts ∷ batch.Transfers 2000 (transfer 1 1 2 5 ∷ transfer 2 1 2 7 ∷ []) ∷ []
+two_transfers =
+    two_accounts ∷
+    batch.Transfers 2000 (transfer 1 1 2 5 ∷ transfer 2 1 2 7 ∷ []) ∷
+    []
 
-two_transfers-events : map told (events (history two_transfers)) ≡ (2000, SinglePhase, 5, sums 0 5 0 0, sums 0 0 0 5) ∷
-    (2001, SinglePhase, 7, sums 0 12 0 0, sums 0 0 0 12) ∷ []
+two_transfers-events : map told (events (history two_transfers)) ≡
+    (2000, SinglePhase, 5, sums 0 5 0 0, sums 0 0 0 5) ∷
+    (2001, SinglePhase, 7, sums 0 12 0 0, sums 0 0 0 12) ∷
+    []
 two_transfers-events = refl
 
 -- a part of a pending transfer is posted, and the rest is released
 abbrev posted_in_part : List Batch
 posted_in_part =
-    two_accounts ∷ batch.Transfers 2000 (pending 10 100 0 ∷ []) ∷ batch.Transfers 3000 (settling 11 10 40 4 ∷ []) ∷ []
+    two_accounts ∷
+    batch.Transfers 2000 (pending 10 100 0 ∷ []) ∷
+    batch.Transfers 3000 (settling 11 10 40 4 ∷ []) ∷
+    []
 
-posted_in_part-events : map told (events (history posted_in_part))
-    ≡ (2000, TwoPhasePending, 100, sums 100 0 0 0, sums 0 0 100 0) ∷
-    (3000, TwoPhasePosted, 40, sums 0 40 0 0, sums 0 0 0 40) ∷ []
+posted_in_part-events : map told (events (history posted_in_part)) ≡
+    (2000, TwoPhasePending, 100, sums 100 0 0 0, sums 0 0 100 0) ∷
+    (3000, TwoPhasePosted, 40, sums 0 40 0 0, sums 0 0 0 40) ∷
+    []
 posted_in_part-events = refl
 
 -- a pending transfer is voided, and then not a second time
 abbrev voided : List Batch
 voided =
-    two_accounts ∷ batch.Transfers 2000 (pending 10 100 0 ∷ []) ∷ batch.Transfers 3000
-    (settling 11 10 0 8 ∷ []) ∷ batch.Transfers 4000 (settling 12 10 0 8 ∷ []) ∷ []
+    two_accounts ∷
+    batch.Transfers 2000 (pending 10 100 0 ∷ []) ∷
+    batch.Transfers 3000 (settling 11 10 0 8 ∷ []) ∷
+    batch.Transfers 4000 (settling 12 10 0 8 ∷ []) ∷
+    []
 
-voided-answers : answers empty_history voided ≡ (0 ∷ 0 ∷ []) ∷ (0 ∷ []) ∷ (0 ∷ []) ∷ (27 ∷ []) ∷ []
+voided-answers : answers empty_history voided ≡
+    two_opened ∷
+    given (result.Accepted ∷ []) ∷
+    given (result.Accepted ∷ []) ∷
+    given (result.PendingTransferAlreadyVoided ∷ []) ∷
+    []
 voided-answers = refl
 
-voided-events : map told (events (history voided)) ≡ (2000, TwoPhasePending, 100, sums 100 0 0 0, sums 0 0 100 0) ∷
-    (3000, TwoPhaseVoided, 100, sums 0 0 0 0, sums 0 0 0 0) ∷ []
+voided-events : map told (events (history voided)) ≡
+    (2000, TwoPhasePending, 100, sums 100 0 0 0, sums 0 0 100 0) ∷
+    (3000, TwoPhaseVoided, 100, sums 0 0 0 0, sums 0 0 0 0) ∷
+    []
 voided-events = refl
 
 -- a transfer that is pending for a second ends at 1000002000: a post a nanosecond before is taken, and one at the end
 -- isn't, though nothing has swept it yet
 abbrev posted_in_time : List Batch
 posted_in_time =
-    two_accounts ∷ batch.Transfers 2000 (pending 10 100 1 ∷ []) ∷ batch.Transfers 1000001999
-    (settling 11 10 340282366920938463463374607431768211455 4 ∷ []) ∷ []
+    two_accounts ∷
+    batch.Transfers 2000 (pending 10 100 1 ∷ []) ∷
+    batch.Transfers 1000001999 (settling 11 10 whole 4 ∷ []) ∷
+    []
 
-posted_in_time-answers : answers empty_history posted_in_time ≡ (0 ∷ 0 ∷ []) ∷ (0 ∷ []) ∷ (0 ∷ []) ∷ []
+posted_in_time-answers : answers empty_history posted_in_time ≡
+    two_opened ∷
+    given (result.Accepted ∷ []) ∷
+    given (result.Accepted ∷ []) ∷
+    []
 posted_in_time-answers = refl
 
 abbrev posted_too_late : List Batch
 posted_too_late =
-    two_accounts ∷ batch.Transfers 2000 (pending 10 100 1 ∷ []) ∷ batch.Transfers 1000002000
-    (settling 11 10 340282366920938463463374607431768211455 4 ∷ []) ∷ batch.Pulse 1000003000 ∷ []
+    two_accounts ∷
+    batch.Transfers 2000 (pending 10 100 1 ∷ []) ∷
+    batch.Transfers 1000002000 (settling 11 10 whole 4 ∷ []) ∷
+    batch.Pulse 1000003000 ∷
+    []
 
-posted_too_late-answers : answers empty_history posted_too_late ≡ (0 ∷ 0 ∷ []) ∷ (0 ∷ []) ∷ (28 ∷ []) ∷ (1 ∷ []) ∷ []
+posted_too_late-answers : answers empty_history posted_too_late ≡
+    two_opened ∷
+    given (result.Accepted ∷ []) ∷
+    given (result.PendingTransferExpired ∷ []) ∷
+    pulsed 1 ∷
+    []
 posted_too_late-answers = refl
 
-posted_too_late-events : map told (events (history posted_too_late))
-    ≡ (2000, TwoPhasePending, 100, sums 100 0 0 0, sums 0 0 100 0) ∷
-    (1000003000, TwoPhaseExpired, 100, sums 0 0 0 0, sums 0 0 0 0) ∷ []
+posted_too_late-events : map told (events (history posted_too_late)) ≡
+    (2000, TwoPhasePending, 100, sums 100 0 0 0, sums 0 0 100 0) ∷
+    (1000003000, TwoPhaseExpired, 100, sums 0 0 0 0, sums 0 0 0 0) ∷
+    []
 posted_too_late-events = refl
 
 -- account 1 may not be debited past its credits; a refused item takes its timestamp, and a batch in the past goes on
 -- from the last one
 abbrev limited : List Batch
 limited =
-    batch.Accounts 1000 (account 1 2 ∷ account 2 0 ∷ []) ∷ batch.Transfers 2000
-    (transfer 1 2 1 100 ∷ transfer 2 1 2 101 ∷ transfer 3 1 2 100 ∷ transfer 4 1 2 1 ∷ []) ∷ batch.Transfers 5
-    (transfer 5 2 1 1 ∷ []) ∷ []
+    batch.Accounts 1000 (account 1 2 ∷ account 2 0 ∷ []) ∷
+    batch.Transfers 2000
+    (transfer 1 2 1 100 ∷ transfer 2 1 2 101 ∷ transfer 3 1 2 100 ∷ transfer 4 1 2 1 ∷ []) ∷
+    batch.Transfers 5 (transfer 5 2 1 1 ∷ []) ∷
+    []
 
-limited-answers : answers empty_history limited ≡ (0 ∷ 0 ∷ []) ∷ (0 ∷ 36 ∷ 0 ∷ 36 ∷ []) ∷ (0 ∷ []) ∷ []
+limited-answers : answers empty_history limited ≡
+    two_opened ∷
+    given (result.Accepted ∷ result.ExceedsCredits ∷ result.Accepted ∷ result.ExceedsCredits ∷ []) ∷
+    given (result.Accepted ∷ []) ∷
+    []
 limited-answers = refl
 
-limited-balances : (balances (history limited) 1 2004 ≡ sums 0 100 0 101) ×
-    (balances (history limited) 2 2004 ≡ sums 0 101 0 100)
+limited-balances : (balances (history limited) 1 2004 ≡ sums 0 100 0 101)
+    × (balances (history limited) 2 2004 ≡ sums 0 101 0 100)
 limited-balances = (refl, refl)
 
 limited-last : (history limited).last ≡ 2004
@@ -175,72 +244,122 @@ limited-last = refl
 -- of two pending transfers the one that ends first expires first, whatever their ids
 abbrev swept : List Batch
 swept =
-    two_accounts ∷ batch.Transfers 2000 (pending 10 1 2 ∷ pending 11 2 1 ∷ []) ∷ batch.Pulse 3000000000 ∷ []
+    two_accounts ∷
+    batch.Transfers 2000 (pending 10 1 2 ∷ pending 11 2 1 ∷ []) ∷
+    batch.Pulse 3000000000 ∷
+    []
 
-swept-events : map told (events (history swept)) ≡ (2000, TwoPhasePending, 1, sums 1 0 0 0, sums 0 0 1 0) ∷
+swept-events : map told (events (history swept)) ≡
+    (2000, TwoPhasePending, 1, sums 1 0 0 0, sums 0 0 1 0) ∷
     (2001, TwoPhasePending, 2, sums 3 0 0 0, sums 0 0 3 0) ∷
     (3000000000, TwoPhaseExpired, 2, sums 1 0 0 0, sums 0 0 1 0) ∷
-    (3000000001, TwoPhaseExpired, 1, sums 0 0 0 0, sums 0 0 0 0) ∷ []
+    (3000000001, TwoPhaseExpired, 1, sums 0 0 0 0, sums 0 0 0 0) ∷
+    []
 swept-events = refl
 
 -- a transfer that comes again is told so, and is told so otherwise where it differs; a post is compared as it was
 -- filled in
 abbrev repeated : List Batch
 repeated =
-    two_accounts ∷ batch.Transfers 2000
-    (transfer 1 1 2 100 ∷ transfer 1 1 2 100 ∷ transfer 1 1 2 101 ∷ []) ∷ batch.Transfers 3000
-    (pending 10 100 0 ∷ settling 11 10 340282366920938463463374607431768211455 4 ∷ settling 11 10
-    340282366920938463463374607431768211455 4 ∷ settling 11 10 100 4 ∷ settling 11 10 99 4 ∷ []) ∷ []
+    two_accounts ∷
+    batch.Transfers 2000 (transfer 1 1 2 100 ∷ transfer 1 1 2 100 ∷ transfer 1 1 2 101 ∷ []) ∷
+    batch.Transfers 3000
+    (pending 10 100 0 ∷ settling 11 10 whole 4 ∷ settling 11 10 whole 4 ∷ settling 11 10 100 4
+    ∷ settling 11 10 99 4 ∷ []) ∷
+    []
 
-repeated-answers : answers empty_history repeated ≡ (0 ∷ 0 ∷ []) ∷ (0 ∷ 13 ∷ 12 ∷ []) ∷ (0 ∷ 0 ∷ 13 ∷ 13 ∷ 12 ∷ []) ∷ []
+repeated-answers : answers empty_history repeated ≡
+    two_opened ∷
+    given (result.Accepted ∷ result.Exists ∷ result.ExistsWithDifferentFields ∷ []) ∷
+    given
+    (result.Accepted ∷ result.Accepted ∷ result.Exists ∷ result.Exists
+    ∷ result.ExistsWithDifferentFields ∷ []) ∷
+    []
 repeated-answers = refl
 
 -- no sum passes 128 bits: neither the posted one, nor pending and posted together; and no end passes 63 bits
-overflow-posted : answers empty_history
-    (two_accounts ∷ batch.Transfers 2000
-    (transfer 1 1 2 340282366920938463463374607431768211455 ∷ transfer 2 1 2 1 ∷ []) ∷ [])
-    ≡ (0 ∷ 0 ∷ []) ∷ (0 ∷ 31 ∷ []) ∷ []
-overflow-posted = refl
-
-overflow-both : answers empty_history
-    (two_accounts ∷ batch.Transfers 2000
-    (pending 1 340282366920938463463374607431768211455 0 ∷ transfer 2 1 2 1 ∷ []) ∷ [])
-    ≡ (0 ∷ 0 ∷ []) ∷ (0 ∷ 33 ∷ []) ∷ []
-overflow-both = refl
-
-overflow-timeout : answers empty_history
-    (two_accounts ∷ batch.Transfers 9000000000000000000 (pending 1 1 4294967295 ∷ []) ∷ [])
-    ≡ (0 ∷ 0 ∷ []) ∷ (35 ∷ []) ∷ []
-overflow-timeout = refl
-
--- the greatest timestamp is the last one that is given out; a pulse with nothing due takes none
-at_the_end : answers empty_history
-    (batch.Accounts 9223372036854775807 (account 1 0 ∷ account 2 0 ∷ []) ∷ batch.Accounts 9223372036854775807
-    (account 1 0 ∷ []) ∷ batch.Pulse 5 ∷ batch.Accounts 5 (account 2 0 ∷ []) ∷ []) ≡ (3 ∷ []) ∷ (0 ∷ []) ∷ (0 ∷ []) ∷
-    (3 ∷ []) ∷ []
-at_the_end = refl
-
--- the requests' own faults in one batch, the first line of the table that applies to each
-abbrev faulty : List NewTransfer
-faulty =
-    let plain = transfer 1 1 2 1 in
-    record plain { id = 0 } ∷
-    record plain { id = 340282366920938463463374607431768211455 } ∷
-    record plain { flags = 6 } ∷
-    record plain { pending_id = 9 } ∷
-    record plain { flags = 4 } ∷
-    record plain { flags = 4; pending_id = 1 } ∷
-    record plain { timeout = 1 } ∷
-    record plain { ledger = 0 } ∷
-    record plain { code = 0 } ∷
-    record plain { credit_account_id = 1 } ∷
-    record plain { debit_account_id = 3 } ∷
-    record plain { credit_account_id = 3 } ∷
-    record plain { ledger = 701 } ∷
-    record plain { flags = 16 } ∷
-    record plain { flags = 4; pending_id = 9 } ∷
+abbrev too_much : List Batch
+too_much =
+    two_accounts ∷
+    batch.Transfers 2000 (transfer 1 1 2 whole ∷ transfer 2 1 2 1 ∷ []) ∷
     []
 
-faulty-answers : answers empty_history (two_accounts ∷ batch.Transfers 2000 faulty ∷ [])
-    ≡ (0 ∷ 0 ∷ []) ∷ (2 ∷ 3 ∷ 4 ∷ 5 ∷ 6 ∷ 7 ∷ 8 ∷ 9 ∷ 10 ∷ 11 ∷ 14 ∷ 15 ∷ 17 ∷ 1 ∷ 18 ∷ []) ∷ []
+too_much-answers : answers empty_history too_much ≡
+    two_opened ∷
+    given (result.Accepted ∷ result.OverflowsDebitsPosted ∷ []) ∷
+    []
+too_much-answers = refl
+
+abbrev too_much_together : List Batch
+too_much_together =
+    two_accounts ∷
+    batch.Transfers 2000 (pending 1 whole 0 ∷ transfer 2 1 2 1 ∷ []) ∷
+    []
+
+too_much_together-answers : answers empty_history too_much_together ≡
+    two_opened ∷
+    given (result.Accepted ∷ result.OverflowsDebits ∷ []) ∷
+    []
+too_much_together-answers = refl
+
+abbrev too_long : List Batch
+too_long =
+    two_accounts ∷
+    batch.Transfers 9000000000000000000 (pending 1 1 4294967295 ∷ []) ∷
+    []
+
+too_long-answers : answers empty_history too_long ≡
+    two_opened ∷
+    given (result.OverflowsTimeout ∷ []) ∷
+    []
+too_long-answers = refl
+
+-- the greatest timestamp is the last one that is given out; a pulse with nothing due takes none
+abbrev at_the_end : List Batch
+at_the_end =
+    batch.Accounts 9223372036854775807 (account 1 0 ∷ account 2 0 ∷ []) ∷
+    batch.Accounts 9223372036854775807 (account 1 0 ∷ []) ∷
+    batch.Pulse 5 ∷
+    batch.Accounts 5 (account 2 0 ∷ []) ∷
+    []
+
+at_the_end-answers : answers empty_history at_the_end ≡
+    refused TimestampsExhausted ∷
+    one_opened ∷
+    pulsed 0 ∷
+    refused TimestampsExhausted ∷
+    []
+at_the_end-answers = refl
+
+-- requests at fault, each with the first line of the table that applies to it
+abbrev faulty : List (NewTransfer × TransferResult)
+faulty =
+    let plain = transfer 1 1 2 1 in
+    (record plain { id = 0 }, result.IdMustNotBeZero) ∷
+    (record plain { id = whole }, result.IdMustNotBeIntMax) ∷
+    (record plain { flags = 6 }, result.FlagsAreMutuallyExclusive) ∷
+    (record plain { pending_id = 9 }, result.PendingIdMustBeZero) ∷
+    (record plain { flags = 4 }, result.PendingIdMustNotBeZero) ∷
+    (record plain { flags = 4; pending_id = 1 }, result.PendingIdMustBeDifferent) ∷
+    (record plain { timeout = 1 }, result.TimeoutReservedForPendingTransfer) ∷
+    (record plain { ledger = 0 }, result.LedgerMustNotBeZero) ∷
+    (record plain { code = 0 }, result.CodeMustNotBeZero) ∷
+    (record plain { credit_account_id = 1 }, result.AccountsMustBeDifferent) ∷
+    (record plain { debit_account_id = 3 }, result.DebitAccountNotFound) ∷
+    (record plain { credit_account_id = 3 }, result.CreditAccountNotFound) ∷
+    (record plain { ledger = 701 }, result.TransferMustHaveTheSameLedgerAsAccounts) ∷
+    (record plain { flags = 16 }, result.ReservedFlag) ∷
+    (record plain { flags = 4; pending_id = 9 }, result.PendingTransferNotFound) ∷
+    []
+
+abbrev all_faulty : List Batch
+all_faulty =
+    two_accounts ∷
+    batch.Transfers 2000 (map (λ row. row.0) faulty) ∷
+    []
+
+faulty-answers : answers empty_history all_faulty ≡
+    two_opened ∷
+    given (map (λ row. row.1) faulty) ∷
+    []
 faulty-answers = refl

@@ -1,6 +1,9 @@
 //! What no clause says: that copies find memory, and that the tables are the manual's.
 
-use crate::{AccountResult, Batch, BatchResults, Items, NewAccount, NewTransfer, TransferResult};
+use crate::{
+    AccountFlags, AccountResult, Batch, BatchResults, Items, Limits, NewAccount, NewTransfer,
+    TransferFlags, TransferResult,
+};
 use std::test::Fail;
 
 // An account that is taken, to be spoilt one field at a time.
@@ -246,4 +249,61 @@ fn batches_and_results_are_copied(rt: HostRuntime) -> Result<(), Fail> {
     };
     assert_eq!(rt; items.as_slice(), [TransferResult::Exists].as_slice());
     Ok(())
+}
+
+// The numbers that clauses don't name: a wrong one would go unnoticed where nothing reads it yet.
+#[test]
+fn flags_and_limits_have_their_numbers(rt: HostRuntime) {
+    let numbers = [
+        ("account linked", u64::from(AccountFlags::LINKED), 1),
+        (
+            "account debits_must_not_exceed_credits",
+            u64::from(AccountFlags::DEBITS_MUST_NOT_EXCEED_CREDITS),
+            2,
+        ),
+        (
+            "account credits_must_not_exceed_debits",
+            u64::from(AccountFlags::CREDITS_MUST_NOT_EXCEED_DEBITS),
+            4,
+        ),
+        ("account history", u64::from(AccountFlags::HISTORY), 8),
+        (
+            "accepted of accounts",
+            u64::from(AccountFlags::ACCEPTED),
+            14,
+        ),
+        ("transfer linked", u64::from(TransferFlags::LINKED), 1),
+        ("transfer pending", u64::from(TransferFlags::PENDING), 2),
+        (
+            "transfer post_pending_transfer",
+            u64::from(TransferFlags::POST_PENDING_TRANSFER),
+            4,
+        ),
+        (
+            "transfer void_pending_transfer",
+            u64::from(TransferFlags::VOID_PENDING_TRANSFER),
+            8,
+        ),
+        (
+            "accepted of transfers",
+            u64::from(TransferFlags::ACCEPTED),
+            14,
+        ),
+        ("items of a batch", Limits::BATCH_ITEMS as u64, 1_000),
+        ("pairs of a binding", Limits::BINDING_PAIRS as u64, 10),
+        ("window", Limits::WINDOW, 64),
+        ("prefetch", Limits::PREFETCH, 64),
+        ("subscribers", Limits::SUBSCRIBERS as u64, 8),
+        ("clients", Limits::CLIENTS, 2),
+        ("bytes of a script", Limits::SCRIPT_BYTES as u64, 1_048_576),
+        (
+            "bytes of a progress file",
+            Limits::PROGRESS_BYTES as u64,
+            128,
+        ),
+        ("timestamp", Limits::TIMESTAMP, 9_223_372_036_854_775_807),
+    ];
+    for (name, number, wanted) in numbers {
+        assert_eq!(rt; number, wanted, "{name}");
+    }
 }
