@@ -26,9 +26,11 @@ A script is a text of lines:
   account id=2 ledger=700 code=10
   transfers 2000
   transfer id=1 debit_account_id=1 credit_account_id=2 amount=100 ledger=700 code=1
+A subscriber's binding is all or any, and up to ten pairs of a header and its value, as in
+  subscriber any event_type=two_phase_posted ledger=700
 
 Examples:
-  relayplum books examples/first-transfer.script
+  relayplum books examples/two-phase.script
   relayplum messages examples/first-transfer.script
 
 Exit status:
@@ -54,7 +56,7 @@ pub fn options<'a>(alloc: Global, words: &'a [&'a str]) -> Result<Options<'a>, O
 /// What clap makes of the words.
 fn read_words<'a>(alloc: Global, words: &'a [&'a str]) -> Result<ArgMatches<'a>, Error> {
     let books = Command::new(alloc, "books")
-        .about("Print the results of a script's batches and the book of a subscriber of all events")
+        .about("Print the results of a script's batches and the books of its subscribers")
         .after_help(MORE)
         .arg(script_argument(alloc))?;
     let messages = Command::new(alloc, "messages")
