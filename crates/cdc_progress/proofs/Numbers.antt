@@ -1,5 +1,5 @@
 -- Decimal numbers with a space between them: their text gives both back.
-use Rattle.std.proofs.Common.{◌≡◌, ℕ, suc, ◌+◌, ◌%◌, ◌<◌, ◌^◌, ◌==◌, ◌≢◌, false, List, [], ◌∷◌, ◌++◌, All, IsUtf8, decimal, refl, sym, ap, ◌∙◌, arith, length-append}
+use Rattle.std.proofs.Common.{◌≡◌, ℕ, ◌+◌, ◌%◌, ◌<◌, ◌^◌, ◌==◌, ◌≢◌, false, List, [], ◌∷◌, ◌++◌, All, IsUtf8, decimal, refl, sym, ap, ◌∙◌, arith, length-append}
 use denote.Ref.{Bor}
 use Rattle.std.specs.Prelude.{Option, Some, None, MatchOption, codes, length}
 use Rattle.std.proofs.lemmas.Fmt.{IsAscii-decimal, decimal_by_steps, decimal_is_IsNumeral}
@@ -34,10 +34,12 @@ one_is_no_space b other = λ k d below. let first : k ≡ 0 = omega (arith, belo
 pub decimal_has_no_space : (n : ℕ) → n < 2 ^ 64 → HasNoSpace (decimal n)
 decimal_has_no_space n fits =
     decimal_by_steps (λ _ digits. HasNoSpace digits) (λ digit _. one_is_no_space _ (digit_is_no_space digit))
-    (λ n digits _ before. All-append (λ b. (b == 32) ≡ false) digits _ before (one_is_no_space _ (digit_is_no_space (n % 10)))) n fits
+    (λ n digits _ before.
+    All-append (λ b. (b == 32) ≡ false) digits _ before (one_is_no_space _ (digit_is_no_space (n % 10)))) n fits
 
 -- what stands before the first space, and what stands after it
-split_at : (xs ys : List ℕ) → HasNoSpace xs → slice_split (λ b. b == 32) (xs ++ 32 ∷ ys) ≡ xs ∷ slice_split (λ b. b == 32) ys
+split_at : (xs ys : List ℕ) → HasNoSpace xs
+    → slice_split (λ b. b == 32) (xs ++ 32 ∷ ys) ≡ xs ∷ slice_split (λ b. b == 32) ys
 split_at xs ys free = slice_split_at (λ b. b == 32) xs 32 ys free refl
 
 first_same : {A : Type 0} {x y : A} {xs ys : List A} → x ∷ xs ≡ y ∷ ys → x ≡ y

@@ -1,5 +1,5 @@
 -- A store in memory that fails at one call.
-use Rattle.std.specs.Prelude.{ℕ, ◌+◌, ◌-◌, ◌^◌, ◌<◌, min, Bool, not, ◌&&◌, ◌||◌, ◌==◌, nat_le, Option, Some, Result, Ok, Err, if◌then◌else◌}
+use Rattle.std.specs.Prelude.{ℕ, ◌+◌, ◌-◌, ◌^◌, ◌<◌, min, Bool, not, ◌&&◌, ◌||◌, ◌==◌, nat_le, Option, Some, if◌then◌else◌}
 use Rattle.cdc_progress.specs.Records.{Saved}
 
 -- what is held; how many calls of load and save there were; which of them fails, from 1, or 0 for none; and whether a

@@ -12,11 +12,11 @@ use std::fs::{File, Files, OpenFile};
 use std::io::{ErrorKind, Read, Write};
 use std::{fs, io};
 
-/// A store in a file. A save writes `PATH.new` whole, brings it to the disk and renames it to PATH, so that a save that
-/// is broken off leaves the old record.
+/// A store in a file. A save writes `PATH.new` whole, brings it to the disk and renames it to PATH, so that a save
+/// that is broken off leaves the old record.
 ///
-/// No clause can say what a file holds: `held` is what this store saved last, or loaded last, and that the file gives it
-/// back is a premise of whoever uses the store, which nothing here proves.
+/// No clause can say what a file holds: `held` is what this store saved last, or loaded last, and that the file gives
+/// it back is a premise of whoever uses the store, which nothing here proves.
 #[derive(Drop)]
 pub struct FileStore<'a, R> {
     rt: &'a R,
@@ -114,6 +114,7 @@ impl<'a, R: Files + AllocGlobal> ProgressStore for FileStore<'a, R> {
 
     ghost failed = { λ store. store.failures };
 
+    // What a read gives is the system's, so nothing that is known before it can promise it.
     ghost is_honest = { λ _. false };
 
     fn load(&mut self) -> Result<Option<Progress>, StoreError> {

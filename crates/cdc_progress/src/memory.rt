@@ -21,7 +21,12 @@ pub struct MemoryStore {
 impl Model for MemoryStore {
     ghost Value = { Memory };
 
-    ghost view = { λ store. record { held = store.held; calls = store.calls; fails_at = store.fails_at; keeps_new = store.keeps_new } };
+    ghost view = { λ store. record {
+      held = store.held;
+      calls = store.calls;
+      fails_at = store.fails_at;
+      keeps_new = store.keeps_new;
+    } };
 
     ghost invariant = { λ store. store.fails_at < 2 ^ 64 - 1 };
 }
@@ -34,8 +39,8 @@ impl MemoryStore {
         MemoryStore::with_faults(None, 0, false)
     }
 
-    /// A store that holds `start`. The call numbered `fails_at` fails, where loads and saves are counted together from 1;
-    /// 0 is none. A save that fails holds the new record where `keeps_new`, and the old one else.
+    /// A store that holds `start`. The call numbered `fails_at` fails, where loads and saves are counted together from
+    /// 1; 0 is none. A save that fails holds the new record where `keeps_new`, and the old one else.
     pub fn with_faults(start: Option<Progress>, fails_at: u64, keeps_new: bool) -> MemoryStore
         requires { fails_at < 2 ^ 64 - 1 }
         ensures { result ≡ record { held = start; calls = 0; fails_at = fails_at; keeps_new = keeps_new } }

@@ -9,10 +9,13 @@ use crate::progress::Progress;
 
 /// A place that holds how far a publisher has come, across the publisher's restarts.
 pub trait ProgressStore {
+    // What is held: a record, or nothing.
     ghost held: { Self → Option Saved };
 
+    // How often a read or a write has failed.
     ghost failed: { Self → ℕ };
 
+    // A load gives what is held. No call changes it.
     ghost is_honest: { Self → Bool };
 
     /// What is held, or none where nothing was saved yet.

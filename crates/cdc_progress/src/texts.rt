@@ -59,7 +59,8 @@ fn split_at_space(bytes: &[u8]) -> Option<(&[u8], &[u8])>
 // The two numbers of a record.
 fn numbers_in(bytes: &[u8]) -> Option<(u64, u64)>
     ensures { MatchOption result
-        ((session timestamp : ℕ) → session < 2 ^ 64 → timestamp < 2 ^ 64 → ¬ (bytes.now ≡ numbers_text session timestamp))
+        ((session timestamp : ℕ) → session < 2 ^ 64 → timestamp < 2 ^ 64
+        → ¬ (bytes.now ≡ numbers_text session timestamp))
         (λ found. (found.0 < 2 ^ 64) × (found.1 < 2 ^ 64) × (bytes.now ≡ numbers_text found.0 found.1)) }
 {
     let (session, timestamp) = split_at_space(bytes)?;

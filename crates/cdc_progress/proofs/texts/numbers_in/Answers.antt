@@ -4,7 +4,8 @@ use Rattle.cdc_progress.proofs.texts.numbers_in.Goals as goal
 
 pub returns-in_err-session : goal.returns-in_err-session
 returns-in_err-session c = rw c.from_residual.ensures (λ session timestamp fits _ is.
-    has_space (decimal session) (decimal timestamp) (decimal_has_no_space session fits) (rw (← is) c.in_err-session.ensures))
+    has_space (decimal session) (decimal timestamp) (decimal_has_no_space session fits)
+    (rw (← is) c.in_err-session.ensures))
 
 pub returns-in_err-number_in : goal.returns-in_err-number_in
 returns-in_err-number_in c = rw c.from_residual-in_err-number_in.ensures (λ session timestamp fits _ is.
