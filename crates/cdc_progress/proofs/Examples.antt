@@ -1,0 +1,32 @@
+-- Worked examples: the text of a record, and a store in memory that fails at its second call.
+use Rattle.std.proofs.Common.{◌≡◌, true, false, refl}
+use Rattle.std.specs.Prelude.{Some, None, codes}
+use Rattle.std.specs.Fmt.{digits}
+use Rattle.cdc_progress.specs.Memory.{Memory, fails_next, failures_of, called, after_save}
+use Rattle.cdc_progress.specs.Records.{text_of}
+
+-- the text of session 3 at timestamp 2000
+third_as_text : text_of (record { session = 3; timestamp = 2000 }) ≡ codes "tb-cdc 1 3 2000\n"
+unfolding digits
+third_as_text = refl
+
+-- a store that holds nothing, and fails at its second call but keeps the new record then
+abbrev planned : Memory
+planned = record { held = None; calls = 0; fails_at = 2; keeps_new = true }
+
+first_call_is_done : fails_next planned ≡ false
+first_call_is_done = refl
+
+second_call_fails : fails_next (called planned) ≡ true
+second_call_fails = refl
+
+failing_save_keeps_the_new_record :
+    (after_save (called planned) (record { session = 1; timestamp = 0 })).held
+    ≡ Some (record { session = 1; timestamp = 0 })
+failing_save_keeps_the_new_record = refl
+
+it_has_failed_once : failures_of (called (called planned)) ≡ 1
+it_has_failed_once = refl
+
+later_calls_are_done : fails_next (called (called planned)) ≡ false
+later_calls_are_done = refl

@@ -1,0 +1,4 @@
+pub mod Errors
+pub mod Memory
+pub mod Records
+pub mod Stores

@@ -1,0 +1,18 @@
+//! How far a publisher has come: the record of it, its text, and the stores that hold it across restarts.
+#![tactic(auto)]
+
+pub mod errors;
+mod files;
+mod memory;
+mod progress;
+mod stores;
+#[cfg(test)]
+mod tests;
+mod texts;
+
+pub use errors::StoreError;
+pub use files::FileStore;
+pub use memory::MemoryStore;
+pub use progress::Progress;
+pub use stores::ProgressStore;
+pub use texts::{parse, print};

@@ -1,0 +1,89 @@
+//! The text of a record of progress.
+
+ghost use Rattle.std.specs.Prelude.{◌≡◌, ◌==◌, ◌<◌, ◌^◌, ◌++◌, ◌∷◌, ℕ, List, All, IfOk, IfSome, MatchOption, codes, decimal, false, string_bytes};
+ghost use Rattle.cdc_progress.specs.Records.{Saved, Fits, numbers_text, text_of};
+
+use crate::progress::Progress;
+use itoa::Buffer;
+use std::alloc::{AllocError, Global};
+
+// What stands before the numbers: the name of the format and its version.
+const HEAD: &[u8] = b"tb-cdc 1 ";
+
+fn push_number(text: &mut String, number: u64) -> Result<(), AllocError>
+    ensures { IfOk result (λ _. string_bytes text.new ≡ string_bytes text.old ++ decimal number) }
+{
+    text.push_str(Buffer::new().format(number))
+}
+
+/// The text of a record: `tb-cdc 1 SESSION TIMESTAMP` and a line feed, in decimal digits without leading zeros.
+pub fn print(alloc: Global, progress: Progress) -> Result<String, AllocError>
+    ensures { IfOk result (λ text. string_bytes text ≡ text_of progress) }
+{
+    let mut text = String::new(alloc);
+    text.push_str("tb-cdc 1 ")?;
+    push_number(&mut text, progress.session())?;
+    text.push_str(" ")?;
+    push_number(&mut text, progress.timestamp())?;
+    text.push_str("\n")?;
+    Ok(text)
+}
+
+// The number that these digits are the text of.
+fn number_in(digits: &[u8]) -> Option<u64>
+    ensures { MatchOption result ((n : ℕ) → n < 2 ^ 64 → ¬ (digits.now ≡ decimal n))
+        (λ n. (n < 2 ^ 64) × (digits.now ≡ decimal n)) }
+{
+    let Ok(text) = str::from_utf8(digits) else {
+        return None;
+    };
+    let Ok(number) = text.parse::<u64>() else {
+        return None;
+    };
+    if Buffer::new().format(number).as_bytes() == digits {
+        Some(number)
+    } else {
+        None
+    }
+}
+
+// What stands before the first space and after it.
+fn split_at_space(bytes: &[u8]) -> Option<(&[u8], &[u8])>
+    ensures { MatchOption result (All (λ b. (b == 32) ≡ false) bytes.now)
+        (λ parts. (bytes.now ≡ parts.0.now ++ 32 ∷ parts.1.now) × All (λ b. (b == 32) ≡ false) parts.0.now) }
+{
+    let space = bytes.iter().position(|byte| *byte == b' ')?;
+    Some((&bytes[..space], &bytes[space + 1..]))
+}
+
+// The two numbers of a record.
+fn numbers_in(bytes: &[u8]) -> Option<(u64, u64)>
+    ensures { MatchOption result
+        ((session timestamp : ℕ) → session < 2 ^ 64 → timestamp < 2 ^ 64
+        → ¬ (bytes.now ≡ numbers_text session timestamp))
+        (λ found. (found.0 < 2 ^ 64) × (found.1 < 2 ^ 64) × (bytes.now ≡ numbers_text found.0 found.1)) }
+{
+    let (session, timestamp) = split_at_space(bytes)?;
+    Some((number_in(session)?, number_in(timestamp)?))
+}
+
+// What stands between the head of a record and its line feed.
+fn inner(bytes: &[u8]) -> Option<&[u8]>
+    ensures { MatchOption result ((middle : List ℕ) → ¬ (bytes.now ≡ codes "tb-cdc 1 " ++ (middle ++ codes "\n")))
+        (λ middle. bytes.now ≡ codes "tb-cdc 1 " ++ (middle.now ++ codes "\n")) }
+{
+    bytes.strip_prefix(HEAD)?.strip_suffix(b"\n")
+}
+
+/// The record that these bytes are the text of, to the last byte; any other bytes are none.
+pub fn parse(bytes: &[u8]) -> Option<Progress>
+    ensures record { MatchOption result ((saved : Saved) → Fits saved → ¬ (bytes.now ≡ text_of saved))
+        (λ saved. bytes.now ≡ text_of saved) }
+    ensures fits { IfSome result Fits }
+{
+    let (session, timestamp) = numbers_in(inner(bytes)?)?;
+    if timestamp > Progress::MAX_TIMESTAMP {
+        return None;
+    }
+    Some(Progress::new(session, timestamp))
+}
