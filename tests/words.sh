@@ -213,10 +213,30 @@ for ((length = 1; length <= 200; length++)); do
 ' "$out"
 done
 
+# The example of two phases: an event of each kind that its ledger makes, and the book that the README shows.
+its_kinds='two_phase_pending ledger=700 0
+two_phase_pending ledger=700 0
+two_phase_pending ledger=700 0
+two_phase_posted ledger=700 0
+two_phase_voided ledger=700 0
+single_phase ledger=800 0
+two_phase_expired ledger=700 2'
+run messages "$top/examples/two-phase.script"
+found=$(sed -n 's/^event_type=\([a-z_]*\) \(ledger=[0-9]*\) transfer_code=1 .* timestamp=\([0-9]*\)$/\1 \2 \3/p' output)
+same 'the example of two phases: its messages' "$its_kinds" "$found"
+ends_well 'the example of two phases: its messages'
+run books "$top/examples/two-phase.script"
+shown=$(sed -n '/^batch 1: 0 0 0 0$/,/^```$/p' "$top/README.md")
+same 'the example of two phases: its books' "$out" "${shown%\`\`\`}"
+ends_well 'the example of two phases: its books'
+
 # Bodies are JSON texts to an outside reader too.
 if command -v python3 >/dev/null; then
-    "$program" messages one.script | python3 "$top/tests/json_lines.py" 1 || wrong 'bodies as JSON' 'one event' 'see above'
-    checks=$((checks + 1))
+    for events in "one.script 1" "$top/examples/two-phase.script 7"; do
+        "$program" messages "${events% *}" | python3 "$top/tests/json_lines.py" "${events##* }" ||
+            wrong 'bodies as JSON' "$events events" 'see above'
+        checks=$((checks + 1))
+    done
 fi
 
 echo "words: $checks checks, $failed failed"
