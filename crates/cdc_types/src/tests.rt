@@ -234,20 +234,26 @@ fn the_kinds_of_a_transfer_are_read_off_its_flags(rt: HostRuntime) {
 
 #[test]
 fn batches_and_results_are_copied(rt: HostRuntime) -> Result<(), Fail> {
-    let items = Items::from_vec(vec![in rt.alloc(); account()]?);
-    let batch = Batch::Accounts { now: 7, items };
+    let items = vec![in rt.alloc(); account(); Limits::BATCH_ITEMS]?;
+    let batch = Batch::Accounts {
+        now: 7,
+        items: Items::from_vec(items),
+    };
     let Batch::Accounts { now, items } = batch.try_copy(rt.alloc())? else {
         return Err(Fail::from("another kind of batch"));
     };
     assert_eq!(rt; now, 7);
-    assert_eq!(rt; items.into_vec().as_slice(), [account()].as_slice());
-    let results = BatchResults::Transfers(Items::from_vec(vec![in rt.alloc();
-        TransferResult::Exists,
-    ]?));
+    let items = items.into_vec();
+    assert_eq!(rt; items.len(), 1_000);
+    assert!(rt; items.iter().all(|item| *item == account()));
+    let results = vec![in rt.alloc(); TransferResult::Exists; Limits::BATCH_ITEMS]?;
+    let results = BatchResults::Transfers(Items::from_vec(results));
     let BatchResults::Transfers(items) = results.try_copy(rt.alloc())? else {
         return Err(Fail::from("another kind of results"));
     };
-    assert_eq!(rt; items.as_slice(), [TransferResult::Exists].as_slice());
+    let items = items.as_slice();
+    assert_eq!(rt; items.len(), 1_000);
+    assert!(rt; items.iter().all(|answer| *answer == TransferResult::Exists));
     Ok(())
 }
 
