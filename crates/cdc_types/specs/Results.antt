@@ -92,8 +92,10 @@ transfer_name transfer.AccountsMustHaveTheSameLedger = codes "accounts_must_have
 transfer_name transfer.TransferMustHaveTheSameLedgerAsAccounts = codes "transfer_must_have_the_same_ledger_as_accounts"
 transfer_name transfer.PendingTransferNotFound = codes "pending_transfer_not_found"
 transfer_name transfer.PendingTransferNotPending = codes "pending_transfer_not_pending"
-transfer_name transfer.PendingTransferHasDifferentDebitAccountId = codes "pending_transfer_has_different_debit_account_id"
-transfer_name transfer.PendingTransferHasDifferentCreditAccountId = codes "pending_transfer_has_different_credit_account_id"
+transfer_name transfer.PendingTransferHasDifferentDebitAccountId =
+    codes "pending_transfer_has_different_debit_account_id"
+transfer_name transfer.PendingTransferHasDifferentCreditAccountId =
+    codes "pending_transfer_has_different_credit_account_id"
 transfer_name transfer.PendingTransferHasDifferentLedger = codes "pending_transfer_has_different_ledger"
 transfer_name transfer.PendingTransferHasDifferentCode = codes "pending_transfer_has_different_code"
 transfer_name transfer.ExceedsPendingTransferAmount = codes "exceeds_pending_transfer_amount"
