@@ -37,19 +37,24 @@ whole_number-wide n h = rw (is_decimal-decimal n h, (decimal_is_IsNumeral_wide n
 up_to_width : (bits : ℕ) (at : Field) (n : ℕ) → n < 2 ^ bits → up_to (2 ^ bits - 1) at n ≡ Ok n
 up_to_width bits at n h = let le : n ≤ 2 ^ bits - 1 = omega arith in rw (le-leb n (2 ^ bits - 1) le)
 
-number_at-wide : (bits : ℕ) (at : Field) (value : Data) (n : ℕ) → get (key_of at.name) value ≡ Some (wide n) → n < 2 ^ bits → n < 10 ^ 64 → number_at bits at value ≡ Ok n
+number_at-wide : (bits : ℕ) (at : Field) (value : Data) (n : ℕ) → get (key_of at.name) value ≡ Some (wide n)
+    → n < 2 ^ bits → n < 10 ^ 64 → number_at bits at value ≡ Ok n
 number_at-wide bits at value n found fits short = rw (found, whole_number-wide n short) (up_to_width bits at n fits)
 
-number_at-narrow : (bits : ℕ) (at : Field) (value : Data) (n : ℕ) → get (key_of at.name) value ≡ Some (narrow n) → n < 2 ^ bits → number_at bits at value ≡ Ok n
+number_at-narrow : (bits : ℕ) (at : Field) (value : Data) (n : ℕ) → get (key_of at.name) value ≡ Some (narrow n)
+    → n < 2 ^ bits → number_at bits at value ≡ Ok n
 number_at-narrow bits at value n found fits = rw found (up_to_width bits at n fits)
 
-at_128 : (at : Field) (value : Data) (n : ℕ) → get (key_of at.name) value ≡ Some (wide n) → n < 2 ^ 128 → number_at 128 at value ≡ Ok n
+at_128 : (at : Field) (value : Data) (n : ℕ) → get (key_of at.name) value ≡ Some (wide n) → n < 2 ^ 128
+    → number_at 128 at value ≡ Ok n
 at_128 at value n found fits = number_at-wide 128 at value n found fits (omega arith)
 
-at_64 : (at : Field) (value : Data) (n : ℕ) → get (key_of at.name) value ≡ Some (wide n) → n < 2 ^ 64 → number_at 64 at value ≡ Ok n
+at_64 : (at : Field) (value : Data) (n : ℕ) → get (key_of at.name) value ≡ Some (wide n) → n < 2 ^ 64
+    → number_at 64 at value ≡ Ok n
 at_64 at value n found fits = number_at-wide 64 at value n found fits (omega arith)
 
-pub transfer_of-transfer_value : (transfer : EventTransfer) → TransferFits transfer → transfer_of (transfer_value transfer) ≡ Ok transfer
+pub transfer_of-transfer_value : (transfer : EventTransfer) → TransferFits transfer
+    → transfer_of (transfer_value transfer) ≡ Ok transfer
 transfer_of-transfer_value transfer fits =
     let value = transfer_value transfer in
     rw (
@@ -65,7 +70,8 @@ transfer_of-transfer_value transfer fits =
       at_64 (field Transfer name.Timestamp) value transfer.timestamp refl fits.timestamp,
     )
 
-pub account_of-account_value : (part : Part) (account : EventAccount) → AccountFits account → account_of part (account_value account) ≡ Ok account
+pub account_of-account_value : (part : Part) (account : EventAccount) → AccountFits account
+    → account_of part (account_value account) ≡ Ok account
 account_of-account_value part account fits =
     let value = account_value account in
     rw (

@@ -7,11 +7,13 @@ use Rattle.serde_json.specs.Read as json
 use Rattle.cdc_message.specs.declared.errors.DecodeError.TheVariants.{NotJson}
 use Rattle.cdc_message.specs.Reading.{read, event_of, value_of}
 
-pub read_some : (bytes : List ℕ) (value : Data) → IsUtf8 bytes → json.read bytes ≡ Some value → read bytes ≡ event_of value
+pub read_some : (bytes : List ℕ) (value : Data) → IsUtf8 bytes → json.read bytes ≡ Some value
+    → read bytes ≡ event_of value
 unfolding read
 read_some bytes value text is = rw (is_utf8-from_IsUtf8 bytes text, is)
 
-value_none : (bytes : List ℕ) (b : Bool) → is_utf8 bytes ≡ b → (IsUtf8 bytes → json.read bytes ≡ None) → value_of bytes ≡ None
+value_none : (bytes : List ℕ) (b : Bool) → is_utf8 bytes ≡ b → (IsUtf8 bytes → json.read bytes ≡ None)
+    → value_of bytes ≡ None
 value_none bytes true e none = rw (e, none (IsUtf8-from_is_utf8 bytes e))
 value_none bytes false e none = rw e
 

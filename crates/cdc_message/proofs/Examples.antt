@@ -1,5 +1,5 @@
 -- The first transfer of a ledger, 100 from account 1 to account 2, as a body and back.
-use Rattle.std.proofs.Common.{◌≡◌, List, ℕ, codes, Ok, Err, refl}
+use Rattle.std.proofs.Common.{◌≡◌, List, ◌++◌, ℕ, codes, Ok, Err, refl}
 use Rattle.std.specs.Fmt.{digits}
 use Rattle.std.specs.Str.{is_utf8, chars}
 use Rattle.serde_json.proofs.OnLiterals.{serde_json_on_literals}
@@ -70,11 +70,30 @@ first_event = record {
 
 -- its body
 abbrev first_body : List ℕ
-first_body = codes "{\"credit_account\":{\"code\":10,\"credits_pending\":\"0\",\"credits_posted\":\"100\",\"debits_pending\":\"0\",\"debits_posted\":\"0\",\"flags\":0,\"id\":\"2\",\"timestamp\":\"1001\",\"user_data_128\":\"0\",\"user_data_32\":0,\"user_data_64\":\"0\"},\"debit_account\":{\"code\":10,\"credits_pending\":\"0\",\"credits_posted\":\"0\",\"debits_pending\":\"0\",\"debits_posted\":\"100\",\"flags\":0,\"id\":\"1\",\"timestamp\":\"1000\",\"user_data_128\":\"0\",\"user_data_32\":0,\"user_data_64\":\"0\"},\"ledger\":700,\"timestamp\":\"2000\",\"transfer\":{\"amount\":\"100\",\"code\":1,\"flags\":0,\"id\":\"1\",\"pending_id\":\"0\",\"timeout\":0,\"timestamp\":\"2000\",\"user_data_128\":\"0\",\"user_data_32\":0,\"user_data_64\":\"0\"},\"type\":\"single_phase\"}"
+first_body =
+    codes "{\"credit_account\":{\"code\":10,\"credits_pending\":\"0\",\"credits_posted\":\"100\","
+    ++ codes "\"debits_pending\":\"0\",\"debits_posted\":\"0\",\"flags\":0,\"id\":\"2\","
+    ++ codes "\"timestamp\":\"1001\",\"user_data_128\":\"0\",\"user_data_32\":0,\"user_data_64\":\"0\"},"
+    ++ codes "\"debit_account\":{\"code\":10,\"credits_pending\":\"0\",\"credits_posted\":\"0\","
+    ++ codes "\"debits_pending\":\"0\",\"debits_posted\":\"100\",\"flags\":0,\"id\":\"1\","
+    ++ codes "\"timestamp\":\"1000\",\"user_data_128\":\"0\",\"user_data_32\":0,\"user_data_64\":\"0\"},"
+    ++ codes "\"ledger\":700,\"timestamp\":\"2000\",\"transfer\":{\"amount\":\"100\",\"code\":1,"
+    ++ codes "\"flags\":0,\"id\":\"1\",\"pending_id\":\"0\",\"timeout\":0,\"timestamp\":\"2000\","
+    ++ codes "\"user_data_128\":\"0\",\"user_data_32\":0,\"user_data_64\":\"0\"},"
+    ++ codes "\"type\":\"single_phase\"}"
 
 -- the same with the members in the order in which they are checked
 abbrev first_in_order : List ℕ
-first_in_order = codes "{\"timestamp\":\"2000\",\"type\":\"single_phase\",\"ledger\":700,\"transfer\":{\"id\":\"1\",\"amount\":\"100\",\"pending_id\":\"0\",\"user_data_128\":\"0\",\"user_data_64\":\"0\",\"user_data_32\":0,\"timeout\":0,\"code\":1,\"flags\":0,\"timestamp\":\"2000\"},\"debit_account\":{\"id\":\"1\",\"debits_pending\":\"0\",\"debits_posted\":\"100\",\"credits_pending\":\"0\",\"credits_posted\":\"0\",\"user_data_128\":\"0\",\"user_data_64\":\"0\",\"user_data_32\":0,\"code\":10,\"flags\":0,\"timestamp\":\"1000\"},\"credit_account\":{\"id\":\"2\",\"debits_pending\":\"0\",\"debits_posted\":\"0\",\"credits_pending\":\"0\",\"credits_posted\":\"100\",\"user_data_128\":\"0\",\"user_data_64\":\"0\",\"user_data_32\":0,\"code\":10,\"flags\":0,\"timestamp\":\"1001\"}}"
+first_in_order =
+    codes "{\"timestamp\":\"2000\",\"type\":\"single_phase\",\"ledger\":700,\"transfer\":{\"id\":\"1\","
+    ++ codes "\"amount\":\"100\",\"pending_id\":\"0\",\"user_data_128\":\"0\",\"user_data_64\":\"0\","
+    ++ codes "\"user_data_32\":0,\"timeout\":0,\"code\":1,\"flags\":0,\"timestamp\":\"2000\"},"
+    ++ codes "\"debit_account\":{\"id\":\"1\",\"debits_pending\":\"0\",\"debits_posted\":\"100\","
+    ++ codes "\"credits_pending\":\"0\",\"credits_posted\":\"0\",\"user_data_128\":\"0\","
+    ++ codes "\"user_data_64\":\"0\",\"user_data_32\":0,\"code\":10,\"flags\":0,\"timestamp\":\"1000\"},"
+    ++ codes "\"credit_account\":{\"id\":\"2\",\"debits_pending\":\"0\",\"debits_posted\":\"0\","
+    ++ codes "\"credits_pending\":\"0\",\"credits_posted\":\"100\",\"user_data_128\":\"0\","
+    ++ codes "\"user_data_64\":\"0\",\"user_data_32\":0,\"code\":10,\"flags\":0,\"timestamp\":\"1001\"}}"
 
 first_is_written : body first_event ≡ first_body
 unfolding body digits

@@ -27,12 +27,15 @@ use Rattle.cdc_message.proofs.Utf8.{IsUtf8-body}
 
 -- ---- the JSON crate reads the compact text of a value as that value
 
-read-compact_text : (d : Data) → HasNumbers (outline d) → of_json (outline d) ≡ Some d → tree.depth (outline d) ≤ max_depth → values.read (compact_text d) ≡ Some d
+read-compact_text : (d : Data) → HasNumbers (outline d) → of_json (outline d) ≡ Some d
+    → tree.depth (outline d) ≤ max_depth → values.read (compact_text d) ≡ Some d
 read-compact_text d numbers back shallow =
     let j = outline d in
     let same : tokens (compact_text d) ≡ json_tokens j ++ [] =
-    ap tokens (sym (print-outline d)) ∙ tokens-print (json_tokens j) (ArePrintable-json_tokens j numbers) ∙ sym (append-nil (json_tokens j)) in
-    ap (λ r. option_and_then of_json (option_and_then (λ p. json.if_last p.0 p.1) r)) (ap (json.value max_depth) same ∙ value-json_tokens j max_depth [] shallow) ∙ back
+    ap tokens (sym (print-outline d)) ∙ tokens-print (json_tokens j) (ArePrintable-json_tokens j numbers)
+    ∙ sym (append-nil (json_tokens j)) in
+    ap (λ r. option_and_then of_json (option_and_then (λ p. json.if_last p.0 p.1) r))
+    (ap (json.value max_depth) same ∙ value-json_tokens j max_depth [] shallow) ∙ back
 
 -- ---- the values of an event and its parts
 
@@ -61,14 +64,20 @@ event_numbers event fits =
       ),
     )
 
-account_back : (account : EventAccount) → AccountFits account → of_json (outline (account_value account)) ≡ Some (account_value account)
+account_back : (account : EventAccount) → AccountFits account
+    → of_json (outline (account_value account)) ≡ Some (account_value account)
 account_back account fits =
     let code : account.code < 2 ^ 64 = omega (arith, fits.code) in
     let flags : account.flags < 2 ^ 64 = omega (arith, fits.flags) in
     let own : account.user_data_32 < 2 ^ 64 = omega (arith, fits.user_data_32) in
-    rw (number_of-decimal account.code code, number_of-decimal account.flags flags, number_of-decimal account.user_data_32 own)
+    rw (
+      number_of-decimal account.code code,
+      number_of-decimal account.flags flags,
+      number_of-decimal account.user_data_32 own,
+    )
 
-transfer_back : (transfer : EventTransfer) → TransferFits transfer → of_json (outline (transfer_value transfer)) ≡ Some (transfer_value transfer)
+transfer_back : (transfer : EventTransfer) → TransferFits transfer
+    → of_json (outline (transfer_value transfer)) ≡ Some (transfer_value transfer)
 transfer_back transfer fits =
     let code : transfer.code < 2 ^ 64 = omega (arith, fits.code) in
     let flags : transfer.flags < 2 ^ 64 = omega (arith, fits.flags) in
@@ -82,14 +91,17 @@ transfer_back transfer fits =
     )
 
 back_by_parts : (event : Event) (credit debit transfer : Data) → event.ledger < 2 ^ 64
-    → of_json (outline credit) ≡ Some credit → of_json (outline debit) ≡ Some debit → of_json (outline transfer) ≡ Some transfer
-    → of_json (outline (object (event_members credit debit transfer event))) ≡ Some (object (event_members credit debit transfer event))
+    → of_json (outline credit) ≡ Some credit → of_json (outline debit) ≡ Some debit
+    → of_json (outline transfer) ≡ Some transfer
+    → of_json (outline (object (event_members credit debit transfer event)))
+    ≡ Some (object (event_members credit debit transfer event))
 back_by_parts event credit debit transfer ledger is_credit is_debit is_transfer =
     rw (is_credit, is_debit, number_of-decimal event.ledger ledger, is_transfer)
 
 event_back : (event : Event) → EventFits event → of_json (outline (event_value event)) ≡ Some (event_value event)
 event_back event fits =
-    back_by_parts event (account_value event.credit_account) (account_value event.debit_account) (transfer_value event.transfer) (omega (arith, fits.ledger))
+    back_by_parts event (account_value event.credit_account) (account_value event.debit_account)
+    (transfer_value event.transfer) (omega (arith, fits.ledger))
     (account_back event.credit_account fits.credit_account)
     (account_back event.debit_account fits.debit_account)
     (transfer_back event.transfer fits.transfer)
@@ -97,5 +109,6 @@ event_back event fits =
 pub read-body : BodiesReadBack
 read-body event fits =
     let parsed : values.read (body event) ≡ Some (event_value event) =
-    ap values.read (sym (compact_text-event event fits)) ∙ read-compact_text (event_value event) (event_numbers event fits) (event_back event fits) (omega arith) in
+    ap values.read (sym (compact_text-event event fits))
+    ∙ read-compact_text (event_value event) (event_numbers event fits) (event_back event fits) (omega arith) in
     read_some (body event) (event_value event) (IsUtf8-body event fits) parsed ∙ event_of-event_value event fits

@@ -12,7 +12,8 @@ pub event_in_is : (text : List ℕ) (event : Event) → read text ≡ Ok event �
 unfolding event_in
 event_in_is text event e = rw e
 
-pub belong : (headers : Headers) (properties : Properties) (text : List ℕ) (event : Event) → headers ≡ headers_of_event event → AreProperties properties event → text ≡ body event → read text ≡ Ok event
+pub belong : (headers : Headers) (properties : Properties) (text : List ℕ) (event : Event)
+    → headers ≡ headers_of_event event → AreProperties properties event → text ≡ body event → read text ≡ Ok event
     → BelongTo headers properties text (event_in text)
 belong headers properties text event is_headers are_properties is_text reads =
     subst (λ e. BelongTo headers properties text e) (sym (event_in_is text event reads)) (record {

@@ -66,18 +66,23 @@ abbrev pub HasPlainKeys : Members → Type 0
 HasPlainKeys no_members = ⊤
 HasPlainKeys (member k d ms) = (compact_text (string k) ≡ in_quotes k) × HasPlainKeys ms
 
-one_member : (k v rest : List ℕ) → compact_text (string k) ≡ in_quotes k → compact_text (string k) ++ 58 ∷ (v ++ rest) ≡ member_text k v ++ rest
+one_member : (k v rest : List ℕ) → compact_text (string k) ≡ in_quotes k
+    → compact_text (string k) ++ 58 ∷ (v ++ rest) ≡ member_text k v ++ rest
 one_member k v rest h = ap (λ s. s ++ 58 ∷ (v ++ rest)) h ∙ simp append_assoc
 
-rest_text : (t : List ℕ) (ms : Members) → HasPlainKeys ms → t ++ members_text true ms ≡ join_with_byte 44 (t ∷ texts ms) ++ 125 ∷ []
+rest_text : (t : List ℕ) (ms : Members) → HasPlainKeys ms
+    → t ++ members_text true ms ≡ join_with_byte 44 (t ∷ texts ms) ++ 125 ∷ []
 rest_text t no_members h = refl
 rest_text t (member k d ms) h =
-    ap (λ s. t ++ 44 ∷ s) (one_member k (compact_text d) (members_text true ms) h.0 ∙ rest_text (member_text k (compact_text d)) ms h.1)
+    ap (λ s. t ++ 44 ∷ s)
+    (one_member k (compact_text d) (members_text true ms) h.0 ∙ rest_text (member_text k (compact_text d)) ms h.1)
     ∙ sym (append_assoc t (44 ∷ join_with_byte 44 (texts (member k d ms))) (125 ∷ []))
 
 pub compact_text-object : (ms : Members) → HasPlainKeys ms → compact_text (object ms) ≡ object_text (texts ms)
 compact_text-object no_members h = refl
-compact_text-object (member k d ms) h = ap (λ s. 123 ∷ s) (one_member k (compact_text d) (members_text true ms) h.0 ∙ rest_text (member_text k (compact_text d)) ms h.1)
+compact_text-object (member k d ms) h =
+    ap (λ s. 123 ∷ s)
+    (one_member k (compact_text d) (members_text true ms) h.0 ∙ rest_text (member_text k (compact_text d)) ms h.1)
 
 -- ---- the parts of an event
 
@@ -99,7 +104,8 @@ plain_128 n h = plain_decimal n (omega arith)
 plain_64 : (n : ℕ) → n < 2 ^ 64 → after_quote (decimal n) ≡ decimal n ++ 34 ∷ []
 plain_64 n h = plain_decimal n (omega arith)
 
-pub compact_text-account : (account : EventAccount) → AccountFits account → compact_text (account_value account) ≡ account_text account
+pub compact_text-account : (account : EventAccount) → AccountFits account
+    → compact_text (account_value account) ≡ account_text account
 compact_text-account account fits =
     compact_text-object (account_members account) (account_keys account)
     ∙ rw (
@@ -113,7 +119,8 @@ compact_text-account account fits =
       plain_64 account.user_data_64 fits.user_data_64,
     )
 
-pub compact_text-transfer : (transfer : EventTransfer) → TransferFits transfer → compact_text (transfer_value transfer) ≡ transfer_text transfer
+pub compact_text-transfer : (transfer : EventTransfer) → TransferFits transfer
+    → compact_text (transfer_value transfer) ≡ transfer_text transfer
 compact_text-transfer transfer fits =
     compact_text-object (transfer_members transfer) (transfer_keys transfer)
     ∙ rw (
@@ -134,7 +141,8 @@ plain_kind TwoPhaseVoided = refl
 plain_kind TwoPhaseExpired = refl
 
 -- an event, by the texts of its parts
-by_parts : (event : Event) (credit debit transfer : Data) (credit_text debit_text of_transfer : List ℕ) → event.timestamp < 2 ^ 64
+by_parts : (event : Event) (credit debit transfer : Data) (credit_text debit_text of_transfer : List ℕ)
+    → event.timestamp < 2 ^ 64
     → compact_text credit ≡ credit_text → compact_text debit ≡ debit_text → compact_text transfer ≡ of_transfer
     → compact_text (object (event_members credit debit transfer event)) ≡ object_text (
     member_text (codes "credit_account") credit_text ∷
@@ -151,7 +159,8 @@ by_parts event credit debit transfer credit_text debit_text of_transfer fits is_
 pub compact_text-event : (event : Event) → EventFits event → compact_text (event_value event) ≡ body event
 unfolding body
 compact_text-event event fits =
-    by_parts event (account_value event.credit_account) (account_value event.debit_account) (transfer_value event.transfer) _ _ _ fits.timestamp
+    by_parts event (account_value event.credit_account) (account_value event.debit_account)
+    (transfer_value event.transfer) _ _ _ fits.timestamp
     (compact_text-account event.credit_account fits.credit_account)
     (compact_text-account event.debit_account fits.debit_account)
     (compact_text-transfer event.transfer fits.transfer)

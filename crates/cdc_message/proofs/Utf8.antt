@@ -39,7 +39,8 @@ quoted_text : (s : List ℕ) → IsUtf8 s → IsUtf8 (in_quotes s)
 quoted_text s h = IsUtf8-append _ _ (IsUtf8-append _ _ quote h) quote
 
 member_is_text : (name value : List ℕ) → is_utf8 name ≡ true → IsUtf8 value → IsUtf8 (member_text name value)
-member_is_text name value h k = IsUtf8-append _ _ (IsUtf8-append _ _ (quoted_text name (IsUtf8-from_is_utf8 name h)) colon) k
+member_is_text name value h k =
+    IsUtf8-append _ _ (IsUtf8-append _ _ (quoted_text name (IsUtf8-from_is_utf8 name h)) colon) k
 
 number_is_text : (n : ℕ) → n < 10 ^ 64 → IsUtf8 (decimal n)
 number_is_text n h = IsUtf8-from_ascii (decimal n) (IsAscii-decimal_wide n h)
@@ -82,10 +83,16 @@ account_is_text account fits =
                   (
                     wide_is_text (codes "timestamp") account.timestamp refl (omega (arith, fits.timestamp)),
                     (
-                      wide_is_text (codes "user_data_128") account.user_data_128 refl (omega (arith, fits.user_data_128)),
+                      wide_is_text (codes "user_data_128") account.user_data_128 refl
+                          (omega (arith, fits.user_data_128)),
                       (
-                        narrow_is_text (codes "user_data_32") account.user_data_32 refl (omega (arith, fits.user_data_32)),
-                        (wide_is_text (codes "user_data_64") account.user_data_64 refl (omega (arith, fits.user_data_64)), tt),
+                        narrow_is_text (codes "user_data_32") account.user_data_32 refl
+                            (omega (arith, fits.user_data_32)),
+                        (
+                          wide_is_text (codes "user_data_64") account.user_data_64 refl
+                              (omega (arith, fits.user_data_64)),
+                          tt,
+                        ),
                       ),
                     ),
                   ),
@@ -115,10 +122,16 @@ transfer_is_text transfer fits =
                 (
                   wide_is_text (codes "timestamp") transfer.timestamp refl (omega (arith, fits.timestamp)),
                   (
-                    wide_is_text (codes "user_data_128") transfer.user_data_128 refl (omega (arith, fits.user_data_128)),
+                    wide_is_text (codes "user_data_128") transfer.user_data_128 refl
+                        (omega (arith, fits.user_data_128)),
                     (
-                      narrow_is_text (codes "user_data_32") transfer.user_data_32 refl (omega (arith, fits.user_data_32)),
-                      (wide_is_text (codes "user_data_64") transfer.user_data_64 refl (omega (arith, fits.user_data_64)), tt),
+                      narrow_is_text (codes "user_data_32") transfer.user_data_32 refl
+                          (omega (arith, fits.user_data_32)),
+                      (
+                        wide_is_text (codes "user_data_64") transfer.user_data_64 refl
+                            (omega (arith, fits.user_data_64)),
+                        tt,
+                      ),
                     ),
                   ),
                 ),

@@ -1,5 +1,5 @@
--- Reading an event from the bytes of a body. The definition rests on what `serde_json` reads from the bytes: it reads no
--- value from bytes that are no JSON text in UTF-8, that nest deeper than its limit of 127, or that hold a number too
+-- Reading an event from the bytes of a body. The definition rests on what `serde_json` reads from the bytes: it reads
+-- no value from bytes that are no JSON text in UTF-8, that nest deeper than its limit of 127, or that hold a number too
 -- large for a float, and of two members of one name it keeps the last.
 use Rattle.std.specs.Prelude.{ℕ, ◌^◌, ◌-◌, List, Bool, nat_le, if◌then◌else◌, Option, Some, None, is_some, Result, Ok, Err}
 use Rattle.std.specs.Str.{is_utf8}

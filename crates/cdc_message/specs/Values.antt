@@ -66,4 +66,7 @@ event_members credit debit transfer event =
 
 -- an event
 abbrev pub event_value : Event → Data
-event_value event = object (event_members (account_value event.credit_account) (account_value event.debit_account) (transfer_value event.transfer) event)
+event_value event =
+    object
+    (event_members (account_value event.credit_account) (account_value event.debit_account)
+    (transfer_value event.transfer) event)

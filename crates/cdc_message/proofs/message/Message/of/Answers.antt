@@ -8,4 +8,6 @@ invariant_of-result c =
     belong _ _ _ c.args.event.now c.headers_of.ensures c.properties_of.ensures written.text written.reads_back
 
 pub returns : goal.returns
-returns c = let written = c.in_ok-body.ensures in event_in_is (string_bytes c.in_ok-body.body) c.args.event.now written.reads_back
+returns c =
+    let written = c.in_ok-body.ensures in
+    event_in_is (string_bytes c.in_ok-body.body) c.args.event.now written.reads_back
