@@ -30,7 +30,8 @@ queued_binding : (b : Bool) (item : Item) (q : QueueState)
 queued_binding true item q = refl
 queued_binding false item q = refl
 
-pub Holds-queued : (accepted : List Item) (item : Item) (q : QueueState) → Holds accepted q → Holds (accepted ++ item ∷ []) (queued item q)
+pub Holds-queued : (accepted : List Item) (item : Item) (q : QueueState) → Holds accepted q
+    → Holds (accepted ++ item ∷ []) (queued item q)
 Holds-queued accepted item q holds =
     queued_items (takes_item q.binding item) accepted item q
     ∙ ap (λ items. items ++ (if takes_item q.binding item then item ∷ [] else [])) holds
@@ -57,10 +58,13 @@ HasAccepted-with_queue : (s : BrokerState) (i : ℕ) (q : QueueState) (accepted 
 HasAccepted-with_queue s i q accepted has holds = All-set (Holds accepted) s.queues (i - 1) q holds has
 
 -- an acknowledgement
-pub HasAccepted-acknowledged : (s : BrokerState) (i position : ℕ) (b : Bool) (accepted : List Item) → i - 1 < length s.queues
-    → HasAccepted s accepted → HasAccepted (if b then with_queue i (acknowledged position (queue_of s i)) s else s) accepted
+pub HasAccepted-acknowledged : (s : BrokerState) (i position : ℕ) (b : Bool) (accepted : List Item)
+    → i - 1 < length s.queues
+    → HasAccepted s accepted
+    → HasAccepted (if b then with_queue i (acknowledged position (queue_of s i)) s else s) accepted
 HasAccepted-acknowledged s i position true accepted inside has =
-    HasAccepted-with_queue s i (acknowledged position (queue_of s i)) accepted has (Holds-queue_of s i accepted inside has)
+    HasAccepted-with_queue s i (acknowledged position (queue_of s i)) accepted has
+    (Holds-queue_of s i accepted inside has)
 HasAccepted-acknowledged s i position false accepted inside has = has
 
 Holds-moved_on : (accepted : List Item) (delivery : Option Delivery) (q : QueueState) → Holds accepted q
@@ -69,7 +73,8 @@ Holds-moved_on accepted None q holds = holds
 Holds-moved_on accepted (Some delivery) q holds = holds
 
 -- a delivery
-pub HasAccepted-moved_on : (s : BrokerState) (i : ℕ) (delivery : Option Delivery) (accepted : List Item) → i - 1 < length s.queues
+pub HasAccepted-moved_on : (s : BrokerState) (i : ℕ) (delivery : Option Delivery) (accepted : List Item)
+    → i - 1 < length s.queues
     → HasAccepted s accepted → HasAccepted (with_queue i (moved_on delivery (queue_of s i)) s) accepted
 HasAccepted-moved_on s i delivery accepted inside has =
     HasAccepted-with_queue s i (moved_on delivery (queue_of s i)) accepted has

@@ -26,6 +26,8 @@ empty_push queues all first q binding so_far pushed state =
     ∙ ap₂ (λ xs x. xs ++ x ∷ []) so_far state ∙ sym (map_push empty_queue first binding)
 
 -- empty queues hold what belongs to them of nothing
-pub Holds-empty : (bindings : List Arguments) (queues : List QueueState) → queues ≡ map empty_queue bindings → All (Holds []) queues
+pub Holds-empty : (bindings : List Arguments) (queues : List QueueState) → queues ≡ map empty_queue bindings
+    → All (Holds []) queues
 Holds-empty bindings queues are =
-    subst (λ (qs : List QueueState). All (Holds []) qs) (sym are) (All-map (Holds []) empty_queue bindings (λ k d inside. refl))
+    subst (λ (qs : List QueueState). All (Holds []) qs) (sym are)
+    (All-map (Holds []) empty_queue bindings (λ k d inside. refl))

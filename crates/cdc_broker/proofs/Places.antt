@@ -12,7 +12,8 @@ take_fewer xs ys n same =
     sym (take-take n (n + 1) xs (omega arith)) ∙ ap (take n) same ∙ take-take n (n + 1) ys (omega arith)
 
 -- a queue that is prepared looks as it did, and so do all
-pub prepared_states : (queues : List Queue) (place : ℕ) (q q' : Queue) → queue_state q' ≡ queue_state (get_or queues place q)
+pub prepared_states : (queues : List Queue) (place : ℕ) (q q' : Queue)
+    → queue_state q' ≡ queue_state (get_or queues place q)
     → map queue_state (slice_set queues place q') ≡ map queue_state queues
 prepared_states queues place q q' same = map-set_same queue_state queues place q' q same
 

@@ -10,7 +10,8 @@ use Rattle.cdc_broker.specs.Queues.{QueueState, empty_queue}
 
 -- the broker of these queues
 abbrev pub broker_of : ℕ → Option ℕ → List Queue → BrokerState
-broker_of connection expected queues = record { connection = connection; expected = expected; queues = map queue_state queues }
+broker_of connection expected queues =
+    record { connection = connection; expected = expected; queues = map queue_state queues }
 
 module _ (connection : ℕ) (expected : Option ℕ) (queues : List Queue) (i : ℕ) (q : Queue)
     (inside : i - 1 < length queues) (found : q ≡ get_or queues (i - 1) q) where
@@ -39,10 +40,12 @@ module _ (connection : ℕ) (expected : Option ℕ) (queues : List Queue) (i : �
       here = get_or-map queue_state queues (i - 1) q (queue_state q) inside ∙ ap queue_state (sym found)
 
   -- a queue that changes where the test holds, and stays as it is where it doesn't
-  pub broker_of-set_if : (b : Bool) (q' : Queue) (after : QueueState) → queue_state q' ≡ (if b then after else queue_state q)
+  pub broker_of-set_if : (b : Bool) (q' : Queue) (after : QueueState)
+      → queue_state q' ≡ (if b then after else queue_state q)
       → broker_of connection expected (slice_set queues (i - 1) q')
       ≡ (if b then with_queue i after (broker_of connection expected queues) else broker_of connection expected queues)
-  broker_of-set_if true q' after is = broker_of-set q' ∙ ap (λ x. with_queue i x (broker_of connection expected queues)) is
+  broker_of-set_if true q' after is =
+      broker_of-set q' ∙ ap (λ x. with_queue i x (broker_of connection expected queues)) is
   broker_of-set_if false q' after is =
       broker_of-set q' ∙ ap (λ x. with_queue i x (broker_of connection expected queues)) is ∙ with_queue-same
 

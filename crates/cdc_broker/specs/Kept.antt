@@ -5,7 +5,8 @@ use Rattle.cdc_broker.specs.Queues.{QueueState}
 
 -- the queue as contracts see it
 abbrev pub queue_state : Queue → QueueState
-queue_state q = record { binding = q.binding; items = q.items.items; cursor = q.cursor; handed = q.handed; acked = q.acked }
+queue_state q =
+    record { binding = q.binding; items = q.items.items; cursor = q.cursor; handed = q.handed; acked = q.acked }
 
 -- for how many more items there is room
 abbrev pub room_of : Queue → ℕ

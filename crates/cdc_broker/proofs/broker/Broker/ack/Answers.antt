@@ -22,7 +22,8 @@ returns-clause-state c =
     if c.ack.result then with_queue i (acknowledged c.args.position (queue_of s i)) s else s in
     broker_of-set_if connection expected queues i q inside c.index_mut-queue.ensures.value c.ack.result c.ack.new.self
     (acknowledged c.args.position (queue_state q)) c.ack.ensures.state
-    ∙ ap (λ (x : QueueState). if c.ack.result then with_queue i (acknowledged c.args.position x) (broker_of connection expected queues)
+    ∙ ap (λ (x : QueueState). if c.ack.result
+    then with_queue i (acknowledged c.args.position x) (broker_of connection expected queues)
     else broker_of connection expected queues) (sym this)
     ∙ ap turn c.self.view_is
 

@@ -4,4 +4,5 @@ use Rattle.cdc_broker.proofs.broker.Broker.new.Given as goal
 
 abbrev pub invariant-loop-binding : goal.invariant-loop-binding
 invariant-loop-binding l =
-    AreMade l.fn.bindings.items l.yielded l.binding-iterator.rest.items l.queues.items (vec_len l.queues) (vec_capacity l.queues)
+    AreMade l.fn.bindings.items l.yielded l.binding-iterator.rest.items l.queues.items (vec_len l.queues)
+    (vec_capacity l.queues)

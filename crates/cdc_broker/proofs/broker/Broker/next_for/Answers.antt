@@ -18,11 +18,13 @@ returns-clause-ok c =
     within_queues connection expected queues c.args.self.now i c.self.view_is c.requires.first c.requires.last in
     let this : queue_of (broker_of connection expected queues) i ≡ queue_state q =
     queue_of-broker_of connection expected queues i q inside c.index_mut-queue.ensures.value in
-    let turn : BrokerState → BrokerState = λ s. with_queue i (moved_on (next_delivery (queue_of s i)) (queue_of s i)) s in
+    let turn : BrokerState → BrokerState =
+    λ s. with_queue i (moved_on (next_delivery (queue_of s i)) (queue_of s i)) s in
     on_ok_weaker c.next.result
     (λ moved. broker_of-set connection expected queues i q inside c.index_mut-queue.ensures.value c.next.new.self
     ∙ ap (λ (x : QueueState). with_queue i x (broker_of connection expected queues)) moved
-    ∙ ap (λ (x : QueueState). with_queue i (moved_on (next_delivery x) x) (broker_of connection expected queues)) (sym this)
+    ∙ ap (λ (x : QueueState). with_queue i (moved_on (next_delivery x) x) (broker_of connection expected queues))
+    (sym this)
     ∙ ap turn c.self.view_is)
     c.next.ensures.ok
 

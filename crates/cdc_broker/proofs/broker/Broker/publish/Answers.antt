@@ -35,5 +35,6 @@ returns-clause-accepted c =
     ap (map queue_state) written ∙ c.in_ok-queue_from.ensures.ok
     ∙ ap (λ qs. map (queued item) (map queue_state qs)) c.as_mut_slice.ensures.value
     ∙ ap (λ (s : BrokerState). map (queued item) s.queues) c.self.view_is in
-    λ accepted has. HasAccepted-queues (published c.args.tag item c.args.self.now) (map queue_state (with_items queues new).items)
+    λ accepted has. HasAccepted-queues (published c.args.tag item c.args.self.now)
+    (map queue_state (with_items queues new).items)
     (accepted ++ item ∷ []) taken (HasAccepted-published c.args.self.now c.args.tag item accepted has)
