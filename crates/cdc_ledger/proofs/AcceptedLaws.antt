@@ -31,7 +31,7 @@ use Rattle.cdc_ledger.specs.Submit.{kind_of, entry_of}
 use Rattle.cdc_ledger.specs.Changes.{expiry}
 use Rattle.cdc_ledger.specs.Verdict.{max_timestamp, is_other, is_over, known_account_lines, account_verdict, known_transfer_lines, plain_lines, settling_lines, transfer_lines, transfer_verdict}
 use Rattle.cdc_ledger.proofs.BalanceLaws.{balances_later, resolved_later}
-use Rattle.cdc_ledger.proofs.LineLaws.{first_line_append_none_parts, none_applies}
+use Rattle.cdc_ledger.proofs.LineLaws.{first_line_append_none_parts, test_of, test_fails}
 use Rattle.cdc_ledger.proofs.StoredLaws.{stored_has}
 
 -- each line refuses: its result isn't the acceptance, whose number is 0
@@ -65,7 +65,8 @@ known_account_refuse (Some o) a = refl
 
 known_account_none : (o : Option Opened) (a : NewAccount) → first_line (known_account_lines o a) ≡ None → o ≡ None
 known_account_none None a none = refl
-known_account_none (Some o) a none = absurd (false≢true (sym (none_applies (known_account_lines (Some o) a) none).1.0))
+known_account_none (Some o) a none =
+    absurd (false≢true (sym (test_fails account_number account.Exists (known_account_lines (Some o) a) none)))
 
 pub accepted_account : (offered : Features) (h : History) (a : NewAccount)
     → (account_number (account_verdict offered h a) == 0) ≡ true
@@ -91,7 +92,7 @@ known_transfer_none : (o : Option Entry) (h : History) (r : NewTransfer)
     → first_line (known_transfer_lines o h r) ≡ None → o ≡ None
 known_transfer_none None h r none = refl
 known_transfer_none (Some e) h r none =
-    absurd (false≢true (sym (none_applies (known_transfer_lines (Some e) h r) none).1.0))
+    absurd (false≢true (sym (test_fails transfer_number transfer.Exists (known_transfer_lines (Some e) h r) none)))
 
 plain_refuse : (d c : Option Opened) (h : History) (r : NewTransfer) (t : ℕ)
     → refuse transfer_number transfer.Accepted (plain_lines d c h r t) ≡ true
@@ -154,11 +155,14 @@ record ShapePasses (r : NewTransfer) : Type 0 where
 shape_passes : (offered : Features) (r : NewTransfer) → first_line (transfer_shape_lines offered r) ≡ None
     → ShapePasses r
 shape_passes offered r none =
-    let from_flag = none_applies (transfer_shape_lines offered r) none in
-    let from_kinds = from_flag.1.1.1 in
-    let from_timeout = from_kinds.1.1.1.1 in
-    let from_apart = from_timeout.1.1.1 in
-    record { one_kind = from_kinds.0; endless = from_timeout.0; apart = from_apart.0 }
+    let lines : List (Bool × TransferResult) = transfer_shape_lines offered r in
+    let fails : (result : TransferResult) → test_of transfer_number result lines ≡ false =
+    λ result. test_fails transfer_number result lines none in
+    record {
+      one_kind = fails transfer.FlagsAreMutuallyExclusive;
+      endless = fails transfer.TimeoutReservedForPendingTransfer;
+      apart = fails transfer.AccountsMustBeDifferent;
+    }
 
 -- the accounts of a single-phase or a pending transfer are there, both sums fit, and so does the end
 record PlainPasses (debited credited : Option Opened) (h : History) (r : NewTransfer) (t : ℕ) : Type 0 where
@@ -178,21 +182,22 @@ ends_in_time r t line some = ltb-false max_timestamp (expires_at (as_asked r t))
 
 plain_passes : (d c : Option Opened) (h : History) (r : NewTransfer) (t : ℕ) → first_line (plain_lines d c h r t) ≡ None
     → PlainPasses d c h r t
-plain_passes None c h r t none = absurd (false≢true (sym (none_applies (plain_lines None c h r t) none).0))
+plain_passes None c h r t none =
+    let lines : List (Bool × TransferResult) = plain_lines None c h r t in
+    absurd (false≢true (sym (test_fails transfer_number transfer.DebitAccountNotFound lines none)))
 plain_passes (Some d) None h r t none =
-    absurd (false≢true (sym (none_applies (plain_lines (Some d) None h r t) none).0))
+    let lines : List (Bool × TransferResult) = plain_lines (Some d) None h r t in
+    absurd (false≢true (sym (test_fails transfer_number transfer.CreditAccountNotFound lines none)))
 plain_passes (Some d) (Some c) h r t none =
-    let from_ledgers = none_applies (plain_lines (Some d) (Some c) h r t) none in
-    let from_pending_sums = from_ledgers.1.1 in
-    let from_posted_sums = from_pending_sums.1.1 in
-    let from_sums = from_posted_sums.1.1 in
-    let from_timeout = from_sums.1.1 in
+    let lines : List (Bool × TransferResult) = plain_lines (Some d) (Some c) h r t in
+    let fails : (result : TransferResult) → test_of transfer_number result lines ≡ false =
+    λ result. test_fails transfer_number result lines none in
     record {
       debit_there = refl;
       credit_there = refl;
-      debits = ltb-false max_128 _ from_sums.0;
-      credits = ltb-false max_128 _ from_sums.1.0;
-      timely = ends_in_time r t from_timeout.0;
+      debits = ltb-false max_128 _ (fails transfer.OverflowsDebits);
+      credits = ltb-false max_128 _ (fails transfer.OverflowsCredits);
+      timely = ends_in_time r t (fails transfer.OverflowsTimeout);
     }
 
 -- the entry that a post or a void names is a pending one, which nothing settled; what is given of it is its own
@@ -209,25 +214,24 @@ record SettlingPasses (named : Option Entry) (h : History) (r : NewTransfer) (t 
 
 settling_passes : (named : Option Entry) (h : History) (r : NewTransfer) (t : ℕ)
     → first_line (settling_lines named h r t) ≡ None → SettlingPasses named h r t
-settling_passes None h r t none = absurd (false≢true (sym (none_applies (settling_lines None h r t) none).0))
+settling_passes None h r t none =
+    let lines : List (Bool × TransferResult) = settling_lines None h r t in
+    absurd (false≢true (sym (test_fails transfer_number transfer.PendingTransferNotFound lines none)))
 settling_passes (Some x) h r t none =
-    let from_kind = none_applies (settling_lines (Some x) h r t) none in
-    let from_debit = from_kind.1 in
-    let from_credit = from_debit.1 in
-    let from_amount = from_credit.1.1.1 in
-    let from_posted = from_amount.1.1 in
-    let from_voided = from_posted.1 in
-    let from_over = from_voided.1 in
+    let lines : List (Bool × TransferResult) = settling_lines (Some x) h r t in
+    let fails : (result : TransferResult) → test_of transfer_number result lines ≡ false =
+    λ result. test_fails transfer_number result lines none in
     record {
       pending = x;
       there = refl;
-      holding = not-false (holds x.kind) from_kind.0;
-      debit = from_debit.0;
-      credit = from_credit.0;
-      within = ltb-false x.transfer.amount (settled_amount r x.transfer) from_amount.0;
-      unposted = from_posted.0;
-      unvoided = from_voided.0;
-      going_on = from_over.0;
+      holding = not-false (holds x.kind) (fails transfer.PendingTransferNotPending);
+      debit = fails transfer.PendingTransferHasDifferentDebitAccountId;
+      credit = fails transfer.PendingTransferHasDifferentCreditAccountId;
+      within = ltb-false x.transfer.amount (settled_amount r x.transfer)
+          (fails transfer.ExceedsPendingTransferAmount);
+      unposted = fails transfer.PendingTransferAlreadyPosted;
+      unvoided = fails transfer.PendingTransferAlreadyVoided;
+      going_on = fails transfer.PendingTransferExpired;
     }
 
 -- nothing posted, voided or ended the transfer, so nothing resolved it

@@ -15,6 +15,7 @@ use Rattle.cdc_types.specs.declared.transfers.Transfer.{Transfer}
 use Rattle.cdc_types.specs.Features.{features}
 use Rattle.cdc_types.specs.Flags.{is_pending_request, is_post_request, is_void_request, is_plain_request}
 use Rattle.cdc_types.specs.Lines.{first_line}
+use Rattle.cdc_types.specs.Results.{transfer_number}
 use Rattle.cdc_types.specs.Shapes.{transfer_shape_lines, transfer_refusal}
 use Rattle.cdc_ledger.specs.declared.tables.Tables.{Tables}
 use Rattle.cdc_ledger.specs.Accounts.{HasBoundedSums, lines_between}
@@ -34,7 +35,7 @@ use Rattle.cdc_ledger.proofs.BalanceLaws.{balances_later}
 use Rattle.cdc_ledger.proofs.Changes.{IsUpTo}
 use Rattle.cdc_ledger.proofs.Elements.{AllByRecursion-weaker, list_any_same}
 use Rattle.cdc_ledger.proofs.Found.{find-kept}
-use Rattle.cdc_ledger.proofs.LineLaws.{first_line-append_none, first_line-append_some, none_applies}
+use Rattle.cdc_ledger.proofs.LineLaws.{first_line-append_none, first_line-append_some, test_fails}
 use Rattle.cdc_ledger.proofs.OpenedLaws.{opened_id}
 use Rattle.cdc_ledger.proofs.Places.{place-find, position_in}
 
@@ -238,7 +239,7 @@ pub settled-settling : (h : History) (r : NewTransfer) (t : ℕ) (x : Entry) →
     → stored h r.pending_id ≡ Some x → settled_by h (entry_of h r t) ≡ Some x.transfer
 settled-settling h r t x shape plain there =
     settling_settles (is_pending_request r) (is_post_request r) (is_void_request r) h (filled h r t) plain
-    (none_applies (transfer_shape_lines features r) shape).1.1.1.0
+    (test_fails transfer_number transfer.FlagsAreMutuallyExclusive (transfer_shape_lines features r) shape)
     ∙ ap (λ (y : Transfer). option_map (λ (e : Entry). e.transfer) (stored h y.pending_id))
     (filled-settling h r t x plain there)
     ∙ ap (option_map (λ (e : Entry). e.transfer)) there

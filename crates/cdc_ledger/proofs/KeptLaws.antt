@@ -13,6 +13,7 @@ use Rattle.cdc_types.specs.Features.{features}
 use Rattle.cdc_types.specs.Results.{account_number, transfer_number}
 use Rattle.cdc_ledger.specs.declared.errors.BatchError.{BatchError}
 use Rattle.cdc_ledger.specs.declared.errors.BatchError.TheVariants.{LedgerClosed, BatchTooLarge, TimestampsExhausted}
+use Rattle.cdc_ledger.specs.BatchErrors.{batch_error_number}
 use Rattle.cdc_ledger.specs.Due.{due}
 use Rattle.cdc_ledger.specs.History.{History, empty_history}
 use Rattle.cdc_ledger.specs.Sound.{IsSound}
@@ -20,7 +21,7 @@ use Rattle.cdc_ledger.specs.Submit.{opened_by, entry_of, after_account, after_tr
 use Rattle.cdc_ledger.specs.Verdict.{max_timestamp, account_verdict, transfer_verdict}
 use Rattle.cdc_ledger.proofs.AcceptedLaws.{accepted_account, no_line_from_accepted, Follows-accepted}
 use Rattle.cdc_ledger.proofs.Changes.{pushed, with_account, timed}
-use Rattle.cdc_ledger.proofs.LineLaws.{none_applies}
+use Rattle.cdc_ledger.proofs.LineLaws.{test_fails}
 use Rattle.cdc_ledger.proofs.PulseLaws.{IsSound-pulse}
 use Rattle.cdc_ledger.proofs.SoundLaws.{IsSound-empty, IsSound-timed, IsSound-shut, IsSound-with_account, IsSound-pushed}
 
@@ -111,7 +112,7 @@ submit_parts h b answer e =
     let lines : List (Bool × BatchError) =
     (h.closed, LedgerClosed) ∷ (is_too_large b, BatchTooLarge) ∷
     (is_past_the_end h (moment b) (items_of h b), TimestampsExhausted) ∷ [] in
-    ((none_applies lines parts.0).1.1.0, parts.1)
+    (test_fails batch_error_number TimestampsExhausted lines parts.0, parts.1)
 
 -- a batch that is answered
 pub IsSound-submit : (h : History) (b : Batch) (answer : BatchResults × History) → IsSound h → submit h b ≡ Ok answer

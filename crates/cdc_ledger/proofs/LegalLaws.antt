@@ -7,11 +7,12 @@ use Rattle.cdc_types.specs.declared.batches.BatchResults.{BatchResults}
 use Rattle.cdc_types.specs.Features.{Features, features}
 use Rattle.cdc_ledger.specs.declared.errors.BatchError.{BatchError}
 use Rattle.cdc_ledger.specs.declared.errors.BatchError.TheVariants.{LedgerClosed, BatchTooLarge, TimestampsExhausted}
+use Rattle.cdc_ledger.specs.BatchErrors.{batch_error_number}
 use Rattle.cdc_ledger.specs.Fits.{BatchFits}
 use Rattle.cdc_ledger.specs.History.{History, empty_history}
 use Rattle.cdc_ledger.specs.Submit.{submit, submit_by, refusal_of, is_too_large, is_past_the_end, moment, items_of, taken, answered, history_or, after_batches, closed_if, Extends, IsLegal}
 use Rattle.cdc_ledger.proofs.Elements.{AllByRecursion_push}
-use Rattle.cdc_ledger.proofs.LineLaws.{first_line_none_parts}
+use Rattle.cdc_ledger.proofs.LineLaws.{test_fails}
 
 pub Extends_same : (h : History) → Extends h h
 Extends_same h = record { batches = []; close = false; fit = tt; made = refl }
@@ -25,9 +26,10 @@ answered_ok (Some error) answer found e = cc
 pub submit_open : (h : History) (b : Batch) (answer : BatchResults × History) → submit h b ≡ Ok answer
     → h.closed ≡ false
 submit_open h b answer e =
-    (first_line_none_parts (h.closed, LedgerClosed)
-    ((is_too_large b, BatchTooLarge) ∷ (is_past_the_end h (moment b) (items_of h b), TimestampsExhausted) ∷ [])
-    (answered_ok (refusal_of h b) (taken features h b) answer e)).0
+    test_fails batch_error_number LedgerClosed
+    ((h.closed, LedgerClosed) ∷ (is_too_large b, BatchTooLarge)
+    ∷ (is_past_the_end h (moment b) (items_of h b), TimestampsExhausted) ∷ [])
+    (answered_ok (refusal_of h b) (taken features h b) answer e)
 
 pub after_batches_push : (offered : Features) (h : History) (bs : List Batch) (b : Batch)
     → after_batches offered h (bs ++ b ∷ []) ≡ history_or (after_batches offered h bs)

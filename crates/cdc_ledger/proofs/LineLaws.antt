@@ -1,7 +1,6 @@
--- The first line of two tables, one after the other.
-use Rattle.std.proofs.Common.{Bool, true, false, Option, Some, None, List, [], ◌∷◌, ◌++◌, ◌≡◌, ◌∙◌, refl, ap}
-use Rattle.std.specs.Prelude.{if◌then◌else◌}
-use Rattle.std.specs.List.{AllByRecursion}
+-- The first line of two tables, one after the other, and the test of a line by its result.
+use Rattle.std.proofs.Common.{ℕ, Bool, true, false, Option, Some, None, List, [], ◌∷◌, ◌++◌, ◌≡◌, ◌∙◌, refl, ap}
+use Rattle.std.specs.Prelude.{◌==◌, if◌then◌else◌}
 use Rattle.std.specs.Option.{option_or}
 use Rattle.cdc_types.specs.Lines.{first_line}
 
@@ -28,7 +27,7 @@ module _ {R : Type 0} where
   parts false r o h = (refl, h)
 
   -- no line applies: neither does the first, nor one of the others
-  pub first_line_none_parts : (line : Bool × R) (lines : List (Bool × R)) → first_line (line ∷ lines) ≡ None
+  first_line_none_parts : (line : Bool × R) (lines : List (Bool × R)) → first_line (line ∷ lines) ≡ None
       → (line.0 ≡ false) × (first_line lines ≡ None)
   first_line_none_parts line lines h = parts line.0 line.1 (first_line lines) h
 
@@ -40,8 +39,21 @@ module _ {R : Type 0} where
       → (first_line xs ≡ None) × (first_line ys ≡ None)
   first_line_append_none_parts xs ys h = or_parts (first_line xs) (first_line ys) (rw first_line-append at h)
 
-  -- then each test fails: of a table that is written out this computes to a pair for each line
-  pub none_applies : (lines : List (Bool × R)) → first_line lines ≡ None → AllByRecursion (λ line. line.0 ≡ false) lines
-  none_applies [] h = tt
-  none_applies (line ∷ lines) h = let both : (line.0 ≡ false) × (first_line lines ≡ None) =
-      first_line_none_parts line lines h in (both.0, none_applies lines both.1)
+-- where both tests fail, so does either that is taken
+both_fail : (b p q : Bool) → p ≡ false → q ≡ false → (if b then p else q) ≡ false
+both_fail true p q no_p no_q = no_p
+both_fail false p q no_p no_q = no_q
+
+-- a line is named by the number of its result, so that a proof finds it wherever it stands in its table
+module _ {R : Type 0} (number : R → ℕ) (result : R) where
+  -- the test of the line with this result; of a table that is written out this computes to that test
+  abbrev pub test_of : List (Bool × R) → Bool
+  test_of [] = false
+  test_of (line ∷ lines) = if number line.1 == number result then line.0 else test_of lines
+
+  -- no line applies, so the test of this one fails
+  pub test_fails : (lines : List (Bool × R)) → first_line lines ≡ None → test_of lines ≡ false
+  test_fails [] h = refl
+  test_fails (line ∷ lines) h =
+      let both : (line.0 ≡ false) × (first_line lines ≡ None) = first_line_none_parts line lines h in
+      both_fail (number line.1 == number result) line.0 (test_of lines) both.0 (test_fails lines both.1)

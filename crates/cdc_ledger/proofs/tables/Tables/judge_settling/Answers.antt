@@ -3,9 +3,11 @@ use Rattle.std.specs.Option.{IsSome, option_copied}
 use Rattle.std.proofs.lemmas.Bool.{not-false}
 use Rattle.cdc_types.specs.declared.events.Entry.{Entry}
 use Rattle.cdc_types.specs.declared.events.EventKind.{EventKind}
+use Rattle.cdc_types.specs.declared.results.TransferResult.TheVariants as transfer
 use Rattle.cdc_types.specs.declared.transfers.Transfer.{Transfer}
 use Rattle.cdc_types.specs.Features.{features}
 use Rattle.cdc_types.specs.Lines.{first_line}
+use Rattle.cdc_types.specs.Results.{transfer_number}
 use Rattle.cdc_ledger.specs.Effects.{settled_by}
 use Rattle.cdc_ledger.specs.Filling.{stored, expires_at}
 use Rattle.cdc_ledger.specs.History.{opened}
@@ -17,7 +19,7 @@ use Rattle.cdc_ledger.specs.Tables.{history_of}
 use Rattle.cdc_ledger.specs.Verdict.{max_timestamp, transfer_lines}
 use Rattle.cdc_ledger.proofs.AcceptedLaws.{Follows-accepted}
 use Rattle.cdc_ledger.proofs.Judged.{first_line-field, first_line-end, filled-settling, settled-settling}
-use Rattle.cdc_ledger.proofs.LineLaws.{none_applies}
+use Rattle.cdc_ledger.proofs.LineLaws.{test_fails}
 use Rattle.cdc_ledger.proofs.StoredLaws.{stored_has}
 use Rattle.cdc_ledger.proofs.tables.Tables.judge_settling.Goals as goal
 
@@ -40,7 +42,8 @@ end_refusal-requires c =
     let there : stored h r.pending_id ≡ Some x = sym c.entry.ensures ∙ ap option_copied c.in-Some.is in
     let stands : Stands h x = stored_has (Stands h) h r.pending_id x c.requires.kept.sound.standing there in
     let fields : first_line (field_lines x r) ≡ None = sym c.field_refusal.ensures ∙ c.in_default-field_refusal.is in
-    let holding : holds x.kind ≡ true = not-false (holds x.kind) (none_applies (field_lines x r) fields).0 in
+    let holding : holds x.kind ≡ true =
+    not-false (holds x.kind) (test_fails transfer_number transfer.PendingTransferNotPending (field_lines x r) fields) in
     λ some. let timely : expires_at x.transfer ≤ max_timestamp = stands.timely holding some in omega arith
 
 -- a line on what came before refuses the request
