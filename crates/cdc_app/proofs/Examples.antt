@@ -36,7 +36,8 @@ fault line kind = Err (record { line = line; kind = kind })
 
 -- a script with a comment, a blank line and a carriage return: two batches, the second one of client 2 and empty
 reads_batches : script_of
-    (codes "# a comment\nsubscriber all\r\naccounts 1000\naccount id=1 ledger=700\n\naccount code=10 ledger=700 id=002\nclient 2\ntransfers 2000\n")
+    (codes "# a comment\nsubscriber all\r\naccounts 1000\naccount id=1 ledger=700\n\n"
+    ++ codes "account code=10 ledger=700 id=002\nclient 2\ntransfers 2000\n")
     ≡ Ok (record {
       bindings = record { mode = mode.All; pairs = [] } ∷ [];
       batches =
@@ -54,8 +55,9 @@ refuses_words = (refl, refl, refl, refl)
 
 -- an item outside its batch, a ninth subscriber whatever its binding, and a script without one
 refuses_lines : (script_of (codes "subscriber all\naccount x\n") ≡ fault 2 kind.NoOpenBatch)
-    × (script_of (codes
-    "subscriber all\nsubscriber all\nsubscriber all\nsubscriber all\nsubscriber all\nsubscriber all\nsubscriber all\nsubscriber all\nsubscriber x\n")
+    × (script_of
+    (codes "subscriber all\nsubscriber all\nsubscriber all\nsubscriber all\n"
+    ++ codes "subscriber all\nsubscriber all\nsubscriber all\nsubscriber all\nsubscriber x\n")
     ≡ fault 9 kind.TooManySubscribers)
     × (script_of [] ≡ fault 0 kind.NoSubscriber)
 refuses_lines = (refl, refl, refl)
@@ -131,7 +133,9 @@ two_events = event 2000 (side 2 5 0) (side 1 0 5) ∷ event 2001 (side 1 7 5) (s
 -- what two subscribers print of these events: one of every event, and one of those of another ledger
 prints_subscribers : subscribers_text 1 (line_of two_events)
     (every_event ∷ record { mode = mode.All; pairs = pair.Ledger 800 ∷ [] } ∷ [])
-    ≡ codes "subscriber 1 applied 2 last 2001 ended yes closed no\naccount 2 0 5 0 0\naccount 1 0 7 0 5\naccount 3 0 0 0 7\nsubscriber 2 applied 0 last 0 ended yes closed no\n"
+    ≡ codes "subscriber 1 applied 2 last 2001 ended yes closed no\n"
+    ++ codes "account 2 0 5 0 0\naccount 1 0 7 0 5\naccount 3 0 0 0 7\n"
+    ++ codes "subscriber 2 applied 0 last 0 ended yes closed no\n"
 unfolding digits
 prints_subscribers = refl
 

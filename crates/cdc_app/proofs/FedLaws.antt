@@ -42,7 +42,8 @@ rise_filter : (p : Event → Bool) (t : ℕ) (es : List Event) → RiseFrom t es
 rise_filter p t [] rise = tt
 rise_filter p t (e ∷ es) rise = kept_or_not (p e) (rise_filter p e.timestamp es rise.1)
   where
-    kept_or_not : (b : Bool) → RiseFrom e.timestamp (filter p es) → RiseFrom t (if b then e ∷ filter p es else filter p es)
+    kept_or_not : (b : Bool) → RiseFrom e.timestamp (filter p es)
+        → RiseFrom t (if b then e ∷ filter p es else filter p es)
     kept_or_not true rest = (rise.0, rest)
     kept_or_not false rest = rise_later t e.timestamp (filter p es) (omega (arith, rise.0)) rest
 
@@ -67,7 +68,8 @@ rise_events h t (e ∷ es) rise = (rise.0, rise_events h e.timestamp es rise.1)
 
 -- ---- they are few: no two have one timestamp
 
-few_entries : (t most : ℕ) (es : List Entry) → t ≤ most → sound.RiseFrom t es → AllByRecursion (λ e. e.timestamp ≤ most) es
+few_entries : (t most : ℕ) (es : List Entry) → t ≤ most → sound.RiseFrom t es
+    → AllByRecursion (λ e. e.timestamp ≤ most) es
     → t + length es ≤ most
 few_entries t most [] within rise past = omega arith
 few_entries t most (e ∷ es) within rise past =
@@ -75,19 +77,28 @@ few_entries t most (e ∷ es) within rise past =
 
 few_events : (h : History) → sound.IsSound h → length (events h) ≤ max_timestamp
 few_events h is =
-    omega (arith, length-map h.entries (event_of h), few_entries 0 h.last h.entries (omega arith) is.rising is.past, is.within)
+    omega (
+      arith,
+      length-map h.entries (event_of h),
+      few_entries 0 h.last h.entries (omega arith) is.rising is.past,
+      is.within,
+    )
 
 -- ---- what is heard of a queue
 
 -- of events alone each is heard
 heard_more : (before : List Item) (es : List Event) → list_any is_end before ≡ false
-    → fold next (record { items = before; closed = false }) (map OfEvent es) ≡ record { items = before ++ map OfEvent es; closed = false }
-heard_more before [] none = ap (λ (items : List Item). record { items = items; closed = false }) (sym (append-nil before))
+    → fold next (record { items = before; closed = false }) (map OfEvent es)
+    ≡ record { items = before ++ map OfEvent es; closed = false }
+heard_more before [] none =
+    ap (λ (items : List Item). record { items = items; closed = false }) (sym (append-nil before))
 heard_more before (e ∷ es) none =
     ap (λ (b : Bool). fold next (if b then record { items = before; closed = false }
     else record { items = before ++ OfEvent e ∷ []; closed = false }) (map OfEvent es)) none
-    ∙ heard_more (before ++ OfEvent e ∷ []) es (list_any-append is_end before (OfEvent e ∷ []) ∙ ap (λ b. b || false) none)
-    ∙ ap (λ (items : List Item). record { items = items; closed = false }) (append_assoc before (OfEvent e ∷ []) (map OfEvent es))
+    ∙ heard_more (before ++ OfEvent e ∷ []) es
+    (list_any-append is_end before (OfEvent e ∷ []) ∙ ap (λ b. b || false) none)
+    ∙ ap (λ (items : List Item). record { items = items; closed = false })
+    (append_assoc before (OfEvent e ∷ []) (map OfEvent es))
 
 no_end : (es : List Event) → list_any is_end (map OfEvent es) ≡ false
 no_end [] = refl
@@ -105,12 +116,14 @@ heard_line es =
     ∙ ap (λ (b : Bool). if b then record { items = map OfEvent es; closed = false }
     else record { items = map OfEvent es ++ EndMark ∷ []; closed = false }) (no_end es)
 
-queue_events : (binding : Arguments) (es : List Event) → filter (takes_item binding) (map OfEvent es) ≡ map OfEvent (feed es binding)
+queue_events : (binding : Arguments) (es : List Event)
+    → filter (takes_item binding) (map OfEvent es) ≡ map OfEvent (feed es binding)
 queue_events binding [] = refl
 queue_events binding (e ∷ es) = kept_or_not (takes_event binding e) (queue_events binding es)
   where
     kept_or_not : (b : Bool) → filter (takes_item binding) (map OfEvent es) ≡ map OfEvent (feed es binding)
-        → (if b then OfEvent e ∷ filter (takes_item binding) (map OfEvent es) else filter (takes_item binding) (map OfEvent es))
+        → (if b then OfEvent e ∷ filter (takes_item binding) (map OfEvent es)
+        else filter (takes_item binding) (map OfEvent es))
         ≡ map OfEvent (if b then e ∷ feed es binding else feed es binding)
     kept_or_not true rest = ap (λ items. OfEvent e ∷ items) rest
     kept_or_not false rest = rest
@@ -122,7 +135,8 @@ queue_line es binding =
     ∙ ap (λ items. items ++ EndMark ∷ []) (queue_events binding es)
 
 -- what is kept of events that rise, and the end
-kept_line : (es : List Event) → TimestampsRise es → length es ≤ 2 ^ 64 - 1 → kept_of (record { items = line_of es; closed = false })
+kept_line : (es : List Event) → TimestampsRise es → length es ≤ 2 ^ 64 - 1
+    → kept_of (record { items = line_of es; closed = false })
     ≡ record { book = book_of es; last = last_timestamp es; applied = length es; ended = true; closed = false }
 kept_line es rise few =
     let applied : rises (events_of (line_of es)) ≡ es =
@@ -148,7 +162,8 @@ length_filter : (p : Event → Bool) (es : List Event) → length (filter p es) 
 length_filter p [] = omega arith
 length_filter p (e ∷ es) = kept_or_not (p e) (length_filter p es)
   where
-    kept_or_not : (b : Bool) → length (filter p es) ≤ length es → length (if b then e ∷ filter p es else filter p es) ≤ length (e ∷ es)
+    kept_or_not : (b : Bool) → length (filter p es) ≤ length es
+        → length (if b then e ∷ filter p es else filter p es) ≤ length (e ∷ es)
     kept_or_not true rest = omega (arith, rest)
     kept_or_not false rest = omega (arith, rest)
 

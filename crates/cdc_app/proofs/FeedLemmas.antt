@@ -34,13 +34,15 @@ filled-push : (items : List Item) (item : Item) (binding : Arguments)
     → queued item (filled items binding) ≡ filled (items ++ item ∷ []) binding
 filled-push items item binding =
     filled_if (takes_item binding item) item (filled items binding)
-    ∙ ap (λ (xs : List Item). record (empty_queue binding) { items = xs }) (sym (filter-append (takes_item binding) items (item ∷ [])))
+    ∙ ap (λ (xs : List Item). record (empty_queue binding) { items = xs })
+    (sym (filter-append (takes_item binding) items (item ∷ [])))
 
 -- one more item of all queues
 pub filled_queues-push : (items : List Item) (item : Item) (bindings : List Arguments)
     → map (queued item) (filled_queues items bindings) ≡ filled_queues (items ++ item ∷ []) bindings
 filled_queues-push items item [] = refl
-filled_queues-push items item (b ∷ rest) = ap₂ (λ q qs. q ∷ qs) (filled-push items item b) (filled_queues-push items item rest)
+filled_queues-push items item (b ∷ rest) =
+    ap₂ (λ q qs. q ∷ qs) (filled-push items item b) (filled_queues-push items item rest)
 
 -- a broker to which the first events were published
 pub record IsFilled (told : List Event) (bindings : List Arguments) (place : ℕ) (broker : BrokerState) : Type 0 where
@@ -49,7 +51,8 @@ pub record IsFilled (told : List Event) (bindings : List Arguments) (place : ℕ
   pub queues : broker.queues ≡ filled_queues (map OfEvent (take place told)) bindings
 
 -- under the first connection, before anything is published
-pub IsFilled-connected : (told : List Event) (bindings : List Arguments) (b : Bool) (s s' : BrokerState) → s ≡ empty_broker bindings
+pub IsFilled-connected : (told : List Event) (bindings : List Arguments) (b : Bool) (s s' : BrokerState)
+    → s ≡ empty_broker bindings
     → (IsTrue b ↔ (s.connection < 1)) → s' ≡ (if b then connected 1 s else s) → IsFilled told bindings 0 s'
 IsFilled-connected told bindings true s s' new taken is = record {
   connection = ap (λ (x : BrokerState). x.connection) is;
@@ -62,7 +65,8 @@ IsFilled-connected told bindings false s s' new taken is =
 
 -- one more item was published
 published-queues : (tag : ℕ) (item : Item) (items : List Item) (bindings : List Arguments) (s s' : BrokerState)
-    → s.queues ≡ filled_queues items bindings → s' ≡ published tag item s → s'.queues ≡ filled_queues (items ++ item ∷ []) bindings
+    → s.queues ≡ filled_queues items bindings → s' ≡ published tag item s
+    → s'.queues ≡ filled_queues (items ++ item ∷ []) bindings
 published-queues tag item items bindings s s' before is =
     ap (λ (x : BrokerState). x.queues) is ∙ ap (map (queued item)) before ∙ filled_queues-push items item bindings
 
@@ -79,7 +83,8 @@ IsFilled-more told bindings place event s s' small filled found is = record {
 }
 
 -- the end mark, after all events
-pub queues_whole : (told : List Event) (bindings : List Arguments) (place tag : ℕ) (s s' : BrokerState) → length told ≤ place
+pub queues_whole : (told : List Event) (bindings : List Arguments) (place tag : ℕ) (s s' : BrokerState)
+    → length told ≤ place
     → IsFilled told bindings place s → s' ≡ published tag EndMark s
     → s'.queues ≡ filled_queues (map OfEvent told ++ EndMark ∷ []) bindings
 queues_whole told bindings place tag s s' all filled is =
@@ -87,7 +92,8 @@ queues_whole told bindings place tag s s' all filled is =
     ∙ ap (λ xs. filled_queues (map OfEvent xs ++ EndMark ∷ []) bindings) (take_all place told all)
 
 -- the queue that was put into its place
-pub queue_of-with_queue : (s : BrokerState) (i : ℕ) (q : QueueState) → i - 1 < length s.queues → queue_of (with_queue i q s) i ≡ q
+pub queue_of-with_queue : (s : BrokerState) (i : ℕ) (q : QueueState) → i - 1 < length s.queues
+    → queue_of (with_queue i q s) i ≡ q
 queue_of-with_queue s i q inside =
     unwrap_or-slice_get (slice_set s.queues (i - 1) q) (i - 1) (empty_queue nobody)
     ∙ get_or-set_same s.queues (i - 1) q (empty_queue nobody) inside
@@ -97,7 +103,8 @@ with_queue_same s i = ap (λ (qs : List QueueState). record s { queues = qs })
     (ap (λ q. slice_set s.queues (i - 1) q) (unwrap_or-slice_get s.queues (i - 1) (empty_queue nobody))
     ∙ set-get_or s.queues (i - 1) (empty_queue nobody))
 
-pub with_queue_twice : (s : BrokerState) (i : ℕ) (p q : QueueState) → with_queue i q (with_queue i p s) ≡ with_queue i q s
+pub with_queue_twice : (s : BrokerState) (i : ℕ) (p q : QueueState)
+    → with_queue i q (with_queue i p s) ≡ with_queue i q s
 with_queue_twice s i p q = ap (λ (qs : List QueueState). record s { queues = qs }) (set-set s.queues (i - 1) p q)
 
 -- a subscriber that has taken the first items of a queue
@@ -108,7 +115,8 @@ pub record IsTaking (i counter : ℕ) (old now : BrokerState) (subscriber : Kept
   pub cursor : queue.cursor ≡ counter + 1
   pub heard : subscriber ≡ kept_of (hearing (take counter (queue_of old i).items))
 
-pub IsTaking-none : (i : ℕ) (old : BrokerState) (subscriber : Kept) → (queue_of old i).cursor ≡ 1 → subscriber ≡ kept_of nothing
+pub IsTaking-none : (i : ℕ) (old : BrokerState) (subscriber : Kept) → (queue_of old i).cursor ≡ 1
+    → subscriber ≡ kept_of nothing
     → IsTaking i 0 old old subscriber
 IsTaking-none i old subscriber untaken new = record {
   queue = queue_of old i;
@@ -130,7 +138,8 @@ next_at q counter item at found =
 hearing-push : (items : List Item) (item : Item) → hearing (items ++ item ∷ []) ≡ next (hearing items) item
 hearing-push items item = fold-append next nothing items (item ∷ [])
 
-pub IsTaking-more : (i counter : ℕ) (old now new : BrokerState) (before after : Kept) (item : Item) → i - 1 < length old.queues
+pub IsTaking-more : (i counter : ℕ) (old now new : BrokerState) (before after : Kept) (item : Item)
+    → i - 1 < length old.queues
     → IsTaking i counter old now before → slice_get (queue_of old i).items counter ≡ Some item
     → TakesNext i now new before after → IsTaking i (counter + 1) old new after
 IsTaking-more i counter old now new before after item inside taking found takes =
@@ -143,12 +152,14 @@ IsTaking-more i counter old now new before after item inside taking found takes 
       queue = moved_on (Some (record { position = q.cursor; item = item })) q;
       now_is = takes.0
           ∙ ap₂ (λ (d : Option Delivery) (x : QueueState). with_queue i (moved_on d x) now) given this
-          ∙ ap (λ (s : BrokerState). with_queue i (moved_on (Some (record { position = q.cursor; item = item })) q) s) taking.now_is
+          ∙ ap (λ (s : BrokerState). with_queue i (moved_on (Some (record { position = q.cursor; item = item })) q) s)
+          taking.now_is
           ∙ with_queue_twice old i q _;
       items = taking.items;
       cursor = ap (λ n. n + 1) taking.cursor;
       heard = takes.1 (hearing (take counter (queue_of old i).items)) taking.heard
-          ∙ ap (λ (d : Option Delivery). kept_of (with_delivery d (hearing (take counter (queue_of old i).items)))) given
+          ∙ ap (λ (d : Option Delivery). kept_of (with_delivery d (hearing (take counter (queue_of old i).items))))
+          given
           ∙ ap kept_of (sym (hearing-push (take counter (queue_of old i).items) item))
           ∙ ap (λ xs. kept_of (hearing xs)) (sym (take_found (queue_of old i).items counter item found));
     }

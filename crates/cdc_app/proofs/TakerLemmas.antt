@@ -17,7 +17,8 @@ use Rattle.std.proofs.lemmas.List.Elements.{All-map}
 
 -- one more queue
 takers_text-push : (n : ℕ) (queues : List QueueState) (q : QueueState)
-    → takers_text n (queues ++ q ∷ []) ≡ takers_text n queues ++ subscriber_text (n + length queues) (kept_of (hearing q.items))
+    → takers_text n (queues ++ q ∷ [])
+    ≡ takers_text n queues ++ subscriber_text (n + length queues) (kept_of (hearing q.items))
 takers_text-push n [] q =
     append-nil (subscriber_text n (kept_of (hearing q.items)))
     ∙ ap (λ k. subscriber_text k (kept_of (hearing q.items))) (omega arith)
@@ -44,18 +45,21 @@ queue_of_next place all s old new inside printed =
     let within : place < length s.queues = omega (arith, printed.count) in
     let heads : get_or s.queues place (empty_queue nobody) ∷ drop (place + 1) s.queues
     ≡ get_or all place (empty_queue nobody) ∷ drop (place + 1) all =
-    sym (drop_more s.queues place (empty_queue nobody) within) ∙ printed.rest ∙ drop_more all place (empty_queue nobody) inside in
+    sym (drop_more s.queues place (empty_queue nobody) within) ∙ printed.rest
+    ∙ drop_more all place (empty_queue nobody) inside in
     let same : get_or s.queues place (empty_queue nobody) ≡ get_or all place (empty_queue nobody) = cc in
     unwrap_or-slice_get s.queues (place + 1 - 1) (empty_queue nobody)
     ∙ ap (λ k. get_or s.queues k (empty_queue nobody)) place' ∙ same
 
-pub IsUntaken_next : (place : ℕ) (all : List QueueState) (s : BrokerState) (old new : List ℕ) → place < length all → All IsUntaken all
+pub IsUntaken_next : (place : ℕ) (all : List QueueState) (s : BrokerState) (old new : List ℕ) → place < length all
+    → All IsUntaken all
     → ArePrinted place all s.queues old new → IsUntaken (queue_of s (place + 1))
 IsUntaken_next place all s old new inside untaken printed =
     subst IsUntaken (sym (queue_of_next place all s old new inside printed)) (untaken place (empty_queue nobody) inside)
 
 -- one more queue is taken, and its subscriber printed
-pub ArePrinted-more : (place : ℕ) (all : List QueueState) (s s' : BrokerState) (old new text : List ℕ) (kept : Kept) → place < length all
+pub ArePrinted-more : (place : ℕ) (all : List QueueState) (s s' : BrokerState) (old new text : List ℕ) (kept : Kept)
+    → place < length all
     → ArePrinted place all s.queues old new → ChangesQueue (place + 1) s s'
     → kept ≡ kept_of (hearing (queue_of s (place + 1)).items) → text ≡ new ++ subscriber_text (place + 1) kept
     → ArePrinted (place + 1) all s'.queues old text
@@ -71,7 +75,9 @@ ArePrinted-more place all s s' old new text kept inside printed changes taken ad
     record {
       text = added ∙ ap₂ (λ t k. t ++ subscriber_text (place + 1) k) printed.text whose
           ∙ append_assoc old (takers_text 1 (take place all)) _
-          ∙ ap (λ t. old ++ t) (ap (λ k. takers_text 1 (take place all) ++ subscriber_text k (kept_of (hearing q.items))) (number place all inside)
+          ∙ ap (λ t. old ++ t)
+          (ap (λ k. takers_text 1 (take place all) ++ subscriber_text k (kept_of (hearing q.items)))
+          (number place all inside)
           ∙ sym (takers_text-push 1 (take place all) q)
           ∙ ap (takers_text 1) (sym (take_more all place (empty_queue nobody) inside)));
       rest = ap (drop (place + 1)) queues ∙ drop-set-lt (place + 1) s.queues place changes.0 (omega arith) ∙ behind;
@@ -87,7 +93,8 @@ ArePrinted-more place all s s' old new text kept inside printed changes taken ad
         let within : place < length s.queues = omega (arith, printed.count) in
         let heads : get_or s.queues place (empty_queue nobody) ∷ drop (place + 1) s.queues
         ≡ get_or all place (empty_queue nobody) ∷ drop (place + 1) all =
-        sym (drop_more s.queues place (empty_queue nobody) within) ∙ printed.rest ∙ drop_more all place (empty_queue nobody) inside in
+        sym (drop_more s.queues place (empty_queue nobody) within) ∙ printed.rest
+        ∙ drop_more all place (empty_queue nobody) inside in
         cc
 
 -- queues that were filled and not taken

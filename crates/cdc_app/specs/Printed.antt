@@ -40,8 +40,8 @@ history_after h batches = after_batches features h (map (λ b. b.batch) batches)
 abbrev pub history_of : Script → History
 history_of script = record (history_after empty_history script.batches) { closed = true }
 
--- what `books` prints: the lines of the batches, and then those of the subscribers, each of which has taken its queue of
--- the closed ledger's events and the end mark
+-- what `books` prints: the lines of the batches, and then those of the subscribers, each of which has taken its queue
+-- of the closed ledger's events and the end mark
 abbrev pub printed_books : Script → List ℕ
 printed_books script =
     batch_lines 1 empty_history script.batches

@@ -41,4 +41,5 @@ with_delivery (Some delivery) heard = next heard delivery.item
 abbrev pub TakesNext : ℕ → BrokerState → BrokerState → Kept → Kept → Type 0
 TakesNext i old new before after =
     (new ≡ with_queue i (moved_on (next_delivery (queue_of old i)) (queue_of old i)) old)
-    × ((heard : Heard) → before ≡ kept_of heard → after ≡ kept_of (with_delivery (next_delivery (queue_of old i)) heard))
+    × ((heard : Heard) → before ≡ kept_of heard
+    → after ≡ kept_of (with_delivery (next_delivery (queue_of old i)) heard))

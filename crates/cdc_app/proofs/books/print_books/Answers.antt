@@ -13,16 +13,19 @@ use Rattle.cdc_app.proofs.books.print_books.Goals as goal
 
 pub publish_log-requires : goal.publish_log-requires
 publish_log-requires c =
-    let told : c.log.result.now.events ≡ events (history_of c.args.script) = c.log.ensures ∙ ap events c.in_ok-ledger.ensures.ledger in
+    let told : c.log.result.now.events ≡ events (history_of c.args.script) =
+    c.log.ensures ∙ ap events c.in_ok-ledger.ensures.ledger in
     subst (λ (es : List Event). length es < 2 ^ 63) (sym told) (few_of_script c.args.script)
 
 pub push_subscribers-requires : goal.push_subscribers-requires
 push_subscribers-requires c =
-    IsUntaken-filled (line_of c.log.result.now.events) c.into_vec.result.items c.in_ok-broker.broker.queues c.in_ok-broker.ensures
+    IsUntaken-filled (line_of c.log.result.now.events) c.into_vec.result.items c.in_ok-broker.broker.queues
+    c.in_ok-broker.ensures
 
 pub returns : goal.returns
 returns c =
-    let told : c.log.result.now.events ≡ events (history_of c.args.script) = c.log.ensures ∙ ap events c.in_ok-ledger.ensures.ledger in
+    let told : c.log.result.now.events ≡ events (history_of c.args.script) =
+    c.log.ensures ∙ ap events c.in_ok-ledger.ensures.ledger in
     let lines : c.into_bytes-text.result.items ≡ batch_lines 1 empty_history c.args.script.batches =
     ap (λ v. v.items) c.into_bytes-text.ensures.value ∙ c.in_ok-ledger.ensures.lines in
     let takers : takers_text 1 c.in_ok-broker.broker.queues

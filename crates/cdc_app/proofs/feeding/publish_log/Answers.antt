@@ -10,7 +10,8 @@ use Rattle.cdc_app.proofs.feeding.publish_log.Goals.{in-Some+in_ok-message+in_ok
 
 pub loop-place-init : goal.loop-place-init
 loop-place-init c =
-    IsFilled-connected c.args.log.now.events c.args.bindings.items c.connect.result c.in_ok-broker.broker c.connect.new.self
+    IsFilled-connected c.args.log.now.events c.args.bindings.items c.connect.result c.in_ok-broker.broker
+    c.connect.new.self
     c.in_ok-broker.ensures.state c.connect.ensures.answer c.connect.ensures.state
 
 pub loop-place-preserved : goal.loop-place-preserved
@@ -19,10 +20,12 @@ loop-place-preserved c =
       | in-Some+in_ok-message+in_ok-publish w ↦
           let events = c.args.log.now.events in
           let few : c.loop-place.place + 2 < max_64 = omega (arith, c.len-place-end.ensures, c.requires) in
-          IsFilled-more events c.args.bindings.items c.loop-place.place w.in-Some.event.now c.loop-place.broker c.match-get.broker
+          IsFilled-more events c.args.bindings.items c.loop-place.place w.in-Some.event.now c.loop-place.broker
+          c.match-get.broker
           few c.loop-place.invariant (sym w.in-Some.ensures)
           (w.broker-is ∙ w.in_ok-publish.ensures
-          ∙ ap (λ (e : Event). published (c.loop-place.place + 1) (OfEvent e) c.loop-place.broker) w.in_ok-message.ensures)
+          ∙ ap (λ (e : Event). published (c.loop-place.place + 1) (OfEvent e) c.loop-place.broker)
+          w.in_ok-message.ensures)
       | in_default w ↦
           absurd (found_within c.args.log.now.events c.loop-place.place (omega (arith, c.len-place-end.ensures))
           (sym w.in_default.ensures))
@@ -32,5 +35,6 @@ pub returns : goal.returns
 returns c =
     let events = c.args.log.now.events in
     let all : length events ≤ c.loop-place.place = omega (arith, c.len-place-end.ensures) in
-    queues_whole events c.args.bindings.items c.loop-place.place (c.len.result + 1) c.loop-place.broker c.publish-2.new.broker all
+    queues_whole events c.args.bindings.items c.loop-place.place (c.len.result + 1) c.loop-place.broker
+    c.publish-2.new.broker all
     c.loop-place.invariant c.in_ok-publish-2.ensures

@@ -9,13 +9,14 @@ pub loop-place-preserved : goal.loop-place-preserved
 loop-place-preserved c =
     let all = c.args.broker.now.queues in
     let inside : c.loop-place.place < length all = omega (arith, c.queue_count-place-end.ensures) in
-    ArePrinted-more c.loop-place.place all c.loop-place.broker c.take_queue.new.broker c.args.text.now.items c.loop-place.text.items
-    c.print_subscriber.new.text.items c.in_ok-subscriber.subscriber inside c.loop-place.invariant c.in_ok-subscriber.ensures.others
-    c.in_ok-subscriber.ensures.subscriber c.in_ok-print_subscriber.ensures
+    ArePrinted-more c.loop-place.place all c.loop-place.broker c.take_queue.new.broker c.args.text.now.items
+    c.loop-place.text.items c.print_subscriber.new.text.items c.in_ok-subscriber.subscriber inside
+    c.loop-place.invariant c.in_ok-subscriber.ensures.others c.in_ok-subscriber.ensures.subscriber
+    c.in_ok-print_subscriber.ensures
 
 pub take_queue-requires-clause-untaken : goal.take_queue-requires-clause-untaken
 take_queue-requires-clause-untaken c =
     let all = c.args.broker.now.queues in
     let inside : c.loop-place.place < length all = omega (arith, c.queue_count-place-end.ensures) in
-    IsUntaken_next c.loop-place.place all c.loop-place.broker c.args.text.now.items c.loop-place.text.items inside c.requires
-    c.loop-place.invariant
+    IsUntaken_next c.loop-place.place all c.loop-place.broker c.args.text.now.items c.loop-place.text.items inside
+    c.requires c.loop-place.invariant

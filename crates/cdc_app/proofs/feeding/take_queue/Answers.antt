@@ -6,7 +6,8 @@ use Rattle.cdc_app.proofs.Places.{found_at}
 use Rattle.cdc_app.proofs.feeding.take_queue.Goals as goal
 
 pub loop-init : goal.loop-init
-loop-init c = IsTaking-none c.args.i c.args.broker.now c.new-subscriber.result c.requires.untaken c.new-subscriber.ensures
+loop-init c =
+    IsTaking-none c.args.i c.args.broker.now c.new-subscriber.result c.requires.untaken c.new-subscriber.ensures
 
 pub take_next-requires-clause-last : goal.take_next-requires-clause-last
 take_next-requires-clause-last c =
