@@ -11,7 +11,7 @@ use Rattle.std.specs.List.{AllByRecursion, flat_map}
 use Rattle.cdc_types.specs.declared.accounts.Balances.{Balances}
 use Rattle.cdc_types.specs.declared.events.Entry.{Entry}
 use Rattle.cdc_types.specs.declared.events.Event.{Event}
-use Rattle.cdc_log.specs.Log.{last_from, last_timestamp_of}
+use Rattle.cdc_types.specs.Timestamps.{last_timestamp_from, last_timestamp}
 use Rattle.cdc_ledger.specs.History.{Opened, History, opened}
 use Rattle.cdc_ledger.specs.Balances.{balances}
 use Rattle.cdc_ledger.specs.Events.{events, event_of, nobody}
@@ -120,18 +120,19 @@ ShowsLast-followed all h (e ∷ es) whole shows within rise sides known =
     rw append_assoc at rest
 
 -- the moment of the last event is where the entries end
-last_from-events : (h : History) (t : ℕ) (es : List Entry) → last_from t (map (event_of h) es) ≡ end_of t es
-last_from-events h t [] = refl
-last_from-events h t (e ∷ es) = last_from-events h e.timestamp es
+last_timestamp_from-events : (h : History) (t : ℕ) (es : List Entry)
+    → last_timestamp_from t (map (event_of h) es) ≡ end_of t es
+last_timestamp_from-events h t [] = refl
+last_timestamp_from-events h t (e ∷ es) = last_timestamp_from-events h e.timestamp es
 
 -- what each account's last event shows are the ledger's balances as of the last event
 seen-as_of : (h : History) → IsSound h → (id : ℕ) (b : BookEntry) → seen id (events h) ≡ Some b
-    → b ≡ entry_as_of h (last_timestamp_of (events h)) id
+    → b ≡ entry_as_of h (last_timestamp (events h)) id
 seen-as_of h sound id b found =
     let start : History = record h { entries = []; last = 0 } in
     let shows = ShowsLast-followed h.entries start h.entries refl (λ n c none. cc) tt sound.rising
     (sides_of_all h sound) sound.known in
-    rw (last_from-events h 0 h.entries) (shows id b found)
+    rw (last_timestamp_from-events h 0 h.entries) (shows id b found)
 
 -- what holds of numbers holds of their first appearances
 fold_appearances : (P : ℕ → Type 0) (had ids : List ℕ) → AllByRecursion P had → AllByRecursion P ids
@@ -172,15 +173,15 @@ all_found (x ∷ rest) = (
 
 -- the book of a ledger's events holds, for each account that they have, the ledger's balances as of the last of them
 pub book_of-events : (h : History) → IsSound h
-    → book_of (events h) ≡ map (entry_as_of h (last_timestamp_of (events h))) (accounts_of (events h))
+    → book_of (events h) ≡ map (entry_as_of h (last_timestamp (events h))) (accounts_of (events h))
 book_of-events h sound =
     map_same _ _ (accounts_of (events h))
     (AllByRecursion-weaker (λ id. IsSome (seen id (events h)))
-    (λ id. last_shown (flat_map sides (events h)) id ≡ entry_as_of h (last_timestamp_of (events h)) id)
+    (λ id. last_shown (flat_map sides (events h)) id ≡ entry_as_of h (last_timestamp (events h)) id)
     (λ id found. same id (seen id (events h)) refl found) (accounts_of (events h))
     (fold_appearances (λ id. IsSome (seen id (events h))) [] _ tt (all_found (flat_map sides (events h)))))
   where
     same : (id : ℕ) (o : Option BookEntry) → seen id (events h) ≡ o → IsSome o
-        → last_shown (flat_map sides (events h)) id ≡ entry_as_of h (last_timestamp_of (events h)) id
+        → last_shown (flat_map sides (events h)) id ≡ entry_as_of h (last_timestamp (events h)) id
     same id None is found = cc
     same id (Some b) is found = rw is (seen-as_of h sound id b is)

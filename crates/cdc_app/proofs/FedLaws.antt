@@ -9,18 +9,19 @@ use Rattle.std.proofs.lemmas.List.Sums.{fold-append}
 use Rattle.cdc_types.specs.declared.batches.Batch.{Batch}
 use Rattle.cdc_types.specs.declared.events.Entry.{Entry}
 use Rattle.cdc_types.specs.declared.events.Event.{Event}
+use Rattle.cdc_types.specs.Timestamps.{last_timestamp}
 use Rattle.cdc_ledger.specs.Events.{event_of, events}
 use Rattle.cdc_ledger.specs.History.{History, empty_history}
 use Rattle.cdc_ledger.specs.Sound as sound
 use Rattle.cdc_ledger.specs.Verdict.{max_timestamp}
 use Rattle.cdc_ledger.proofs.KeptLaws.{IsSound-after_batches}
 use Rattle.cdc_ledger.proofs.SoundLaws.{IsSound-empty, IsSound-closed}
-use Rattle.cdc_log.specs.Log.{RiseFrom, last_from, last_timestamp_of}
+use Rattle.cdc_log.specs.Log.{RiseFrom}
 use Rattle.cdc_match.specs.Arguments.{Arguments}
 use Rattle.cdc_match.specs.Queue.{feed, queue, takes_event, takes_item}
 use Rattle.cdc_message.specs.declared.items.Item.{Item}
 use Rattle.cdc_message.specs.declared.items.Item.TheVariants.{Event as OfEvent, EndMark}
-use Rattle.cdc_message.specs.Items.{TimestampsRise, events_of, last_timestamp, last_timestamp_from, rises}
+use Rattle.cdc_message.specs.Items.{TimestampsRise, events_of, rises}
 use Rattle.cdc_message.proofs.LineLaws.{events_of-map, rises-rising}
 use Rattle.cdc_message.proofs.RisesLaws.{events_of-push_end}
 use Rattle.cdc_subscriber.specs.Book.{accounts_of, book_of}
@@ -185,15 +186,11 @@ every_one : (es : List Event) → feed es every_event ≡ es
 every_one [] = refl
 every_one (e ∷ es) = ap (λ more. e ∷ more) (every_one es)
 
-same_last : (t : ℕ) (es : List Event) → last_from t es ≡ last_timestamp_from t es
-same_last t [] = refl
-same_last t (e ∷ es) = same_last e.timestamp es
-
 pub holds_balances : (script : Script) → HoldsBalances (history_of script)
 holds_balances script =
     let h : History = history_of script in
     let whole = whole_feeds script every_event in
-    let last : (fed (line_of (events h)) every_event).last ≡ last_timestamp_of (events h) =
-    ap (λ (k : Kept). k.last) whole ∙ ap last_timestamp (every_one (events h)) ∙ sym (same_last 0 (events h)) in
+    let last : (fed (line_of (events h)) every_event).last ≡ last_timestamp (events h) =
+    ap (λ (k : Kept). k.last) whole ∙ ap last_timestamp (every_one (events h)) in
     ap (λ (k : Kept). k.book) whole ∙ ap book_of (every_one (events h)) ∙ book_of-events h (sound_script script)
     ∙ ap (λ t. map (entry_as_of h t) (accounts_of (events h))) (sym last)

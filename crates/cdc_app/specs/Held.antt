@@ -1,12 +1,12 @@
 -- What the subscribers of a closed ledger hold.
 use Rattle.std.specs.Prelude.{◌≡◌, ℕ, true, false, [], length, map}
+use Rattle.cdc_types.specs.Timestamps.{last_timestamp}
 use Rattle.cdc_ledger.specs.Balances.{as_of}
 use Rattle.cdc_ledger.specs.Events.{events}
 use Rattle.cdc_ledger.specs.History.{History}
 use Rattle.cdc_match.specs.declared.pairs.Mode.TheVariants.{All}
 use Rattle.cdc_match.specs.Arguments.{Arguments}
 use Rattle.cdc_match.specs.Queue.{feed}
-use Rattle.cdc_message.specs.Items.{last_timestamp}
 use Rattle.cdc_subscriber.specs.declared.book.BookEntry.{BookEntry}
 use Rattle.cdc_subscriber.specs.Book.{book_of, accounts_of}
 use Rattle.cdc_subscriber.specs.Kept.{Kept}

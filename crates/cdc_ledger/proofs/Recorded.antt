@@ -12,7 +12,7 @@ use Rattle.cdc_types.specs.declared.events.Entry.{Entry}
 use Rattle.cdc_types.specs.declared.events.Event.{Event}
 use Rattle.cdc_types.specs.declared.events.EventAccount.{EventAccount}
 use Rattle.cdc_types.specs.Shapes.{max_128}
-use Rattle.cdc_log.specs.Log.{last_from, last_timestamp_of}
+use Rattle.cdc_types.specs.Timestamps.{last_timestamp_from, last_timestamp}
 use Rattle.cdc_ledger.specs.declared.movements.Movement.{Movement}
 use Rattle.cdc_ledger.specs.declared.tables.Tables.{Tables}
 use Rattle.cdc_ledger.specs.Accounts.{opened_as, no_balances, shown_as, shown_in, event_from}
@@ -164,16 +164,17 @@ accounts-recorded t m kept follows after settled =
     ∙ ap (map (account_changed (effect_of (history_of t) m.entry) d c)) kept.balanced
     ∙ sym (accounts_now-pushed (history_of t) m.entry kept.sound follows after)
 
-last_from-events : (h : History) (s : ℕ) (es : List Entry) → s ≤ h.last → AllByRecursion (λ e. e.timestamp ≤ h.last) es
-    → last_from s (map (event_of h) es) ≤ h.last
-last_from-events h s [] before all = before
-last_from-events h s (e ∷ es) before all = last_from-events h e.timestamp es all.0 all.1
+last_timestamp_from-events : (h : History) (s : ℕ) (es : List Entry) → s ≤ h.last
+    → AllByRecursion (λ e. e.timestamp ≤ h.last) es → last_timestamp_from s (map (event_of h) es) ≤ h.last
+last_timestamp_from-events h s [] before all = before
+last_timestamp_from-events h s (e ∷ es) before all = last_timestamp_from-events h e.timestamp es all.0 all.1
 
 -- no event is past the last timestamp
-pub last_timestamp_of-kept : (t : Tables) → IsKept t → last_timestamp_of t.log.events ≤ t.last
-last_timestamp_of-kept t kept =
-    let P : List Event → Type 0 = λ told. last_timestamp_of told ≤ t.last in
-    subst P (sym kept.logged) (last_from-events (history_of t) 0 t.entries.items (omega arith) kept.sound.past)
+pub last_timestamp-kept : (t : Tables) → IsKept t → last_timestamp t.log.events ≤ t.last
+last_timestamp-kept t kept =
+    let P : List Event → Type 0 = λ told. last_timestamp told ≤ t.last in
+    subst P (sym kept.logged)
+    (last_timestamp_from-events (history_of t) 0 t.entries.items (omega arith) kept.sound.past)
 
 -- the vector after its elements were mapped in place
 pub items-with_items : {X Z : Type 0} (v : Vec X Z) (f : X → X) (ws xs : List X) → ws ≡ map f xs → xs ≡ v.items

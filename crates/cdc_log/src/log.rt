@@ -32,7 +32,8 @@ impl Model for EventLog {
 impl EventLog {
     ghost use Rattle.std.specs.Prelude.{◌≡◌, ◌+◌, ◌<◌, ◌≤◌, [], ◌∷◌, ◌++◌, length, slice_get, take, IfOk, OnOk, OnErr, ◌==◌};
     ghost use Rattle.std.specs.Option.{option_copied};
-    ghost use Rattle.cdc_log.specs.Log.{events_after, last_timestamp_of, RiseFrom};
+    ghost use Rattle.cdc_types.specs.Timestamps.{last_timestamp};
+    ghost use Rattle.cdc_log.specs.Log.{events_after, RiseFrom};
 
     /// A log with no event and no room.
     pub fn new(alloc: Global) -> EventLog
@@ -62,9 +63,9 @@ impl EventLog {
     /// Appends an event, which can't fail where there is room for it.
     pub fn push(&mut self, event: Event)
         requires room { 0 < self.old.room }
-        requires later { last_timestamp_of self.old.events < event.timestamp }
+        requires later { last_timestamp self.old.events < event.timestamp }
         ensures events { self.new.events ≡ self.old.events ++ event ∷ [] }
-        ensures last { last_timestamp_of self.new.events ≡ event.timestamp }
+        ensures last { last_timestamp self.new.events ≡ event.timestamp }
         ensures room { self.new.room + 1 ≡ self.old.room }
     {
         self.events.push_reserved(event);
@@ -79,7 +80,7 @@ impl EventLog {
 
     /// The timestamp of the last event, or 0 where there is none.
     pub fn last_timestamp(&self) -> u64
-        ensures last { result ≡ last_timestamp_of self.now.events }
+        ensures last { result ≡ last_timestamp self.now.events }
         ensures rising { RiseFrom 0 self.now.events }
     {
         match self.events.last() {

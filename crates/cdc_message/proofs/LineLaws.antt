@@ -7,9 +7,10 @@ use Rattle.std.proofs.lemmas.List.{append-nil, append_assoc, length-map, get_or-
 use Rattle.std.proofs.lemmas.List.Elements.{All-push}
 use Rattle.std.proofs.lemmas.List.Quantifiers.{all_pairs_push}
 use Rattle.cdc_types.specs.declared.events.Event.{Event}
+use Rattle.cdc_types.specs.Timestamps.{last_timestamp_from, last_timestamp}
 use Rattle.cdc_message.specs.declared.items.Item.{Item}
 use Rattle.cdc_message.specs.declared.items.Item.TheVariants.{Event as OfEvent, EndMark}
-use Rattle.cdc_message.specs.Items.{events_of, same_event, same_item, is_newest, rises, last_timestamp, last_timestamp_from, TimestampsRise}
+use Rattle.cdc_message.specs.Items.{events_of, same_event, same_item, is_newest, rises, TimestampsRise}
 use Rattle.cdc_message.specs.Replays.{IsReplay, IsPrefix, HasNoneTwice, has_same, firsts}
 use Rattle.cdc_message.proofs.ReplayLaws.{IsPrefix-firsts, firsts-all, firsts-push}
 use Rattle.cdc_message.proofs.RisesLaws.{rises-firsts, rises-push, rises-is_newest, rises_after, Decides-is_newest, events_of-append, events_of-push_event, events_of-push_end}

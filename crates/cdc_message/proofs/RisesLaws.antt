@@ -9,9 +9,10 @@ use Rattle.std.proofs.lemmas.List.{append-nil, append_assoc, get_or_append_left,
 use Rattle.std.proofs.lemmas.List.Elements.{All-contains, Contains-get_or, filter_map-append}
 use Rattle.std.proofs.lemmas.List.Sums.{fold-append}
 use Rattle.cdc_types.specs.declared.events.Event.{Event}
+use Rattle.cdc_types.specs.Timestamps.{last_timestamp_from, last_timestamp}
 use Rattle.cdc_message.specs.declared.items.Item.{Item}
 use Rattle.cdc_message.specs.declared.items.Item.TheVariants.{Event as OfEvent, EndMark}
-use Rattle.cdc_message.specs.Items.{item_event, events_of, same_item, is_newest, newest_after, rises, last_timestamp_from, last_timestamp, TimestampsRise}
+use Rattle.cdc_message.specs.Items.{item_event, events_of, same_item, is_newest, newest_after, rises, TimestampsRise}
 use Rattle.cdc_message.specs.Replays.{HaveSame, IsReplay, HasNoneTwice, has_same, firsts}
 use Rattle.cdc_message.proofs.ReplayLaws.{HasBegun, HasBegun-replay, firsts-push, Decides-has_same, is_new, next_is, take_next}
 use Rattle.cdc_message.proofs.Same.{Decides-same_item}

@@ -1,5 +1,5 @@
 -- Lists of items: the events in them, and which of these are new by their timestamps.
-use Rattle.std.specs.Prelude.{ℕ, Bool, true, false, ◌&&◌, ◌<◌, nat_lt, Option, Some, None, List, [], ◌∷◌, ◌++◌, All, AllPairs, if◌then◌else◌}
+use Rattle.std.specs.Prelude.{Bool, true, false, ◌&&◌, ◌<◌, nat_lt, Option, Some, None, List, [], ◌∷◌, ◌++◌, All, AllPairs, if◌then◌else◌}
 use Rattle.std.specs.List.{list_all, filter_map}
 use Rattle.cdc_types.specs.contracts.events.EventPartialEq.TheImpl as of_events
 use Rattle.cdc_types.specs.declared.events.Event.{Event}
@@ -40,15 +40,6 @@ newest_after before (event ∷ events) =
 -- the events whose timestamp is above 0 and above that of each event before them
 abbrev pub rises : List Event → List Event
 rises events = newest_after [] events
-
--- the timestamp of the last event, or t where there is none
-abbrev pub last_timestamp_from : ℕ → List Event → ℕ
-last_timestamp_from t [] = t
-last_timestamp_from t (event ∷ events) = last_timestamp_from event.timestamp events
-
--- the timestamp of the last event, or 0
-abbrev pub last_timestamp : List Event → ℕ
-last_timestamp events = last_timestamp_from 0 events
 
 -- timestamps are above 0, and each is above all those before it
 pub record TimestampsRise (events : List Event) : Type 0 where

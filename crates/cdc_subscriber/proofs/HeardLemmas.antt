@@ -4,9 +4,10 @@ use Rattle.std.specs.Prelude.{◌||◌, nat_lt}
 use Rattle.std.proofs.lemmas.Bool.{lt-ltb, le-ltb}
 use Rattle.std.proofs.lemmas.List.Folds.{list_any-append}
 use Rattle.cdc_types.specs.declared.events.Event.{Event}
+use Rattle.cdc_types.specs.Timestamps.{last_timestamp_from, last_timestamp}
 use Rattle.cdc_message.specs.declared.items.Item.{Item}
 use Rattle.cdc_message.specs.declared.items.Item.TheVariants as item
-use Rattle.cdc_message.specs.Items.{events_of, last_timestamp, last_timestamp_from}
+use Rattle.cdc_message.specs.Items.{events_of}
 use Rattle.cdc_message.proofs.RisesLaws.{events_of-push_end, events_of-push_event, rises-push}
 use Rattle.cdc_subscriber.specs.declared.book.BookEntry.{BookEntry}
 use Rattle.cdc_subscriber.specs.declared.subscriber.Taking.{Taking}

@@ -2,10 +2,11 @@
 use Rattle.std.specs.Prelude.{◌-◌, ◌^◌, Bool, true, false, ◌||◌, min, List, [], ◌∷◌, ◌++◌, length, if◌then◌else◌, Result, Ok, Err}
 use Rattle.std.specs.List.{list_any}
 use Rattle.cdc_types.specs.declared.events.Event.{Event}
+use Rattle.cdc_types.specs.Timestamps.{last_timestamp}
 use Rattle.cdc_message.specs.declared.errors.DecodeError.{DecodeError}
 use Rattle.cdc_message.specs.declared.items.Item.{Item}
 use Rattle.cdc_message.specs.declared.items.Item.TheVariants as item
-use Rattle.cdc_message.specs.Items.{events_of, rises, last_timestamp}
+use Rattle.cdc_message.specs.Items.{events_of, rises}
 use Rattle.cdc_subscriber.specs.Book.{book_of}
 use Rattle.cdc_subscriber.specs.Kept.{Kept}
 

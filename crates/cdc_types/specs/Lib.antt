@@ -3,3 +3,4 @@ pub mod Flags
 pub mod Lines
 pub mod Results
 pub mod Shapes
+pub mod Timestamps

@@ -3,13 +3,13 @@ use Rattle.std.specs.Prelude.{All}
 use Rattle.std.specs.Vec.{with_items}
 use Rattle.cdc_types.specs.declared.accounts.Account.{Account}
 use Rattle.cdc_types.specs.declared.events.Event.{Event}
-use Rattle.cdc_log.specs.Log.{last_timestamp_of}
+use Rattle.cdc_types.specs.Timestamps.{last_timestamp}
 use Rattle.cdc_ledger.specs.declared.tables.Tables.{Tables}
 use Rattle.cdc_ledger.specs.Accounts.{event_from}
 use Rattle.cdc_ledger.specs.Effects.{account_changed}
 use Rattle.cdc_ledger.specs.Movements.{Takes, account_ids, accounts_changed, effect_of_movement}
 use Rattle.cdc_ledger.specs.Sound.{AreApart}
-use Rattle.cdc_ledger.proofs.Recorded.{All-Takes, AreApart-kept, IsPlaced-changed, history-recorded, last_timestamp_of-kept, items-with_items, IsKept-recorded}
+use Rattle.cdc_ledger.proofs.Recorded.{All-Takes, AreApart-kept, IsPlaced-changed, history-recorded, last_timestamp-kept, items-with_items, IsKept-recorded}
 use Rattle.cdc_ledger.proofs.tables.Tables.record.Goals as goal
 
 pub apply-requires-clause-unique : goal.apply-requires-clause-unique
@@ -44,9 +44,9 @@ push-requires-clause-later c =
     let t = c.args.self.now in
     let same : c.follow_end.new.self.log.events ≡ t.log.events =
     ap (λ (x : Tables). x.log.events) c.follow_end.ensures.same in
-    let before : last_timestamp_of c.follow_end.new.self.log.events < c.args.movement.now.entry.timestamp =
-    subst (λ (xs : List Event). last_timestamp_of xs < c.args.movement.now.entry.timestamp) (sym same)
-    (omega (arith, last_timestamp_of-kept t c.requires.kept, c.requires.later)) in
+    let before : last_timestamp c.follow_end.new.self.log.events < c.args.movement.now.entry.timestamp =
+    subst (λ (xs : List Event). last_timestamp xs < c.args.movement.now.entry.timestamp) (sym same)
+    (omega (arith, last_timestamp-kept t c.requires.kept, c.requires.later)) in
     rw c.event.ensures before
 
 pub returns-clause-history : goal.returns-clause-history

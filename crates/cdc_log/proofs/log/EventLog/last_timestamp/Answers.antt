@@ -2,7 +2,7 @@ use Rattle.std.proofs.Common.{sym, ap, ◌∙◌, ◌≡◌, length, ◌-◌, su
 use Rattle.std.specs.Prelude.{Some, slice_get}
 use Rattle.cdc_types.specs.declared.events.Event.{Event}
 use Rattle.cdc_log.specs.Log.{Log}
-use Rattle.cdc_log.proofs.Rising.{last_from-slice_get}
+use Rattle.cdc_log.proofs.Rising.{last_timestamp_from-slice_get}
 use Rattle.cdc_log.proofs.log.EventLog.last_timestamp.Goals as goal
 
 pub returns-in-Some-clause-last : goal.returns-in-Some-clause-last
@@ -12,4 +12,4 @@ returns-in-Some-clause-last c =
     let last = c.in-Some.event.now in
     let IsLast = λ (es : List Event). slice_get es (length es - 1) ≡ Some last in
     let found : IsLast c.deref.result.now = sym c.in-Some.ensures.value in
-    sym (last_from-slice_get c.args.self.now.events last (subst IsLast same found))
+    sym (last_timestamp_from-slice_get c.args.self.now.events last (subst IsLast same found))

@@ -1,0 +1,12 @@
+-- The timestamp of the last of a list of events.
+use Rattle.std.specs.Prelude.{ℕ, List, [], ◌∷◌}
+use Rattle.cdc_types.specs.declared.events.Event.{Event}
+
+-- the timestamp of the last event, or t where there is none
+abbrev pub last_timestamp_from : ℕ → List Event → ℕ
+last_timestamp_from t [] = t
+last_timestamp_from t (event ∷ events) = last_timestamp_from event.timestamp events
+
+-- the timestamp of the last event, or 0
+abbrev pub last_timestamp : List Event → ℕ
+last_timestamp events = last_timestamp_from 0 events
