@@ -19,9 +19,9 @@ unsent_count (Some event) = 1
 abbrev pub flag_count : Bool → ℕ
 flag_count flag = if flag then 1 else 0
 
--- how many tags were confirmed: all that were sent but the one that waits
-abbrev pub confirmed_count : Kept → ℕ
-confirmed_count kept = kept.sent - 1 - waiting kept.unconfirmed
+-- how many tags of a course were confirmed: all that were sent but the one that waits
+abbrev pub confirmed_count : Course → Option ℕ → ℕ
+confirmed_count course unconfirmed = tags_sent course - waiting unconfirmed
 
 -- a tag that waits is the last one that was sent
 abbrev pub IsLastTag : ℕ → Option ℕ → Type 0
@@ -37,8 +37,9 @@ pub record StandsFor (kept : Kept) (course : Course) : Type 0 where
   pub sent : kept.sent ≡ course.sent
   pub complete : kept.complete ≡ course.complete
   pub last : kept.last ≡ last_timestamp_from course.base course.offered
-  pub tags : course.confirmed ≡ numbers_from 1 (confirmed_count kept)
-  pub confirmed : kept.confirmed ≡ last_timestamp_from course.base (take (confirmed_count kept) course.offered)
+  pub tags : course.confirmed ≡ numbers_from 1 (confirmed_count course kept.unconfirmed)
+  pub confirmed :
+      kept.confirmed ≡ last_timestamp_from course.base (take (confirmed_count course kept.unconfirmed) course.offered)
   pub count : tags_sent course + unsent_count kept.unsent ≡ length course.offered + flag_count kept.ended
   pub unsent : kept.unsent ≡ slice_get course.offered (tags_sent course)
   pub last_tag : IsLastTag (tags_sent course) kept.unconfirmed

@@ -1,5 +1,5 @@
 -- What a session keeps after each call. Cited by private contracts and proofs alone.
-use Rattle.std.specs.Prelude.{ℕ, ◌+◌, ◌==◌, Bool, ◌&&◌, ◌||◌, not, is_none, is_some, Option, Some, None, List, [], ◌∷◌, if◌then◌else◌}
+use Rattle.std.specs.Prelude.{ℕ, ◌+◌, ◌==◌, Bool, ◌&&◌, ◌||◌, not, is_none, is_some, Option, Some, None, if◌then◌else◌}
 use Rattle.cdc_types.specs.declared.events.Event.{Event}
 use Rattle.cdc_message.specs.declared.items.Item.TheVariants.{Event as OfEvent, EndMark}
 use Rattle.cdc_message.specs.declared.packets.Packet.{Packet}
@@ -25,7 +25,7 @@ published kept = record kept {
   sent = kept.sent + 1;
   unsent = None;
   unconfirmed = Some kept.sent;
-  ended = is_none kept.unsent;
+  ended = kept.ended || is_none kept.unsent;
 }
 
 -- what is kept after the next packet was sent, if there is one
@@ -33,13 +33,3 @@ abbrev pub advanced : Kept → Kept
 advanced kept =
     if kept.sent == 0 then record kept { sent = 1 }
     else (if is_some kept.unsent || ends kept then published kept else kept)
-
--- what is kept after these events were offered, of which there is one at most
-abbrev pub offered : List Event → Bool → Kept → Kept
-offered [] complete kept = record kept { complete = complete }
-offered (event ∷ events) complete kept =
-    record kept { last = event.timestamp; unsent = Some event; complete = complete }
-
--- what is kept after the tag that waits was confirmed
-abbrev pub settled : Kept → Kept
-settled kept = record kept { confirmed = kept.last; unconfirmed = None }

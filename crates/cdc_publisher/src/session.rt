@@ -252,7 +252,7 @@ impl Session {
         if self.sent == 0 {
             self.sent = 1;
         } else if self.unsent.is_some() || self.ends() {
-            self.ended = self.unsent.is_none();
+            self.ended |= self.unsent.is_none();
             self.unsent = None;
             self.unconfirmed = Some(self.sent);
             self.sent += 1;
