@@ -9,7 +9,7 @@ use Rattle.cdc_message.specs.Items.{last_timestamp_from}
 use Rattle.cdc_message.specs.declared.items.Item.TheVariants.{Event as OfEvent, EndMark}
 use Rattle.cdc_message.specs.declared.packets.Packet.{Packet}
 use Rattle.cdc_message.specs.declared.packets.Packet.TheVariants.{Connect, Publish}
-use Rattle.cdc_publisher.specs.Courses.{Course, next_packet, numbers_from, tags_sent, with_offer, with_sent}
+use Rattle.cdc_publisher.specs.Courses.{Course, next_packet, numbers_from, tags_sent, takes_confirm, with_confirm, with_offer, with_sent}
 use Rattle.cdc_publisher.specs.Kept.{Kept, poll_of}
 use Rattle.cdc_publisher.specs.Offers.{IsOffered, RiseAfter}
 use Rattle.cdc_publisher.specs.Stands.{IsLastTag, StandsFor, confirmed_count, flag_count, unsent_count, waiting}
@@ -89,7 +89,7 @@ publish_stands kept course ended stands connected none count known =
     }
 
 -- what the end mark takes
-ends_means : (complete ended : Bool) (w : Option ℕ) → (complete && (not ended && is_none w)) ≡ true
+pub ends_means : (complete ended : Bool) (w : Option ℕ) → (complete && (not ended && is_none w)) ≡ true
     → (complete ≡ true) × (ended ≡ false) × (waiting w ≡ 0)
 ends_means true false None is = (refl, refl, refl)
 ends_means true false (Some tag) is = cc
@@ -180,12 +180,14 @@ settle_by kept course tag (Some t) stands is last here =
       end_known = stands.end_known;
     }
 
-pub settled_stands : (kept : Kept) (course : Course) (tag : ℕ) → StandsFor kept course
-    → is_waiting kept.unconfirmed tag ≡ true
-    → StandsFor (record kept { confirmed = kept.last; unconfirmed = None })
-    (record course { confirmed = course.confirmed ++ tag ∷ [] })
-settled_stands kept course tag stands here =
-    settle_by kept course tag kept.unconfirmed stands refl stands.last_tag here
+-- a confirm that counts
+pub confirm_stands : (kept : Kept) (course : Course) (session tag : ℕ) → StandsFor kept course
+    → is_waiting kept.unconfirmed tag ≡ true → true ≡ takes_confirm course session tag
+    → StandsFor (record kept { confirmed = kept.last; unconfirmed = None }) (with_confirm session tag course)
+confirm_stands kept course session tag stands here counts =
+    subst (λ (b : Bool). StandsFor (record kept { confirmed = kept.last; unconfirmed = None })
+      (if b then record course { confirmed = course.confirmed ++ tag ∷ [] } else course)) counts
+    (settle_by kept course tag kept.unconfirmed stands refl stands.last_tag here)
 
 -- what is known where events may be offered
 record IsFree (kept : Kept) (events : List Event) : Type 0 where
