@@ -52,7 +52,7 @@ connect_stands kept course stands none =
       last = stands.last;
       tags = stands.tags ∙ ap (λ n. numbers_from 1 (n - waiting kept.unconfirmed)) (sym same);
       confirmed = stands.confirmed
-        ∙ ap (λ n. last_timestamp_from course.base (take (n - waiting kept.unconfirmed) course.offered)) (sym same);
+          ∙ ap (λ n. last_timestamp_from course.base (take (n - waiting kept.unconfirmed) course.offered)) (sym same);
       count = ap (λ n. n + unsent_count kept.unsent) same ∙ stands.count;
       unsent = stands.unsent ∙ ap (slice_get course.offered) (sym same);
       last_tag = subst (λ (n : ℕ). IsLastTag n kept.unconfirmed) (sym same) stands.last_tag;
@@ -101,7 +101,7 @@ advance_by : (kept : Kept) (course : Course) → StandsFor kept course
     → (none_sent : Bool) (unsent : Option Event) (ending : Bool)
     → (kept.sent == 0) ≡ none_sent → kept.unsent ≡ unsent → ends kept ≡ ending
     → StandsFor (if none_sent then record kept { sent = 1 }
-      else (if is_some unsent || ending then record kept { sent = kept.sent + 1; unsent = None; unconfirmed = Some kept.sent; ended = kept.ended || is_none unsent } else kept))
+    else (if is_some unsent || ending then record kept { sent = kept.sent + 1; unsent = None; unconfirmed = Some kept.sent; ended = kept.ended || is_none unsent } else kept))
     (with_sent (if none_sent then Some (Connect kept.number) else publish_of kept unsent) course)
 advance_by kept course stands true unsent ending at_first is_unsent is_ending =
     connect_stands kept course stands (sent_zero kept.sent at_first)
@@ -127,8 +127,8 @@ advance_by kept course stands false None true at_first is_unsent is_ending =
     let sent = stands.sent in
     let connected = sent_some kept.sent at_first in
     subst (λ (b : Bool). StandsFor
-      (record kept { sent = kept.sent + 1; unsent = None; unconfirmed = Some kept.sent; ended = kept.ended || true })
-      (with_sent (if b then Some (Publish kept.number kept.sent EndMark) else None) course))
+    (record kept { sent = kept.sent + 1; unsent = None; unconfirmed = Some kept.sent; ended = kept.ended || true })
+    (with_sent (if b then Some (Publish kept.number kept.sent EndMark) else None) course))
     (sym is_ending)
     (publish_stands kept course (kept.ended || true) stands connected (omega arith) (omega arith) (λ set. free.0))
 advance_by kept course stands false None false at_first is_unsent is_ending =
@@ -169,9 +169,9 @@ settle_by kept course tag (Some t) stands is last here =
       complete = stands.complete;
       last = stands.last;
       tags = ap₂ (λ xs n. xs ++ n ∷ []) (stands.tags ∙ ap (numbers_from 1) before) this
-        ∙ sym (numbers_from-suc 1 k) ∙ ap (numbers_from 1) after;
+          ∙ sym (numbers_from-suc 1 k) ∙ ap (numbers_from 1) after;
       confirmed = stands.last ∙ ap (last_timestamp_from course.base)
-        (sym (take_all (course.sent - 1 - 0) course.offered (omega arith)));
+          (sym (take_all (course.sent - 1 - 0) course.offered (omega arith)));
       count = stands.count;
       unsent = stands.unsent;
       last_tag = tt;
@@ -186,7 +186,7 @@ pub confirm_stands : (kept : Kept) (course : Course) (session tag : ℕ) → Sta
     → StandsFor (record kept { confirmed = kept.last; unconfirmed = None }) (with_confirm session tag course)
 confirm_stands kept course session tag stands here counts =
     subst (λ (b : Bool). StandsFor (record kept { confirmed = kept.last; unconfirmed = None })
-      (if b then record course { confirmed = course.confirmed ++ tag ∷ [] } else course)) counts
+    (if b then record course { confirmed = course.confirmed ++ tag ∷ [] } else course)) counts
     (settle_by kept course tag kept.unconfirmed stands refl stands.last_tag here)
 
 -- what is known where events may be offered
@@ -199,7 +199,7 @@ record IsFree (kept : Kept) (events : List Event) : Type 0 where
 free_by : (kept : Kept) (events : List Event) (unsent : Option Event) (unconfirmed : Option ℕ) (complete : Bool)
     → kept.unsent ≡ unsent → kept.unconfirmed ≡ unconfirmed → kept.complete ≡ complete
     → IsOffered (if is_none unsent && (is_none unconfirmed && not complete)
-      then Some (record { after = kept.last; limit = 1 }) else None) events
+    then Some (record { after = kept.last; limit = 1 }) else None) events
     → IsFree kept events
 free_by kept events None None false a b c offer = record { unsent = a; unconfirmed = b; complete = c; count = offer.count }
 free_by kept events None None true a b c offer = absurd offer
@@ -251,7 +251,7 @@ pub offered_none : (kept : Kept) (course : Course) (events : List Event) (comple
     → StandsFor (record kept { complete = complete }) (with_offer events complete course)
 offered_none kept course [] complete stands offer is =
     subst (λ (offered : List Event). StandsFor (record kept { complete = complete })
-      (record course { offered = offered; complete = complete }))
+    (record course { offered = offered; complete = complete }))
     (sym (append-nil course.offered))
     (none_stands kept course complete stands
     (unknown_end kept.ended kept.complete stands.end_known (is_free kept [] offer).complete))
@@ -277,7 +277,7 @@ one_stands kept course event complete stands unsent unconfirmed not_yet =
       last = sym (last_timestamp_from-push course.base course.offered event);
       tags = stands.tags;
       confirmed = stands.confirmed ∙ ap (last_timestamp_from course.base)
-        (sym (take-append-le (course.sent - 1 - waiting kept.unconfirmed) course.offered (event ∷ []) (omega arith)));
+          (sym (take-append-le (course.sent - 1 - waiting kept.unconfirmed) course.offered (event ∷ []) (omega arith)));
       count = omega arith;
       unsent = sym (slice_get-push course.offered event (course.sent - 1) (omega arith));
       last_tag = stands.last_tag;
@@ -297,6 +297,6 @@ offered_one kept course (first ∷ []) event complete stands offer is =
     let facts = is_free kept (first ∷ []) offer in
     let same : first ≡ event = cc in
     subst (λ (e : Event). StandsFor (record kept { last = e.timestamp; unsent = Some e; complete = complete })
-      (with_offer (first ∷ []) complete course)) same
+    (with_offer (first ∷ []) complete course)) same
     (one_stands kept course first complete stands facts.unsent facts.unconfirmed
     (unknown_end kept.ended kept.complete stands.end_known facts.complete))

@@ -31,13 +31,14 @@ pub returns-then-session-self-clause-answer : goal.returns-then-session-self-cla
 returns-then-session-self-clause-answer c = λ course stands.
     let inside = c.self.inside in
     let refused : ((c.args.session == inside.number) && is_waiting inside.unconfirmed c.args.tag) ≡ false =
-      elim c.then-session-self.branch [
-        then-session-self-via-then-session-self w ↦
+    elim c.then-session-self.branch [
+      | then-session-self-via-then-session-self w ↦
           other_session c.args.session inside.number (is_waiting inside.unconfirmed c.args.tag) w.if-session-self.true
       | then-session-self-via-else-session-self+then-ne w ↦
           ap (λ b. (c.args.session == inside.number) && b)
           (waits_where_equal inside.unconfirmed c.args.tag w.ne.result w.ne.ensures ∙ ap not w.if-ne.true)
-          ∙ and-false (c.args.session == inside.number) ] in
+          ∙ and-false (c.args.session == inside.number)
+    ] in
     sym (ap (λ (kept : Kept). (c.args.session == kept.number) && is_waiting kept.unconfirmed c.args.tag) (sym c.self.view_is)
     ∙ refused)
     ∙ takes_is c.args.self.now course c.args.session c.args.tag stands
@@ -45,15 +46,15 @@ returns-then-session-self-clause-answer c = λ course stands.
 pub returns-then-session-self-clause-stands : goal.returns-then-session-self-clause-stands
 returns-then-session-self-clause-stands c = λ course stands.
     subst (λ (b : Bool). StandsFor c.args.self.now
-      (if b then record course { confirmed = course.confirmed ++ c.args.tag ∷ [] } else course))
+    (if b then record course { confirmed = course.confirmed ++ c.args.tag ∷ [] } else course))
     (returns-then-session-self-clause-answer c course stands) stands
 
 pub returns-clause-answer : goal.returns-clause-answer
 returns-clause-answer c = λ course stands.
     let inside = c.self.inside in
     let counts : ((c.args.session == inside.number) && is_waiting inside.unconfirmed c.args.tag) ≡ true =
-      ap₂ (λ a b. a && b) (this_session c.args.session inside.number c.if-session-self.false)
-      (waits_where_equal inside.unconfirmed c.args.tag c.ne.result c.ne.ensures ∙ ap not c.if-ne.false) in
+    ap₂ (λ a b. a && b) (this_session c.args.session inside.number c.if-session-self.false)
+    (waits_where_equal inside.unconfirmed c.args.tag c.ne.result c.ne.ensures ∙ ap not c.if-ne.false) in
     sym (ap (λ (kept : Kept). (c.args.session == kept.number) && is_waiting kept.unconfirmed c.args.tag) (sym c.self.view_is)
     ∙ counts)
     ∙ takes_is c.args.self.now course c.args.session c.args.tag stands

@@ -11,9 +11,10 @@ returns c = λ course stands.
     let stands' = subst (λ (kept : Kept). StandsFor kept course) (sym c.self.view_is) stands in
     let offer = subst (λ (kept : Kept). IsOffered (poll_of kept) c.args.events.now) (sym c.self.view_is) c.requires in
     elim c.match-first.branch [
-      in-Some w ↦ rw w.self-inside-is
-        (offered_one _ course c.args.events.now w.in-Some.event.now c.args.complete stands' offer
-        (sym w.in-Some.ensures.value))
-    | in_default w ↦ rw w.self-inside-is
-        (offered_none _ course c.args.events.now c.args.complete stands' offer
-        (sym w.in_default.ensures.value)) ]
+      | in-Some w ↦ rw w.self-inside-is
+          (offered_one _ course c.args.events.now w.in-Some.event.now c.args.complete stands' offer
+          (sym w.in-Some.ensures.value))
+      | in_default w ↦ rw w.self-inside-is
+          (offered_none _ course c.args.events.now c.args.complete stands' offer
+          (sym w.in_default.ensures.value))
+    ]
