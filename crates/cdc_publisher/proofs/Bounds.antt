@@ -1,5 +1,5 @@
 -- The numbers of a session stay in their bounds.
-use Rattle.std.proofs.Common.{◌≡◌, ℕ, ◌+◌, ◌≤◌, Bool, true, false, ◌||◌, ◌⊎◌, not, refl, ⊎_elim, is_some, Option, Some, None, arith}
+use Rattle.std.proofs.Common.{◌≡◌, ℕ, ◌+◌, ◌≤◌, Bool, true, false, ◌||◌, ◌⊎◌, not, ⊎_elim, is_some, Option, Some, None, arith}
 use Rattle.cdc_types.specs.declared.events.Event.{Event}
 use Rattle.cdc_publisher.specs.Stands.{flag_count, unsent_count}
 

@@ -6,14 +6,14 @@ use Rattle.std.proofs.lemmas.List.{take-append-le}
 use Rattle.std.proofs.lemmas.Option.{slice_get_past}
 use Rattle.cdc_types.specs.declared.events.Event.{Event}
 use Rattle.cdc_message.specs.Items.{last_timestamp_from}
-use Rattle.cdc_message.specs.declared.items.Item.TheVariants.{Event as OfEvent, EndMark}
+use Rattle.cdc_message.specs.declared.items.Item.TheVariants.{EndMark}
 use Rattle.cdc_message.specs.declared.packets.Packet.{Packet}
 use Rattle.cdc_message.specs.declared.packets.Packet.TheVariants.{Connect, Publish}
 use Rattle.cdc_publisher.specs.Courses.{Course, next_packet, numbers_from, tags_sent, takes_confirm, with_confirm, with_offer, with_sent}
 use Rattle.cdc_publisher.specs.Kept.{Kept, poll_of}
-use Rattle.cdc_publisher.specs.Offers.{IsOffered, RiseAfter}
-use Rattle.cdc_publisher.specs.Stands.{IsLastTag, StandsFor, confirmed_count, flag_count, unsent_count, waiting}
-use Rattle.cdc_publisher.specs.Turns.{advanced, ends, packet_of, publish_of, published}
+use Rattle.cdc_publisher.specs.Offers.{IsOffered}
+use Rattle.cdc_publisher.specs.Stands.{IsLastTag, StandsFor, flag_count, unsent_count, waiting}
+use Rattle.cdc_publisher.specs.Turns.{advanced, ends, publish_of}
 use Rattle.cdc_publisher.proofs.Standing.{is_waiting, packet_is}
 use Rattle.cdc_publisher.proofs.Tags.{numbers_from-suc}
 

@@ -1,6 +1,6 @@
 -- What a session keeps gives what its course has.
-use Rattle.std.proofs.Common.{◌≡◌, ℕ, zero, suc, ◌+◌, ◌-◌, ◌<◌, ◌≤◌, ◌==◌, Bool, true, false, ◌&&◌, ◌||◌, not, List, [], ◌∷◌, ◌++◌, refl, sym, ap, ap₂, ◌∙◌, cond, take, length, is_none, Option, Some, None, arith}
-use Rattle.std.specs.Prelude.{nat_le, nat_lt, slice_get, if◌then◌else◌}
+use Rattle.std.proofs.Common.{◌≡◌, ℕ, ◌+◌, ◌-◌, ◌≤◌, ◌==◌, Bool, true, false, ◌&&◌, not, refl, sym, ap, ap₂, ◌∙◌, length, is_none, Option, Some, None, arith}
+use Rattle.std.specs.Prelude.{nat_le, nat_lt, if◌then◌else◌}
 use Rattle.std.specs.List.{list_all}
 use Rattle.std.proofs.lemmas.Bool.Decides.{nat_tests}
 use Rattle.std.proofs.Math.Bool.{and-false}
@@ -8,7 +8,7 @@ use Rattle.cdc_types.specs.declared.events.Event.{Event}
 use Rattle.cdc_message.specs.declared.items.Item.TheVariants.{Event as OfEvent, EndMark}
 use Rattle.cdc_message.specs.declared.packets.Packet.{Packet}
 use Rattle.cdc_message.specs.declared.packets.Packet.TheVariants.{Connect, Publish}
-use Rattle.cdc_publisher.specs.Courses.{Course, all_sent, confirmed_timestamp, end_packet, is_confirmed, is_done, is_sent, may_end, next_packet, numbers_from, publish_packet, tags_sent, takes_confirm, unconfirmed, wanted}
+use Rattle.cdc_publisher.specs.Courses.{Course, all_sent, confirmed_timestamp, is_confirmed, is_done, may_end, next_packet, numbers_from, publish_packet, tags_sent, takes_confirm, unconfirmed, wanted}
 use Rattle.cdc_publisher.specs.Kept.{Kept, poll_of}
 use Rattle.cdc_publisher.specs.Stands.{IsLastTag, StandsFor, confirmed_count, flag_count, unsent_count, waiting}
 use Rattle.cdc_publisher.specs.Turns.{ends, packet_of, publish_of}

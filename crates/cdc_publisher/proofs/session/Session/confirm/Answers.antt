@@ -1,9 +1,8 @@
-use Rattle.std.proofs.Common.{◌≡◌, ◌+◌, ℕ, ◌∙◌, ◌==◌, ◌++◌, ◌∷◌, [], sym, subst, Bool, true, false, ◌&&◌, not, refl, ap, ap₂, eqb, Option, Some, None, arith}
+use Rattle.std.proofs.Common.{◌≡◌, ℕ, ◌∙◌, ◌==◌, ◌++◌, ◌∷◌, [], sym, subst, Bool, true, false, ◌&&◌, not, ap, ap₂, eqb, Option, Some, None, arith}
 use Rattle.std.specs.Prelude.{if◌then◌else◌}
 use Rattle.std.specs.Option.{option_eq}
 use Rattle.std.proofs.lemmas.Bool.Decides.{nat_tests}
 use Rattle.std.proofs.Math.Bool.{and-false}
-use Rattle.cdc_publisher.specs.Courses.{takes_confirm}
 use Rattle.cdc_publisher.specs.Kept.{Kept}
 use Rattle.cdc_publisher.specs.Stands.{StandsFor}
 use Rattle.cdc_publisher.proofs.Moves.{confirm_stands}

@@ -1,6 +1,5 @@
-use Rattle.std.proofs.Common.{◌≡◌, ℕ, ◌∙◌, sym, subst, Bool, true, false, ◌&&◌, not, refl, ap, is_none, is_some, Option, Some, None}
+use Rattle.std.proofs.Common.{◌≡◌, ℕ, ◌∙◌, Bool, true, false, ◌&&◌, not, refl, ap, is_none, is_some, Option, Some, None}
 use Rattle.cdc_publisher.specs.Kept.{Kept}
-use Rattle.cdc_publisher.specs.Stands.{StandsFor}
 use Rattle.cdc_publisher.proofs.Standing.{done_is}
 use Rattle.cdc_publisher.proofs.session.Session.done.Goals as goal
 

@@ -1,4 +1,4 @@
-use Rattle.std.proofs.Common.{◌≡◌, ◌∙◌, sym, subst, refl, ap, Option, Some, None}
+use Rattle.std.proofs.Common.{sym, subst}
 use Rattle.cdc_publisher.specs.Kept.{Kept, poll_of}
 use Rattle.cdc_publisher.specs.Offers.{IsOffered}
 use Rattle.cdc_publisher.specs.Stands.{StandsFor}
