@@ -1,0 +1,145 @@
+-- The course of a session: what it was offered, what it has sent of that, and what was confirmed (TigerBeetle, Change
+-- Data Capture; RabbitMQ, Publisher Confirms, for tags).
+use Rattle.std.specs.Prelude.{ℕ, zero, suc, ◌+◌, ◌-◌, ◌==◌, ◌&&◌, not, nat_lt, nat_le, Bool, true, false, Option, Some, None, List, [], ◌∷◌, ◌++◌, length, filter, slice_get, if◌then◌else◌}
+use Rattle.std.specs.List.{list_all, list_any}
+use Rattle.std.specs.Option.{option_map}
+use Rattle.cdc_types.specs.declared.events.Event.{Event}
+use Rattle.cdc_message.specs.declared.items.Item.{Item}
+use Rattle.cdc_message.specs.declared.items.Item.TheVariants.{Event as OfEvent, EndMark}
+use Rattle.cdc_message.specs.declared.packets.Packet.{Packet}
+use Rattle.cdc_message.specs.declared.packets.Packet.TheVariants.{Connect, Publish}
+use Rattle.cdc_message.specs.Items.{last_timestamp_from}
+use Rattle.cdc_progress.specs.Records.{Saved}
+use Rattle.cdc_publisher.specs.declared.session.Poll.{Poll}
+
+-- a session: its number; the timestamp that it begins after; for how many events it waits at a time; the events that it
+-- was offered, in order; whether none follow them; how many packets it has sent; and the tags that were confirmed to it
+pub record Course : Type 0 where
+  pub number : ℕ
+  pub base : ℕ
+  pub window : ℕ
+  pub offered : List Event
+  pub complete : Bool
+  pub sent : ℕ
+  pub confirmed : List ℕ
+
+-- a session that has done nothing yet
+abbrev pub new_course : Saved → ℕ → Course
+new_course saved window = record {
+  number = saved.session;
+  base = saved.timestamp;
+  window = window;
+  offered = [];
+  complete = false;
+  sent = 0;
+  confirmed = [];
+}
+
+-- the greatest number of a session
+abbrev pub last_session : ℕ
+last_session = 18446744073709551615
+
+-- what is saved when a session starts where this is held: the next number, with the same timestamp; nothing where
+-- there is no further number
+abbrev pub begun : Option Saved → Option Saved
+begun None = Some (record { session = 1; timestamp = 0 })
+begun (Some held) =
+    if held.session == last_session then None
+    else Some (record { session = held.session + 1; timestamp = held.timestamp })
+
+-- the tags that were sent: the first packet has none, and the others have those from 1 on
+abbrev pub tags_sent : Course → ℕ
+tags_sent course = course.sent - 1
+
+-- a tag was sent
+abbrev pub is_sent : Course → ℕ → Bool
+is_sent course tag = nat_lt 0 tag && nat_le tag (tags_sent course)
+
+-- a tag was confirmed
+abbrev pub is_confirmed : Course → ℕ → Bool
+is_confirmed course tag = list_any (λ other. other == tag) course.confirmed
+
+-- n numbers from this one on
+abbrev pub numbers_from : ℕ → ℕ → List ℕ
+numbers_from first zero = []
+numbers_from first (suc n) = first ∷ numbers_from (first + 1) n
+
+-- the tags that were sent and aren't confirmed
+abbrev pub unconfirmed : Course → List ℕ
+unconfirmed course = filter (λ tag. not (is_confirmed course tag)) (numbers_from 1 (tags_sent course))
+
+-- every event that was offered is sent
+abbrev pub all_sent : Course → Bool
+all_sent course = nat_le (length course.offered) (tags_sent course)
+
+-- the events that are wanted: none while an event is unsent, as many as may wait are unconfirmed, or the end is known;
+-- else those after the last one that was offered, up to the number that may wait besides
+abbrev pub wanted : Course → Option Poll
+wanted course =
+    if all_sent course && nat_lt (length (unconfirmed course)) course.window && not course.complete
+    then Some (record {
+      after = last_timestamp_from course.base course.offered;
+      limit = course.window - length (unconfirmed course);
+    })
+    else None
+
+-- the session after it was offered these events
+abbrev pub with_offer : List Event → Bool → Course → Course
+with_offer events complete course = record course { offered = course.offered ++ events; complete = complete }
+
+-- every event is sent and confirmed, and no other one follows
+abbrev pub may_end : Course → Bool
+may_end course =
+    course.complete && list_all (is_confirmed course) (numbers_from 1 (length course.offered))
+
+-- the mark of the end, under the tag after those of the events; it is sent once, when it may be
+abbrev pub end_packet : Course → Option Packet
+end_packet course =
+    if may_end course && (tags_sent course == length course.offered)
+    then Some (Publish course.number course.sent EndMark)
+    else None
+
+-- the packet of an event under the tag that comes next, or else what the end asks for
+abbrev pub publish_packet : Course → Option Event → Option Packet
+publish_packet course (Some event) = Some (Publish course.number course.sent (OfEvent event))
+publish_packet course None = end_packet course
+
+-- what is sent next: first the connect, then the oldest unsent event, and at the end its mark
+abbrev pub next_packet : Course → Option Packet
+next_packet course =
+    if course.sent == 0 then Some (Connect course.number)
+    else publish_packet course (slice_get course.offered (tags_sent course))
+
+-- the session after it has sent one more packet, if there was one
+abbrev pub with_sent : Option Packet → Course → Course
+with_sent None course = course
+with_sent (Some packet) course = record course { sent = course.sent + 1 }
+
+-- a confirm of a session's tag counts where it is this session and the tag was sent and isn't confirmed
+abbrev pub takes_confirm : Course → ℕ → ℕ → Bool
+takes_confirm course session tag =
+    (session == course.number) && (is_sent course tag && not (is_confirmed course tag))
+
+-- the session after a confirm
+abbrev pub with_confirm : ℕ → ℕ → Course → Course
+with_confirm session tag course =
+    if takes_confirm course session tag then record course { confirmed = course.confirmed ++ tag ∷ [] } else course
+
+-- the timestamp of the last event before the first unconfirmed one, where the events begin with this tag, after this
+-- moment
+abbrev pub confirmed_from : Course → ℕ → ℕ → List Event → ℕ
+confirmed_from course moment tag [] = moment
+confirmed_from course moment tag (event ∷ events) =
+    if is_confirmed course tag then confirmed_from course event.timestamp (tag + 1) events else moment
+
+-- the timestamp of the last event that is confirmed together with all before it, or the base
+abbrev pub confirmed_timestamp : Course → ℕ
+confirmed_timestamp course = confirmed_from course course.base 1 course.offered
+
+-- what is saved of a session
+abbrev pub progress_of : Course → Saved
+progress_of course = record { session = course.number; timestamp = confirmed_timestamp course }
+
+-- the end mark is confirmed
+abbrev pub is_done : Course → Bool
+is_done course = course.complete && is_confirmed course (length course.offered + 1)

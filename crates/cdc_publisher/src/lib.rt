@@ -1,0 +1,3 @@
+//! Stub.
+#![tactic(auto)]
+pub mod session;

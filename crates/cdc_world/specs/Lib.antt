@@ -1,0 +1,6 @@
+pub mod Errors
+pub mod Headline
+pub mod Line
+pub mod Next
+pub mod Packets
+pub mod Worlds
