@@ -1,0 +1,2 @@
+pub mod SubReplays
+pub mod SubDeliveries
