@@ -1,2 +1,4 @@
 pub mod SubReplays
 pub mod SubDeliveries
+pub mod SubServed
+pub mod SubSteps

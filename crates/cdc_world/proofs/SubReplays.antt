@@ -36,11 +36,11 @@ IsReplay-found w f x n replay found before =
 
 -- ---- a function of all elements
 
-Contains-map : {X Y : Type 0} (g : X → Y) (xs : List X) (x : X) → Contains xs x → Contains (map g xs) (g x)
+pub Contains-map : {X Y : Type 0} (g : X → Y) (xs : List X) (x : X) → Contains xs x → Contains (map g xs) (g x)
 Contains-map g xs x (k, below, is) =
     (k, omega (arith, length-map xs g), get_or-map g xs k x (g x) below ∙ ap g is)
 
-Contains-unmap : {X Y : Type 0} (g : X → Y) (xs : List X) (y : Y) → Contains (map g xs) y
+pub Contains-unmap : {X Y : Type 0} (g : X → Y) (xs : List X) (y : Y) → Contains (map g xs) y
     → (x : X) × Contains xs x × (g x ≡ y)
 Contains-unmap g [] y (k, below, is) = absurd (omega arith)
 Contains-unmap g (x ∷ xs) y (k, below, is) =
