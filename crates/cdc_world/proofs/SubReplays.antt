@@ -1,12 +1,12 @@
 -- Laws of replays: one more element whose forerunners all came, and the same function of all elements.
-use Rattle.std.proofs.Common.{◌≡◌, ℕ, ◌+◌, ◌<◌, ◌≤◌, Option, Some, List, [], ◌∷◌, ◌++◌, length, get_or, map, take, drop, refl, sym, ap, ◌∙◌, subst, inl, inr, arith}
+use Rattle.std.proofs.Common.{◌≡◌, ℕ, ◌<◌, ◌≤◌, Some, List, [], ◌∷◌, ◌++◌, length, get_or, map, take, drop, sym, ap, ◌∙◌, subst, inl, inr, arith}
 use Rattle.std.specs.Prelude.{Contains, slice_get}
 use Rattle.std.proofs.lemmas.Bool.{cases_lt}
 use Rattle.std.proofs.lemmas.List.{get_or-map, length-map, take-append-drop, take-map, take-take}
 use Rattle.std.proofs.lemmas.List.Elements.{Contains-append_left, Contains-get_or}
 use Rattle.std.proofs.lemmas.Option.{get_or_from_slice_get, slice_get_within}
 use Rattle.cdc_message.specs.Replays.{HaveSame, IsReplay}
-use Rattle.cdc_message.proofs.ReplayLaws.{IsReplay-all, IsReplay-again, IsReplay-next, IsReplay-place}
+use Rattle.cdc_message.proofs.ReplayLaws.{IsReplay-all, IsReplay-place}
 
 -- what stands in a beginning stands in the list
 pub Contains-take_all : {X : Type 0} (n : ℕ) (xs : List X) (x : X) → Contains (take n xs) x → Contains xs x
@@ -44,8 +44,7 @@ pub Contains-unmap : {X Y : Type 0} (g : X → Y) (xs : List X) (y : Y) → Cont
     → (x : X) × Contains xs x × (g x ≡ y)
 Contains-unmap g [] y (k, below, is) = absurd (omega arith)
 Contains-unmap g (x ∷ xs) y (k, below, is) =
-    let within : k < length (x ∷ xs) = omega (arith, length-map (x ∷ xs) g) in
-    (
+    let within : k < length (x ∷ xs) = omega (arith, length-map (x ∷ xs) g) in (
       get_or (x ∷ xs) k x,
       Contains-get_or (x ∷ xs) k x within,
       sym (get_or-map g (x ∷ xs) k x y within) ∙ is,

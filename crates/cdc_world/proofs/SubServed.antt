@@ -1,6 +1,6 @@
--- What holds of a subscriber and its queue stays so when the queue grows, hands out or goes back, and when the subscriber
--- takes, acknowledges or closes.
-use Rattle.std.proofs.Common.{◌≡◌, ◌⊎◌, ℕ, ◌+◌, ◌-◌, ◌<◌, ◌≤◌, max, min, Bool, true, false, Option, Some, None, List, [], ◌∷◌, ◌++◌, length, get_or, map, take, refl, sym, ap, ap₂, ◌∙◌, subst, inl, inr, arith}
+-- What holds of a subscriber and its queue stays so when the queue grows, hands out or goes back, and when the
+-- subscriber takes, acknowledges or closes.
+use Rattle.std.proofs.Common.{◌≡◌, ◌⊎◌, ℕ, ◌+◌, ◌-◌, ◌<◌, ◌≤◌, max, min, Bool, true, false, Some, List, [], ◌∷◌, ◌++◌, length, get_or, take, refl, sym, ap, ap₂, ◌∙◌, subst, inl, inr, arith}
 use Rattle.std.specs.Prelude.{Contains, ◌||◌, slice_get, if◌then◌else◌}
 use Rattle.std.proofs.lemmas.Bool.{cases_Bool, cases_lt}
 use Rattle.std.proofs.lemmas.List.{append_assoc, append-nil, get_or-take, length-append, length-take, map_push, take-append-le, take_all, take_at, take_min, take_more}
@@ -14,7 +14,7 @@ use Rattle.cdc_message.proofs.ReplayLaws.{IsReplay-Contains, IsReplay-earlier, I
 use Rattle.cdc_subscriber.specs.Heard.{Heard, has_ended, next}
 use Rattle.cdc_world.specs.Next.{first_flight, rewound, with_ack, with_close, with_sending, with_taking}
 use Rattle.cdc_world.specs.Queued.{IsServed, deliveries, deliveries_from, items_in, positions_in, sent_to}
-use Rattle.cdc_world.specs.Worlds.{Subscription, new_subscription, numbered}
+use Rattle.cdc_world.specs.Worlds.{Subscription, new_subscription}
 use Rattle.cdc_world.proofs.SubDeliveries.{HasNoneTwice-deliveries, deliveries-append, delivery_at, length-deliveries, position-deliveries, slice_get-deliveries}
 use Rattle.cdc_world.proofs.SubReplays.{Contains-unmap, IsReplay-found}
 
@@ -67,7 +67,8 @@ IsServed-sending items s item served found =
     let here : slice_get (deliveries items) place ≡ Some d =
     slice_get-deliveries items place item found ∙ ap (λ n. Some (delivery_at n item)) at in
     let within : place < length items = slice_get_within items place item found in
-    let all : (s.taken ++ s.flight) ++ d ∷ [] ≡ s.taken ++ (s.flight ++ d ∷ []) = append_assoc s.taken s.flight (d ∷ []) in
+    let all : (s.taken ++ s.flight) ++ d ∷ [] ≡ s.taken ++ (s.flight ++ d ∷ []) =
+    append_assoc s.taken s.flight (d ∷ []) in
     let next_is : take (s.cursor + 1 - 1) (deliveries items) ≡ take place (deliveries items) ++ d ∷ [] =
     ap (λ n. take n (deliveries items)) (omega (arith, served.from_one))
     ∙ take_more (deliveries items) place d (omega (arith, length-deliveries items))
@@ -98,44 +99,59 @@ IsReplay-taken items s served =
     subst (λ w. IsReplay w (deliveries items)) (take_at s.taken s.flight (length s.taken) refl)
     (IsReplay-take (length s.taken) (sent_to s) (deliveries items) served.replay)
 
--- a delivery that was taken, by the position that was acknowledged
-acked_delivery : (items : List Item) (s : Subscription) → IsServed items s → (p : ℕ) → Contains s.acks p
-    → (d : Delivery) × Contains s.taken d × (d.position ≡ p)
-acked_delivery items s served p there =
-    Contains-unmap (λ (d : Delivery). d.position) s.taken p (subst (λ ps. Contains ps p) served.acks there)
+-- a delivery that was taken at this position, and its place in the queue
+record TakenAt (items : List Item) (taken : List Delivery) (p : ℕ) : Type 0 where
+  delivery : Delivery
+  among : Contains taken delivery
+  place : ℕ
+  within : place < length items
+  position : place + 1 ≡ p
+  here : get_or (deliveries items) place delivery ≡ delivery
 
--- its place in the queue
-place_of : (items : List Item) (s : Subscription) (served : IsServed items s) (p : ℕ) (there : Contains s.acks p)
-    → (j : ℕ) × (j < length items) × (j + 1 ≡ p)
-    × (get_or (deliveries items) j (acked_delivery items s served p there).0 ≡ (acked_delivery items s served p there).0)
-place_of items s served p there =
-    let d = acked_delivery items s served p there in
+TakenAt-acked : (items : List Item) (s : Subscription) → IsServed items s → (p : ℕ) → Contains s.acks p
+    → TakenAt items s.taken p
+TakenAt-acked items s served p there =
+    let acked : Contains (positions_in s.taken) p = subst (λ ps. Contains ps p) served.acks there in
+    let d = Contains-unmap (λ (d : Delivery). d.position) s.taken p acked in
     let found = IsReplay-Contains s.taken (deliveries items) d.0 (IsReplay-taken items s served) d.1 in
     let within : found.0 < length items = omega (arith, length-deliveries items, found.1) in
     let position = position-deliveries items found.0 d.0 within in
     let same = ap (λ (x : Delivery). x.position) found.2 in
-    (found.0, within, sym position ∙ same ∙ d.2, found.2)
+    record {
+      delivery = d.0;
+      among = d.1;
+      place = found.0;
+      within = within;
+      position = sym position ∙ same ∙ d.2;
+      here = found.2;
+    }
 
 acked_within : (items : List Item) (s : Subscription) → IsServed items s → (p : ℕ) → (p ≡ 0) ⊎ Contains s.acks p
     → p ≤ length items
 acked_within items s served p (inl none) = omega (arith, none)
 acked_within items s served p (inr there) =
-    let place = place_of items s served p there in
-    omega (arith, place.1, place.2)
+    let at = TakenAt-acked items s served p there in omega (arith, at.within, at.position)
 
 acked_taken : (items : List Item) (s : Subscription) → IsServed items s → (p : ℕ) → (p ≡ 0) ⊎ Contains s.acks p
     → (y : Delivery) → Contains (take p (deliveries items)) y → Contains s.taken y
 acked_taken items s served p (inl none) y before =
     absurd (omega (arith, none, length-take p (deliveries items), before.1))
 acked_taken items s served p (inr there) y before =
-    let d = acked_delivery items s served p there in
-    let place = place_of items s served p there in
+    let at = TakenAt-acked items s served p there in
     let early : before.0 < p = omega (arith, length-take p (deliveries items), before.1) in
     let here : get_or (deliveries items) before.0 y ≡ y =
     sym (get_or-take p (deliveries items) before.0 y early) ∙ before.2 in
-    IsReplay-earlier s.taken (deliveries items) y d.0 before.0 place.0 (IsReplay-taken items s served)
-    (HasNoneTwice-deliveries items) (omega (arith, early, place.2)) (omega (arith, length-deliveries items, place.1)) here
-    place.3 d.1
+    let within : at.place < length (deliveries items) = omega (arith, length-deliveries items, at.within) in
+    IsReplay-earlier s.taken (deliveries items) y at.delivery before.0 at.place (IsReplay-taken items s served)
+    (HasNoneTwice-deliveries items) (omega (arith, early, at.position)) within here at.here at.among
+
+-- so it was sent
+acked_sent : (items : List Item) (s : Subscription) → IsServed items s → (p n : ℕ) → n ≡ p
+    → (p ≡ 0) ⊎ Contains s.acks p → (flight : List Delivery) (y : Delivery) → Contains (take n (deliveries items)) y
+    → Contains (s.taken ++ flight) y
+acked_sent items s served p n is known flight y before =
+    Contains-append_left s.taken flight y
+    (acked_taken items s served p known y (subst (λ m. Contains (take m (deliveries items)) y) is before))
 
 -- ---- the queue goes back
 
@@ -144,10 +160,7 @@ IsServed-rewound items s served = record {
   replay = served.replay;
   from_one = omega arith;
   within = omega (arith, acked_within items s served s.acked served.acked);
-  behind = λ d there.
-      let back : s.acked + 1 - 1 ≡ s.acked = omega arith in
-      Contains-append_left s.taken s.flight d
-      (acked_taken items s served s.acked served.acked d (subst (λ n. Contains (take n (deliveries items)) d) back there));
+  behind = acked_sent items s served s.acked (s.acked + 1 - 1) (omega arith) served.acked s.flight;
   acks = served.acks;
   acked = served.acked;
   past = omega arith;
@@ -164,10 +177,7 @@ IsServed-broken items s served =
       replay = rw all (IsReplay-taken items s served);
       from_one = omega arith;
       within = omega (arith, acked_within items s served s.acked served.acked);
-      behind = λ d there.
-          let back : s.acked + 1 - 1 ≡ s.acked = omega arith in
-          Contains-append_left s.taken [] d
-          (acked_taken items s served s.acked served.acked d (subst (λ n. Contains (take n (deliveries items)) d) back there));
+      behind = acked_sent items s served s.acked (s.acked + 1 - 1) (omega arith) served.acked [];
       acks = served.acks;
       acked = served.acked;
       past = omega arith;
@@ -200,8 +210,7 @@ IsServed-ack items s position served there =
           elim (cases_lt s.cursor (known + 1)) [
             | inl ahead ↦
                 let count : max s.cursor (known + 1) - 1 ≡ known = omega (arith, ahead) in
-                Contains-append_left s.taken s.flight d
-                (acked_taken items s served known acked d (subst (λ n. Contains (take n (deliveries items)) d) count here))
+                acked_sent items s served known (max s.cursor (known + 1) - 1) count acked s.flight d here
             | inr behind ↦
                 let count : max s.cursor (known + 1) - 1 ≡ s.cursor - 1 = omega (arith, behind) in
                 served.behind d (subst (λ n. Contains (take n (deliveries items)) d) count here)
@@ -272,7 +281,8 @@ HearsSo-next heard taken d so =
     if b then heard else record { items = heard.items ++ d.item ∷ []; closed = heard.closed } in
     elim (cases_Bool (heard.closed || has_ended heard)) [
       | inl settled ↦
-          let stays : next heard d.item ≡ heard = ap after settled in rw stays (HearsSo-settled heard taken d so settled)
+          let stays : next heard d.item ≡ heard = ap after settled in
+          rw stays (HearsSo-settled heard taken d so settled)
       | inr listens ↦
           let parts = or_parts heard.closed (has_ended heard) listens in
           let more : next heard d.item ≡ record { items = heard.items ++ d.item ∷ []; closed = heard.closed } =

@@ -1,7 +1,6 @@
 -- Whatever step is taken, each subscriber and its queue keep what holds of them.
-use Rattle.std.proofs.Common.{◌≡◌, ◌⊎◌, ℕ, zero, suc, ◌+◌, ◌-◌, Bool, true, false, Option, Some, None, Result, Ok, Err, List, [], ◌∷◌, ◌++◌, map, refl, sym, ap, ◌∙◌, subst, inl, inr, option_map, arith}
+use Rattle.std.proofs.Common.{◌≡◌, ◌⊎◌, ℕ, zero, suc, ◌+◌, ◌-◌, Bool, true, false, Option, Some, None, Result, Ok, Err, List, [], ◌∷◌, ◌++◌, map, refl, sym, ap, ◌∙◌, subst, inl, inr, option_map}
 use Rattle.std.specs.Prelude.{Contains, ◌==◌, slice_get, slice_set, if◌then◌else◌}
-use Rattle.std.proofs.lemmas.Bool.{cases_Bool}
 use Rattle.std.proofs.lemmas.List.Elements.{filter-append, filter_map-append}
 use Rattle.std.proofs.lemmas.Option.{get_or_from_slice_get, same_Some, slice_get_within}
 use Rattle.cdc_ledger.specs.declared.errors.BatchError.{BatchError}
@@ -12,7 +11,6 @@ use Rattle.cdc_match.specs.Queue.{queue, takes_item}
 use Rattle.cdc_message.specs.declared.items.Delivery.{Delivery}
 use Rattle.cdc_message.specs.declared.items.Item.{Item}
 use Rattle.cdc_message.specs.declared.packets.Packet.{Packet}
-use Rattle.cdc_progress.specs.declared.errors.StoreError.{StoreError}
 use Rattle.cdc_progress.specs.declared.errors.StoreError.TheVariants as store
 use Rattle.cdc_progress.specs.Records.{Saved}
 use Rattle.cdc_publisher.specs.Courses.{Course, begun, next_packet, wanted}
@@ -22,7 +20,7 @@ use Rattle.cdc_world.specs.declared.steps.Step.{Step}
 use Rattle.cdc_world.specs.declared.steps.Step.TheVariants as step
 use Rattle.cdc_world.specs.declared.steps.StepError.{StepError}
 use Rattle.cdc_world.specs.declared.steps.StepError.TheVariants.{NotEnabled, Refused, Store, SessionsExhausted, OutOfMemory}
-use Rattle.cdc_world.specs.Next.{LeadsBy, IsReachedBy, NextBy, Offered, Outcome, ◌>>=◌, answered, arrived, first_flight, may_come, next_by, next_delivery, rewound, started, starting, submitted, taking_in, where_so, with_ack, with_close, with_sending, with_subscription, with_taking}
+use Rattle.cdc_world.specs.Next.{LeadsBy, IsReachedBy, NextBy, Offered, Outcome, ◌>>=◌, answered, first_flight, may_come, next_by, next_delivery, rewound, started, starting, submitted, taking_in, where_so, with_ack, with_close, with_sending, with_subscription, with_taking}
 use Rattle.cdc_world.specs.Packets.{is_taken, items_of, packet_item}
 use Rattle.cdc_world.specs.Queued.{AreQueued, IsQueued, IsServed}
 use Rattle.cdc_world.specs.Worlds.{Subscription, WorldState, new_subscription, new_world, numbered, queue_in, with_numbered}

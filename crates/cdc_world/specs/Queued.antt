@@ -1,10 +1,13 @@
 -- What holds of a subscriber and its queue after whatever steps.
-use Rattle.std.specs.Prelude.{◌≡◌, ◌⊎◌, ℕ, ◌+◌, ◌-◌, ◌<◌, ◌≤◌, false, Option, Some, List, [], ◌∷◌, ◌++◌, Contains, length, map, take}
+use Rattle.std.specs.Prelude.{◌≡◌, ◌⊎◌, ℕ, ◌+◌, ◌-◌, ◌<◌, ◌≤◌, ◌^◌, min, false, Some, List, [], ◌∷◌, ◌++◌, Contains, length, map, take}
 use Rattle.cdc_message.specs.declared.items.Delivery.{Delivery}
 use Rattle.cdc_message.specs.declared.items.Item.{Item}
+use Rattle.cdc_message.specs.Items.{last_timestamp}
 use Rattle.cdc_message.specs.Replays.{IsReplay}
+use Rattle.cdc_subscriber.specs.Book.{book_of}
 use Rattle.cdc_subscriber.specs.Heard.{has_ended}
-use Rattle.cdc_world.specs.Worlds.{Subscription, WorldState, numbered, queue_in}
+use Rattle.cdc_subscriber.specs.Kept.{Kept}
+use Rattle.cdc_world.specs.Worlds.{Subscription, WorldState, applied, numbered, queue_in}
 
 -- the items with their positions, from this position on
 abbrev pub deliveries_from : ℕ → List Item → List Delivery
@@ -50,3 +53,13 @@ IsQueued w s = IsServed (queue_in w s) s
 -- the same of all subscribers
 abbrev pub AreQueued : WorldState → Type 0
 AreQueued w = (i : ℕ) (s : Subscription) → numbered w.subscriptions i ≡ Some s → IsQueued w s
+
+-- what a subscriber keeps, told by what it has applied
+abbrev pub kept_from : Subscription → Kept
+kept_from s = record {
+  book = book_of (applied s);
+  last = last_timestamp (applied s);
+  applied = min (length (applied s)) (2 ^ 64 - 1);
+  ended = has_ended s.heard;
+  closed = s.heard.closed;
+}
