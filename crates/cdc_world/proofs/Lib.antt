@@ -5,3 +5,4 @@ pub mod SubSteps
 pub mod SubFeeds
 pub mod SubFaithful
 pub mod Reached
+pub mod SubClosed

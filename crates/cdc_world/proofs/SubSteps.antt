@@ -28,7 +28,8 @@ use Rattle.cdc_world.proofs.SubServed.{IsServed-ack, IsServed-broken, IsServed-c
 
 -- ---- elements by their numbers
 
-unless : {X : Type 0} (b : Bool) (o : Option X) (x : X) → (if b then None else o) ≡ Some x → (b ≡ false) × (o ≡ Some x)
+pub unless : {X : Type 0} (b : Bool) (o : Option X) (x : X) → (if b then None else o) ≡ Some x
+    → (b ≡ false) × (o ≡ Some x)
 unless true o x h = cc
 unless false o x h = (refl, h)
 
@@ -78,7 +79,7 @@ AreQueued-new bindings window held i s found =
 -- ---- what a step leaves
 
 -- this holds of the world after a step, where it is done
-abbrev Leaves : (WorldState → Type 0) → Outcome → Type 0
+abbrev pub Leaves : (WorldState → Type 0) → Outcome → Type 0
 Leaves P (Ok after) = P after.1
 Leaves P (Err why) = Unit {0}
 
@@ -88,13 +89,13 @@ Leaves_so P (Ok after) did w holds is =
     let same : after ≡ (did, w) = cc in subst P (ap (λ (x : Did × WorldState). x.1) same) holds
 Leaves_so P (Err why) did w holds is = cc
 
-Leaves_on : {A : Type 0} (P : WorldState → Type 0) (o : Option A) (rest : A → Outcome)
+pub Leaves_on : {A : Type 0} (P : WorldState → Type 0) (o : Option A) (rest : A → Outcome)
     → ((x : A) → o ≡ Some x → Leaves P (rest x)) → Leaves P (o >>= rest)
 Leaves_on P (Some x) rest further = further x refl
 Leaves_on P None rest further = tt
 
 -- where a test has to hold besides
-there_so : {A : Type 0} (b : Bool) (o : Option A) (x : A) → where_so b o ≡ Some x → o ≡ Some x
+pub there_so : {A : Type 0} (b : Bool) (o : Option A) (x : A) → where_so b o ≡ Some x → o ≡ Some x
 there_so true o x h = h
 there_so false o x h = cc
 
@@ -208,22 +209,28 @@ AreQueued-step offers w (step.Close i) are =
 
 -- ---- whatever is answered
 
+-- what a step leaves, where it holds before it, and whatever the store holds
+pub next_leaves : (P : WorldState → Type 0) (offers : Offered) (w : WorldState) (s : Step)
+    (answer : Result Did StepError) (w' : WorldState) → NextBy offers w s answer w' → P w
+    → ((saved : Saved) → P (record w { held = Some saved })) → Leaves P (next_by offers w s) → P w'
+next_leaves P offers w s (Ok did) w' next before held holds = Leaves_so P (next_by offers w s) did w' holds next
+next_leaves P offers w s (Err NotEnabled) w' next before held holds = subst P (sym next.1) before
+next_leaves P offers w s (Err (Refused why)) w' next before held holds = subst P (sym next.1) before
+next_leaves P offers w s (Err SessionsExhausted) w' next before held holds = subst P (sym next.1) before
+next_leaves P offers w s (Err OutOfMemory) w' next before held holds = subst P (sym next.1.1) before
+next_leaves P offers w s (Err (Store store.ReadFault)) w' next before held holds = subst P (sym next.1.1) before
+next_leaves P offers w s (Err (Store store.WriteFault)) w' next before held holds =
+    elim next.1.1 [
+      | inl same ↦ subst P (sym same) before
+      | inr saved ↦ subst P (sym saved.2) (held saved.0)
+    ]
+next_leaves P offers w s (Err (Store store.BadRecord)) w' next before held holds = subst P (sym next.1.1) before
+next_leaves P offers w s (Err (Store store.OutOfMemory)) w' next before held holds = absurd next.1.1
+
 AreQueued-next : (offers : Offered) (w : WorldState) (s : Step) (answer : Result Did StepError) (w' : WorldState)
     → NextBy offers w s answer w' → AreQueued w → AreQueued w'
-AreQueued-next offers w s (Ok did) w' next are =
-    Leaves_so AreQueued (next_by offers w s) did w' (AreQueued-step offers w s are) next
-AreQueued-next offers w s (Err NotEnabled) w' next are = subst AreQueued (sym next.1) are
-AreQueued-next offers w s (Err (Refused why)) w' next are = subst AreQueued (sym next.1) are
-AreQueued-next offers w s (Err SessionsExhausted) w' next are = subst AreQueued (sym next.1) are
-AreQueued-next offers w s (Err OutOfMemory) w' next are = subst AreQueued (sym next.1.1) are
-AreQueued-next offers w s (Err (Store store.ReadFault)) w' next are = subst AreQueued (sym next.1.1) are
-AreQueued-next offers w s (Err (Store store.WriteFault)) w' next are =
-    elim next.1.1 [
-      | inl same ↦ subst AreQueued (sym same) are
-      | inr saved ↦ subst AreQueued (sym saved.2) are
-    ]
-AreQueued-next offers w s (Err (Store store.BadRecord)) w' next are = subst AreQueued (sym next.1.1) are
-AreQueued-next offers w s (Err (Store store.OutOfMemory)) w' next are = absurd next.1.1
+AreQueued-next offers w s answer w' next are =
+    next_leaves AreQueued offers w s answer w' next are (λ saved. are) (AreQueued-step offers w s are)
 
 AreQueued-leads : (offers : Offered) (w : WorldState) (steps : List Step) (w' : WorldState)
     → LeadsBy offers w steps w' → AreQueued w → AreQueued w'

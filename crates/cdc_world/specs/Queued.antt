@@ -1,5 +1,5 @@
 -- What holds of a subscriber and its queue after whatever steps.
-use Rattle.std.specs.Prelude.{◌≡◌, ◌⊎◌, ℕ, ◌+◌, ◌-◌, ◌<◌, ◌≤◌, ◌^◌, min, false, Some, List, [], ◌∷◌, ◌++◌, Contains, length, map, take}
+use Rattle.std.specs.Prelude.{◌≡◌, ◌⊎◌, ℕ, ◌+◌, ◌-◌, ◌<◌, ◌≤◌, ◌^◌, min, true, false, Some, List, [], ◌∷◌, ◌++◌, Contains, length, map, take}
 use Rattle.cdc_message.specs.declared.items.Delivery.{Delivery}
 use Rattle.cdc_message.specs.declared.items.Item.{Item}
 use Rattle.cdc_message.specs.Items.{last_timestamp}
@@ -63,3 +63,14 @@ kept_from s = record {
   ended = has_ended s.heard;
   closed = s.heard.closed;
 }
+
+-- a subscriber is the same one after a step: its binding stays, and so does all that it heard once it is closed
+pub record Stays (before after : Subscription) : Type 0 where
+  pub binding : after.binding ≡ before.binding
+  pub closed : before.heard.closed ≡ true → after.heard ≡ before.heard
+
+-- each subscriber stays, under its number
+abbrev pub AllStay : WorldState → WorldState → Type 0
+AllStay w w' =
+    (i : ℕ) (before : Subscription) → numbered w.subscriptions i ≡ Some before
+    → (after : Subscription) × (numbered w'.subscriptions i ≡ Some after) × Stays before after
