@@ -1,0 +1,221 @@
+-- The definitions at work: what runs of a few steps make of small worlds, beside what the rules say in words.
+use Rattle.std.specs.Prelude.{ℕ, ◌≡◌, true, false, Option, Some, None, List, [], ◌∷◌, ◌++◌, map}
+use Rattle.std.proofs.Common.{refl}
+use Rattle.cdc_types.specs.declared.accounts.NewAccount.{NewAccount}
+use Rattle.cdc_types.specs.declared.batches.Batch.TheVariants as batch
+use Rattle.cdc_types.specs.declared.transfers.NewTransfer.{NewTransfer}
+use Rattle.cdc_ledger.specs.declared.errors.BatchError.TheVariants.{LedgerClosed}
+use Rattle.cdc_match.specs.declared.pairs.Mode.TheVariants.{All}
+use Rattle.cdc_progress.specs.Records.{Saved}
+use Rattle.cdc_subscriber.specs.declared.book.BookEntry.{BookEntry}
+use Rattle.cdc_subscriber.specs.Heard.{kept_of}
+use Rattle.cdc_subscriber.specs.Kept.{Kept}
+use Rattle.cdc_world.specs.declared.steps.Step.{Step}
+use Rattle.cdc_world.specs.declared.steps.Step.TheVariants.{Submit, CloseLedger, Start, Crash, Poll, Publish, Arrive, Answer, Save, Send, Rewind, Break, Take, Ack, Close}
+use Rattle.cdc_world.specs.declared.steps.StepError.{StepError}
+use Rattle.cdc_world.specs.declared.steps.StepError.TheVariants.{NotEnabled, Refused, SessionsExhausted}
+use Rattle.cdc_world.specs.Next.{offered, all_offered}
+use Rattle.cdc_world.specs.Runs.{Run, plays}
+use Rattle.cdc_world.specs.Worlds.{WorldState, new_world}
+
+-- one subscriber, of every event, and a session that waits for one event at a time
+abbrev start : WorldState
+start = new_world (record { mode = All; pairs = [] } ∷ []) 1 None
+
+-- a request for an account of ledger 700 and code 10
+abbrev account : ℕ → NewAccount
+account id =
+    record { id = id; user_data_128 = 0; user_data_64 = 0; user_data_32 = 0; ledger = 700; code = 10; flags = 0 }
+
+-- a request for a transfer from account 1 to account 2, of ledger 700 and code 1
+abbrev transfer : ℕ → ℕ → NewTransfer
+transfer id amount = record {
+  id = id;
+  debit_account_id = 1;
+  credit_account_id = 2;
+  amount = amount;
+  pending_id = 0;
+  user_data_128 = 0;
+  user_data_64 = 0;
+  user_data_32 = 0;
+  timeout = 0;
+  ledger = 700;
+  code = 1;
+  flags = 0;
+}
+
+-- two accounts are opened and these transfers made, and a first session's connect comes to the broker
+abbrev connected : List NewTransfer → List Step
+connected transfers =
+    Submit (batch.Accounts 1000 (account 1 ∷ account 2 ∷ [])) ∷ Submit (batch.Transfers 2000 transfers)
+    ∷ Start ∷ Publish ∷ Arrive 1 ∷ []
+
+-- the next packet of an event, or of the end, is sent; or sent and taken; or sent, taken and confirmed
+abbrev sent : List Step
+sent = Poll ∷ Publish ∷ []
+
+abbrev taken : ℕ → List Step
+taken packet = sent ++ Arrive packet ∷ []
+
+abbrev told : ℕ → ℕ → List Step
+told packet confirm = taken packet ++ Answer confirm ∷ []
+
+-- what a run shows: how many steps were done, the refusal, what the store holds, and what each subscriber keeps
+abbrev shown : Run → (ℕ × Option StepError) × Option Saved × List Kept
+shown run = (run.0, run.1.held, map (λ s. kept_of s.heard) run.1.subscriptions)
+
+-- an account of a book
+abbrev entry : ℕ → ℕ → ℕ → BookEntry
+entry id debits credits = record {
+  id = id;
+  balances = record { debits_pending = 0; debits_posted = debits; credits_pending = 0; credits_posted = credits };
+}
+
+-- both accounts of a book, between which this much was moved
+abbrev moved : ℕ → List BookEntry
+moved amount = entry 1 amount 0 ∷ entry 2 0 amount ∷ []
+
+-- an empty ledger is closed: the subscriber hears the end and nothing else
+abbrev empty_and_closed : List Step
+empty_and_closed =
+    CloseLedger ∷ Start ∷ Publish ∷ Arrive 1 ∷ told 2 1 ++ Send 1 ∷ Take 1 ∷ []
+
+tells_end : shown (plays offered start empty_and_closed) ≡ (
+  (10, None),
+  Some (record { session = 1; timestamp = 0 }),
+  record { book = []; last = 0; applied = 0; ended = true; closed = false } ∷ [],
+)
+tells_end = refl
+
+-- an empty ledger that is open has nothing to tell, not even its end
+tells_no_end : shown (plays offered start (Start ∷ Publish ∷ Arrive 1 ∷ sent)) ≡ (
+  (4, Some NotEnabled),
+  Some (record { session = 1; timestamp = 0 }),
+  record { book = []; last = 0; applied = 0; ended = false; closed = false } ∷ [],
+)
+tells_no_end = refl
+
+-- two transfers without a fault: both are told, confirmed and saved, and the end after them
+abbrev two_transfers : List NewTransfer
+two_transfers = transfer 1 5 ∷ transfer 2 7 ∷ []
+
+abbrev whole_way : List Step
+whole_way =
+    connected two_transfers ++ told 2 1 ++ told 3 2 ++ Save ∷ CloseLedger ∷ told 4 3
+    ++ Send 1 ∷ Send 1 ∷ Send 1 ∷ Take 1 ∷ Take 1 ∷ Take 1 ∷ []
+
+tells_all : shown (plays offered start whole_way) ≡ (
+  (25, None),
+  Some (record { session = 1; timestamp = 2001 }),
+  record { book = moved 12; last = 2001; applied = 2; ended = true; closed = false } ∷ [],
+)
+tells_all = refl
+
+-- why a step isn't done: a closed ledger refuses a batch; a session runs already, or there is no further number for
+-- one; a packet comes that isn't the next one, or has come; there is no packet, confirm or subscriber of that number;
+-- nothing is on its way; or the step is a fault
+abbrev refused : WorldState → List Step → ℕ × Option StepError
+refused w steps = (plays offered w steps).0
+
+refuses : (refused start (CloseLedger ∷ Submit (batch.Pulse 5) ∷ []) ≡ (1, Some (Refused LedgerClosed)))
+    × (refused start (Start ∷ Start ∷ []) ≡ (1, Some NotEnabled))
+    × (refused (record start { held = Some (record { session = 18446744073709551615; timestamp = 7 }) }) (Start ∷ [])
+    ≡ (0, Some SessionsExhausted))
+    × (refused start (connected two_transfers ++ sent ++ Arrive 1 ∷ []) ≡ (7, Some NotEnabled))
+    × (refused start (connected two_transfers ++ sent ++ Arrive 3 ∷ []) ≡ (7, Some NotEnabled))
+    × (refused start (Start ∷ Publish ∷ Arrive 0 ∷ []) ≡ (2, Some NotEnabled))
+    × (refused start (connected two_transfers ++ taken 2 ++ Answer 2 ∷ []) ≡ (8, Some NotEnabled))
+    × (refused start (Send 0 ∷ []) ≡ (0, Some NotEnabled))
+    × (refused start (Take 2 ∷ []) ≡ (0, Some NotEnabled))
+    × (refused start (Take 1 ∷ []) ≡ (0, Some NotEnabled))
+    × (refused start (Start ∷ Crash ∷ []) ≡ (1, Some NotEnabled))
+    × (refused start (Rewind 1 ∷ []) ≡ (0, Some NotEnabled))
+refuses = (refl, refl, refl, refl, refl, refl, refl, refl, refl, refl, refl, refl)
+
+-- the packets of a session that crashed come after the next session's connect, and are passed over
+abbrev late_packets : List Step
+late_packets =
+    connected (transfer 1 100 ∷ []) ++ sent ++ Crash ∷ Start ∷ Publish ∷ Arrive 3 ∷ Arrive 1 ∷ Arrive 2 ∷ taken 4
+    ++ Send 1 ∷ Take 1 ∷ Send 1 ∷ []
+
+passes_over_late : shown (plays all_offered start late_packets) ≡ (
+  (18, Some NotEnabled),
+  Some (record { session = 2; timestamp = 0 }),
+  record { book = moved 100; last = 2000; applied = 1; ended = false; closed = false } ∷ [],
+)
+passes_over_late = refl
+
+-- a session saves before what it has sent is confirmed, and crashes: the next one tells it again
+abbrev saved_early : List Step
+saved_early =
+    connected two_transfers ++ sent ++ Save ∷ Crash ∷ Start ∷ Publish ∷ Arrive 3 ∷ told 4 1 ++ told 5 2
+    ++ Save ∷ Send 1 ∷ Take 1 ∷ Send 1 ∷ Take 1 ∷ []
+
+saves_confirmed_alone : shown (plays all_offered start saved_early) ≡ (
+  (25, None),
+  Some (record { session = 2; timestamp = 2001 }),
+  record { book = moved 12; last = 2001; applied = 2; ended = false; closed = false } ∷ [],
+)
+saves_confirmed_alone = refl
+
+-- a queue that goes back hands out again what isn't acknowledged, and the subscriber applies nothing twice
+abbrev four_transfers : List NewTransfer
+four_transfers = transfer 1 1 ∷ transfer 2 2 ∷ transfer 3 3 ∷ transfer 4 4 ∷ []
+
+abbrev handed_out_again : List Step
+handed_out_again =
+    connected four_transfers ++ told 2 1 ++ told 3 2 ++ told 4 3 ++ told 5 4
+    ++ Send 1 ∷ Send 1 ∷ Send 1 ∷ Rewind 1 ∷ Send 1 ∷ Send 1 ∷ Send 1 ∷ Send 1
+    ∷ Take 1 ∷ Take 1 ∷ Take 1 ∷ Take 1 ∷ Take 1 ∷ Take 1 ∷ Take 1 ∷ []
+
+applies_once : shown (plays all_offered start handed_out_again) ≡ (
+  (36, None),
+  Some (record { session = 1; timestamp = 0 }),
+  record { book = moved 10; last = 2003; applied = 4; ended = false; closed = false } ∷ [],
+)
+applies_once = refl
+
+-- a session goes on after what was saved; a confirm of the session before comes late, and doesn't count though its tag
+-- has been sent again
+abbrev eight_transfers : List NewTransfer
+eight_transfers =
+    four_transfers ++ transfer 5 5 ∷ transfer 6 6 ∷ transfer 7 7 ∷ transfer 8 8 ∷ []
+
+abbrev crashed_between : List Step
+crashed_between =
+    connected eight_transfers ++ told 2 1 ++ told 3 2 ++ Save ∷ told 4 3 ++ told 5 4 ++ taken 6
+    ++ Crash ∷ Start ∷ Publish ∷ Arrive 7 ∷ told 8 6 ++ told 9 7 ++ told 10 8 ++ told 11 9
+    ++ sent ++ Answer 5 ∷ Save ∷ []
+
+goes_on_from_saved : shown (plays all_offered start crashed_between) ≡ (
+  (49, None),
+  Some (record { session = 2; timestamp = 2005 }),
+  record { book = []; last = 0; applied = 0; ended = false; closed = false } ∷ [],
+)
+goes_on_from_saved = refl
+
+-- a subscriber that closed applies nothing more, and still acknowledges what it takes
+abbrev closed_between : List Step
+closed_between =
+    connected two_transfers ++ told 2 1 ++ taken 3 ++ Send 1 ∷ Send 1 ∷ Take 1 ∷ Close 1 ∷ Take 1 ∷ Ack 1 2 ∷ []
+
+stays_closed : shown (plays all_offered start closed_between) ≡ (
+  (18, None),
+  Some (record { session = 1; timestamp = 0 }),
+  record { book = moved 5; last = 2000; applied = 1; ended = false; closed = true } ∷ [],
+)
+stays_closed = refl
+
+-- what is on its way is lost and handed out again; an acknowledgement lifts a cursor that went back, and so nothing is
+-- left to hand out
+abbrev broken_off : List Step
+broken_off =
+    connected two_transfers ++ told 2 1 ++ taken 3 ++ Send 1 ∷ Send 1 ∷ Take 1 ∷ Break 1 ∷ Send 1 ∷ Ack 1 1 ∷ Send 1
+    ∷ Take 1 ∷ Take 1 ∷ Rewind 1 ∷ Ack 1 3 ∷ Send 1 ∷ []
+
+lifts_cursor : shown (plays all_offered start broken_off) ≡ (
+  (23, Some NotEnabled),
+  Some (record { session = 1; timestamp = 0 }),
+  record { book = moved 12; last = 2001; applied = 2; ended = false; closed = false } ∷ [],
+)
+lifts_cursor = refl

@@ -1,0 +1,21 @@
+pub mod BookLaws
+mod Examples
+pub mod RunLaws
+pub mod ConnArrives
+pub mod ConnChanges
+pub mod ConnHistory
+pub mod ConnLines
+pub mod ConnPlaces
+pub mod ConnReplays
+pub mod ConnSessions
+pub mod ConnSplits
+pub mod ConnSubmits
+pub mod Connector
+pub mod SubReplays
+pub mod SubDeliveries
+pub mod SubServed
+pub mod SubSteps
+pub mod SubFeeds
+pub mod SubFaithful
+pub mod Reached
+pub mod SubClosed

@@ -1,0 +1,9 @@
+pub mod Connector
+pub mod Errors
+pub mod Headline
+pub mod Line
+pub mod Next
+pub mod Packets
+pub mod Queued
+pub mod Runs
+pub mod Worlds

@@ -1,0 +1,91 @@
+-- The world: all that the actors have done, as far as anything to come can depend on it.
+use Rattle.std.specs.Prelude.{ℕ, ◌-◌, ◌==◌, Option, Some, None, List, [], map, slice_get, slice_set, if◌then◌else◌}
+use Rattle.cdc_broker.specs.Queues.{QueueState}
+use Rattle.cdc_ledger.specs.History.{History, empty_history}
+use Rattle.cdc_match.specs.Arguments.{Arguments}
+use Rattle.cdc_match.specs.Queue.{queue}
+use Rattle.cdc_message.specs.declared.items.Delivery.{Delivery}
+use Rattle.cdc_message.specs.declared.items.Item.{Item}
+use Rattle.cdc_message.specs.declared.packets.Confirm.{Confirm}
+use Rattle.cdc_message.specs.declared.packets.Packet.{Packet}
+use Rattle.cdc_message.specs.Items.{events_of, same_item}
+use Rattle.cdc_message.specs.Replays.{firsts}
+use Rattle.cdc_progress.specs.Records.{Saved}
+use Rattle.cdc_publisher.specs.Courses.{Course}
+use Rattle.cdc_subscriber.specs.Heard.{Heard, nothing}
+use Rattle.cdc_types.specs.declared.events.Event.{Event}
+use Rattle.cdc_world.specs.Packets.{items_of}
+
+-- a subscriber and its queue: the binding; what the queue handed out and the subscriber has taken, in order; what was
+-- handed out and is on its way; the positions that the subscriber has acknowledged, in order; the position that the queue
+-- hands out next; the one up to which the broker knows all to be acknowledged; and what the subscriber has heard
+pub record Subscription : Type 0 where
+  pub binding : Arguments
+  pub taken : List Delivery
+  pub flight : List Delivery
+  pub acks : List ℕ
+  pub cursor : ℕ
+  pub acked : ℕ
+  pub heard : Heard
+
+-- the ledger's history; what the store holds; for how many events a session waits at a time; the connector's session,
+-- none where it is down; the packets and the confirms that were ever sent, in order; those packets that the broker took,
+-- in order; how many times a packet, and a confirm, has come; and the subscribers with their queues
+pub record WorldState : Type 0 where
+  pub history : History
+  pub held : Option Saved
+  pub window : ℕ
+  pub session : Option Course
+  pub packets : List Packet
+  pub confirms : List Confirm
+  pub accepted : List Packet
+  pub arrivals : ℕ
+  pub answers : ℕ
+  pub subscriptions : List Subscription
+
+-- a subscriber that nothing has come to
+abbrev pub new_subscription : Arguments → Subscription
+new_subscription binding = record {
+  binding = binding;
+  taken = [];
+  flight = [];
+  acks = [];
+  cursor = 1;
+  acked = 0;
+  heard = nothing;
+}
+
+-- the world before the first step, over a store that holds this
+abbrev pub new_world : List Arguments → ℕ → Option Saved → WorldState
+new_world bindings window held = record {
+  history = empty_history;
+  held = held;
+  window = window;
+  session = None;
+  packets = [];
+  confirms = [];
+  accepted = [];
+  arrivals = 0;
+  answers = 0;
+  subscriptions = map new_subscription bindings;
+}
+
+-- the element of this number, from 1 on, if there is one
+abbrev pub numbered : {X : Type 0} → List X → ℕ → Option X
+numbered xs k = if k == 0 then None else slice_get xs (k - 1)
+
+-- the list with another element under this number
+abbrev pub with_numbered : {X : Type 0} → ℕ → X → List X → List X
+with_numbered k x xs = slice_set xs (k - 1) x
+
+-- the items that the broker took, in order
+abbrev pub taken_items : WorldState → List Item
+taken_items w = items_of w.accepted
+
+-- the queue of a subscriber
+abbrev pub queue_in : WorldState → Subscription → List Item
+queue_in w s = queue (taken_items w) s.binding
+
+-- the events that a subscriber has applied: those that it has heard, without repeats
+abbrev pub applied : Subscription → List Event
+applied s = events_of (firsts same_item s.heard.items)

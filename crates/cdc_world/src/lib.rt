@@ -1,0 +1,6 @@
+//! The world of all actors: ledger, connector, broker and subscribers, moved one action of one actor at a time.
+#![tactic(auto)]
+
+pub mod steps;
+
+pub use steps::{Did, Step, StepError};
