@@ -1,3 +1,4 @@
+pub mod Connector
 pub mod Errors
 pub mod Headline
 pub mod Line

@@ -1,0 +1,136 @@
+-- The line of a ledger: what it has to tell after a moment, and how it grows.
+use Rattle.std.proofs.Common.{◌≡◌, ℕ, zero, suc, ◌<◌, ◌≤◌, Bool, true, false, List, [], ◌∷◌, ◌++◌, map, refl, sym, ap, ap₂, ◌∙◌, subst, inl, inr, append_assoc, append-nil, arith}
+use Rattle.std.specs.Prelude.{All, AllPairs, nat_lt, if◌then◌else◌}
+use Rattle.std.specs.List.{AllByRecursion}
+use Rattle.std.proofs.lemmas.Bool.{cases_Bool}
+use Rattle.std.proofs.lemmas.List.{map-append}
+use Rattle.std.proofs.lemmas.List.Elements.{filter-append}
+use Rattle.cdc_ledger.specs.Events.{event_of, events}
+use Rattle.cdc_ledger.specs.History.{History}
+use Rattle.cdc_ledger.specs.Sound as sound
+use Rattle.cdc_ledger.proofs.Elements.{AllByRecursion-weaker}
+use Rattle.cdc_log.specs.Log.{RiseFrom, events_after}
+use Rattle.cdc_message.specs.declared.items.Item.{Item}
+use Rattle.cdc_message.specs.declared.items.Item.TheVariants.{Event as OfEvent, EndMark}
+use Rattle.cdc_message.specs.Items.{TimestampsRise, events_of}
+use Rattle.cdc_message.specs.Replays.{HasNoneTwice}
+use Rattle.cdc_message.proofs.LineLaws.{HasNoneTwice-events, HasNoneTwice-line, events_of-map}
+use Rattle.cdc_message.proofs.RisesLaws.{events_of-push_end}
+use Rattle.cdc_types.specs.declared.events.Entry.{Entry}
+use Rattle.cdc_types.specs.declared.events.Event.{Event}
+use Rattle.cdc_world.specs.Connector.{line_after}
+use Rattle.cdc_world.specs.Line.{line}
+use Rattle.cdc_world.proofs.ConnSplits.{SplitsAt, split_at, events_after-all}
+
+-- ---- the events of a sound history
+
+rise_entries : (h : History) (t : ℕ) (es : List Entry) → sound.RiseFrom t es → RiseFrom t (map (event_of h) es)
+rise_entries h t [] rise = tt
+rise_entries h t (e ∷ es) rise = (rise.0, rise_entries h e.timestamp es rise.1)
+
+pub events_rise : (h : History) → sound.IsSound h → RiseFrom 0 (events h)
+events_rise h is = rise_entries h 0 h.entries is.rising
+
+past_entries : (h : History) (t : ℕ) (es : List Entry) → AllByRecursion (λ e. e.timestamp ≤ t) es
+    → AllByRecursion (λ e. e.timestamp ≤ t) (map (event_of h) es)
+past_entries h t [] past = tt
+past_entries h t (e ∷ es) past = (past.0, past_entries h t es past.1)
+
+pub events_past : (h : History) → sound.IsSound h → AllByRecursion (λ e. e.timestamp ≤ h.last) (events h)
+events_past h is = past_entries h h.last h.entries is.past
+
+-- ---- their timestamps rise, and no item of the line stands in it twice
+
+all_above : (t : ℕ) (es : List Event) → RiseFrom t es → All (λ e. t < e.timestamp) es
+all_above t [] rise k d below = absurd (omega arith)
+all_above t (e ∷ es) rise zero d below = rise.0
+all_above t (e ∷ es) rise (suc k) d below = omega (arith, rise.0, all_above e.timestamp es rise.1 k d (omega arith))
+
+in_turn : (t : ℕ) (es : List Event) → RiseFrom t es → AllPairs (λ earlier later. earlier.timestamp < later.timestamp) es
+in_turn t [] rise i j d before below = absurd (omega arith)
+in_turn t (e ∷ es) rise zero zero d before below = absurd (omega arith)
+in_turn t (e ∷ es) rise zero (suc j) d before below = all_above e.timestamp es rise.1 j d (omega arith)
+in_turn t (e ∷ es) rise (suc i) zero d before below = absurd (omega arith)
+in_turn t (e ∷ es) rise (suc i) (suc j) d before below = in_turn e.timestamp es rise.1 i j d (omega arith) (omega arith)
+
+pub TimestampsRise-events : (h : History) → sound.IsSound h → TimestampsRise (events h)
+TimestampsRise-events h is =
+    record { above_zero = all_above 0 (events h) (events_rise h is); rising = in_turn 0 (events h) (events_rise h is) }
+
+-- events, and the end mark behind them or none
+abbrev pub told : List Event → Bool → List Item
+told es ended = map OfEvent es ++ (if ended then EndMark ∷ [] else [])
+
+events_of-told : (es : List Event) (ended : Bool) → events_of (told es ended) ≡ es
+events_of-told es true = events_of-push_end (map OfEvent es) ∙ events_of-map es
+events_of-told es false = ap events_of (append-nil (map OfEvent es)) ∙ events_of-map es
+
+pub events_of-line : (h : History) → events_of (line h) ≡ events h
+events_of-line h = events_of-told (events h) h.closed
+
+pub TimestampsRise-line : (h : History) → sound.IsSound h → TimestampsRise (events_of (line h))
+TimestampsRise-line h is = subst TimestampsRise (sym (events_of-line h)) (TimestampsRise-events h is)
+
+none_twice : (es : List Event) (ended : Bool) → TimestampsRise es → HasNoneTwice (told es ended)
+none_twice es true rise = HasNoneTwice-line es rise
+none_twice es false rise = rw (append-nil (map OfEvent es)) (HasNoneTwice-events es rise)
+
+pub HasNoneTwice-of_line : (h : History) → sound.IsSound h → HasNoneTwice (line h)
+HasNoneTwice-of_line h is = none_twice (events h) h.closed (TimestampsRise-events h is)
+
+-- ---- the line before and after a moment
+
+-- the events up to a moment, and then what there is to tell after it
+pub line_splits : (h : History) (t : ℕ) (front : List Event) → SplitsAt (events h) t front (events_after t (events h))
+    → line h ≡ map OfEvent front ++ line_after h t
+line_splits h t front cut =
+    ap (λ es. told es h.closed) cut.whole
+    ∙ ap (λ items. items ++ (if h.closed then EndMark ∷ [] else [])) (map-append OfEvent front (events_after t (events h)))
+    ∙ append_assoc (map OfEvent front) (map OfEvent (events_after t (events h))) (if h.closed then EndMark ∷ [] else [])
+
+pub split_events : (h : History) (t : ℕ) → sound.IsSound h
+    → (front : List Event) × SplitsAt (events h) t front (events_after t (events h))
+split_events h t is = split_at t 0 (events h) (events_rise h is)
+
+-- ---- a history that goes on
+
+-- g has the events of h and later ones; none, where h is closed, and then so is g
+pub record GoesOn (h g : History) : Type 0 where
+  pub new : List Event
+  pub whole : events g ≡ events h ++ new
+  pub later : AllByRecursion (λ e. h.last < e.timestamp) new
+  pub last : h.last ≤ g.last
+  pub shut : h.closed ≡ true → (g.closed ≡ true) × (new ≡ [])
+
+told_more : (es new : List Event) (b c : Bool) → (b ≡ true → (c ≡ true) × (new ≡ []))
+    → (more : List Item) × (told (es ++ new) c ≡ told es b ++ more)
+told_more es new true c shut =
+    let same = shut refl in
+    ([], ap₂ (λ xs d. told (es ++ xs) d) same.1 same.0 ∙ ap (λ xs. told xs true) (append-nil es) ∙ sym (append-nil (told es true)))
+told_more es new false c shut =
+    let rest : List Item = if c then EndMark ∷ [] else [] in
+    (map OfEvent new ++ rest,
+    ap (λ items. items ++ rest) (map-append OfEvent es new)
+    ∙ append_assoc (map OfEvent es) (map OfEvent new) rest
+    ∙ ap (λ items. items ++ (map OfEvent new ++ rest)) (sym (append-nil (map OfEvent es))))
+
+-- the line goes on
+pub line-goes_on : (h g : History) → GoesOn h g → (more : List Item) × (line g ≡ line h ++ more)
+line-goes_on h g on =
+    let more = told_more (events h) on.new h.closed g.closed on.shut in
+    (more.0, ap (λ es. told es g.closed) on.whole ∙ more.1)
+
+-- the later events are later than any moment up to the last one
+pub events_after-goes_on : (h g : History) (t : ℕ) (on : GoesOn h g) → t ≤ h.last
+    → events_after t (events g) ≡ events_after t (events h) ++ on.new
+events_after-goes_on h g t on early =
+    ap (events_after t) on.whole
+    ∙ filter-append (λ (e : Event). nat_lt t e.timestamp) (events h) on.new
+    ∙ ap (λ es. events_after t (events h) ++ es) (events_after-all t on.new
+    (AllByRecursion-weaker (λ e. h.last < e.timestamp) (λ e. t < e.timestamp) (λ e later. omega (arith, later)) on.new on.later))
+
+pub line_after-goes_on : (h g : History) (t : ℕ) → GoesOn h g → t ≤ h.last
+    → (more : List Item) × (line_after g t ≡ line_after h t ++ more)
+line_after-goes_on h g t on early =
+    let more = told_more (events_after t (events h)) on.new h.closed g.closed on.shut in
+    (more.0, ap (λ es. told es g.closed) (events_after-goes_on h g t on early) ∙ more.1)

@@ -1,0 +1,4 @@
+pub mod ConnLines
+pub mod ConnPlaces
+pub mod ConnReplays
+pub mod ConnSplits

@@ -1,0 +1,88 @@
+-- What the connector and the broker keep to, whatever comes: what the broker took is a replay of the ledger's line.
+use Rattle.std.specs.Prelude.{◌≡◌, ℕ, ◌<◌, ◌≤◌, true, Option, Some, None, List, [], ◌∷◌, ◌++◌, map, Contains, if◌then◌else◌}
+use Rattle.cdc_ledger.specs.Events.{events}
+use Rattle.cdc_ledger.specs.History.{History}
+use Rattle.cdc_ledger.specs.Sound.{IsSound}
+use Rattle.cdc_log.specs.Log.{events_after}
+use Rattle.cdc_message.specs.declared.items.Item.{Item}
+use Rattle.cdc_message.specs.declared.items.Item.TheVariants.{Event as OfEvent, EndMark}
+use Rattle.cdc_message.specs.declared.packets.Answer.TheVariants.{Confirmed}
+use Rattle.cdc_message.specs.declared.packets.Confirm.{Confirm}
+use Rattle.cdc_message.specs.declared.packets.Packet.{Packet}
+use Rattle.cdc_message.specs.declared.packets.Packet.TheVariants.{Connect, Publish}
+use Rattle.cdc_message.specs.Replays.{IsPrefix, IsReplay}
+use Rattle.cdc_progress.specs.Records.{Saved}
+use Rattle.cdc_publisher.specs.Courses.{Course, is_confirmed}
+use Rattle.cdc_types.specs.declared.events.Event.{Event}
+use Rattle.cdc_world.specs.Line.{line}
+use Rattle.cdc_world.specs.Packets.{current_session, expected_tag}
+use Rattle.cdc_world.specs.Worlds.{WorldState, numbered, taken_items}
+
+-- what a ledger has to tell after a moment: the later events, and the end mark once it is closed
+abbrev pub line_after : History → ℕ → List Item
+line_after h base = map OfEvent (events_after base (events h)) ++ (if h.closed then EndMark ∷ [] else [])
+
+-- the number of the last session that was saved, or 0
+abbrev pub held_number : Option Saved → ℕ
+held_number None = 0
+held_number (Some saved) = saved.session
+
+-- the timestamp up to which everything is known to be confirmed, or 0
+abbrev pub held_timestamp : Option Saved → ℕ
+held_timestamp None = 0
+held_timestamp (Some saved) = saved.timestamp
+
+-- the session of a packet
+abbrev pub session_of : Packet → ℕ
+session_of (Connect session) = session
+session_of (Publish session tag item) = session
+
+-- the item under this number, from 1 on, is there and was taken
+abbrev pub IsTakenAt : List Item → List Item → ℕ → Type 0
+IsTakenAt taken items k = (item : Item) × (numbered items k ≡ Some item) × Contains taken item
+
+-- every event of the history up to this moment was taken
+abbrev pub HasTakenUpTo : History → List Item → ℕ → Type 0
+HasTakenUpTo h taken t =
+    (event : Event) → Contains (events h) event → event.timestamp ≤ t → Contains taken (OfEvent event)
+
+-- a session keeps to the history: it was offered the first events after its base, and all of them where none are to
+-- follow; and what was confirmed to it was taken
+pub record KeepsTo (h : History) (taken : List Item) (course : Course) : Type 0 where
+  pub offered : IsPrefix course.offered (events_after course.base (events h))
+  pub complete : course.complete ≡ true → (h.closed ≡ true) × (course.offered ≡ events_after course.base (events h))
+  pub confirmed : (tag : ℕ) → is_confirmed course tag ≡ true → IsTakenAt taken (line_after h course.base) tag
+
+-- the connector's session has the number that is held, began after the base of that number, and keeps to the history
+pub record IsCurrent (base_of : ℕ → ℕ) (number : ℕ) (h : History) (taken : List Item) (course : Course)
+    : Type 0 where
+  pub is : course.number ≡ number
+  pub base : base_of course.number ≡ course.base
+  pub keeps : KeepsTo h taken course
+
+-- what holds of every world that steps lead to, where the session of each number began after this base
+pub record IsOrderly (base_of : ℕ → ℕ) (w : WorldState) : Type 0 where
+  pub sound : IsSound w.history
+  -- no session begins after a moment that hasn't come, and none is held
+  pub bases : (session : ℕ) → base_of session ≤ w.history.last
+  pub held_past : held_timestamp w.held ≤ w.history.last
+  -- every number of a session that went out was held before, so that the next one is new
+  pub packet_numbers : (packet : Packet) → Contains w.packets packet → session_of packet ≤ held_number w.held
+  pub confirm_numbers : (confirm : Confirm) → Contains w.confirms confirm → confirm.session ≤ held_number w.held
+  pub current_number : current_session w.accepted ≤ held_number w.held
+  -- a packet has the item that stands under its tag after the base of its session
+  pub packets : (session tag : ℕ) (item : Item) → Contains w.packets (Publish session tag item)
+      → numbered (line_after w.history (base_of session)) tag ≡ Some item
+  -- what stands before the tag that is taken next was taken
+  pub accepted : (next : ℕ) → expected_tag w.accepted ≡ Some next → (tag : ℕ) → 0 < tag → tag < next
+      → IsTakenAt (taken_items w) (line_after w.history (base_of (current_session w.accepted))) tag
+  -- every event up to the base of any session was taken, and up to the moment that is held
+  pub taken : (session : ℕ) → HasTakenUpTo w.history (taken_items w) (base_of session)
+  pub held : HasTakenUpTo w.history (taken_items w) (held_timestamp w.held)
+  -- what was ever confirmed was taken
+  pub confirms : (session tag : ℕ) → Contains w.confirms (record { session = session; answer = Confirmed tag })
+      → IsTakenAt (taken_items w) (line_after w.history (base_of session)) tag
+  pub session : (course : Course) → w.session ≡ Some course
+      → IsCurrent base_of (held_number w.held) w.history (taken_items w) course
+  -- what was taken is a replay of all that there is to tell
+  pub replay : IsReplay (taken_items w) (line w.history)
