@@ -6,7 +6,8 @@ use Rattle.cdc_ledger.specs.Sound.{IsSound}
 use Rattle.cdc_log.specs.Log.{events_after}
 use Rattle.cdc_message.specs.declared.items.Item.{Item}
 use Rattle.cdc_message.specs.declared.items.Item.TheVariants.{Event as OfEvent, EndMark}
-use Rattle.cdc_message.specs.declared.packets.Answer.TheVariants.{Confirmed}
+use Rattle.cdc_message.specs.declared.packets.Answer.{Answer}
+use Rattle.cdc_message.specs.declared.packets.Answer.TheVariants.{Connected, Confirmed, Ignored, Broken}
 use Rattle.cdc_message.specs.declared.packets.Confirm.{Confirm}
 use Rattle.cdc_message.specs.declared.packets.Packet.{Packet}
 use Rattle.cdc_message.specs.declared.packets.Packet.TheVariants.{Connect, Publish}
@@ -41,6 +42,18 @@ session_of (Publish session tag item) = session
 abbrev pub IsTakenAt : List Item → List Item → ℕ → Type 0
 IsTakenAt taken items k = (item : Item) × (numbered items k ≡ Some item) × Contains taken item
 
+-- what an answer confirms was taken
+abbrev pub IsTakenBy : List Item → List Item → Answer → Type 0
+IsTakenBy taken items (Confirmed tag) = IsTakenAt taken items tag
+IsTakenBy taken items Connected = Unit {0}
+IsTakenBy taken items Ignored = Unit {0}
+IsTakenBy taken items Broken = Unit {0}
+
+-- a packet has the item that stands under its tag after the base of its session
+abbrev pub IsOfLine : History → (ℕ → ℕ) → Packet → Type 0
+IsOfLine h base_of (Connect session) = Unit {0}
+IsOfLine h base_of (Publish session tag item) = numbered (line_after h (base_of session)) tag ≡ Some item
+
 -- every event of the history up to this moment was taken
 abbrev pub HasTakenUpTo : History → List Item → ℕ → Type 0
 HasTakenUpTo h taken t =
@@ -70,9 +83,8 @@ pub record IsOrderly (base_of : ℕ → ℕ) (w : WorldState) : Type 0 where
   pub packet_numbers : (packet : Packet) → Contains w.packets packet → session_of packet ≤ held_number w.held
   pub confirm_numbers : (confirm : Confirm) → Contains w.confirms confirm → confirm.session ≤ held_number w.held
   pub current_number : current_session w.accepted ≤ held_number w.held
-  -- a packet has the item that stands under its tag after the base of its session
-  pub packets : (session tag : ℕ) (item : Item) → Contains w.packets (Publish session tag item)
-      → numbered (line_after w.history (base_of session)) tag ≡ Some item
+  -- every packet that went out is of the line
+  pub packets : (packet : Packet) → Contains w.packets packet → IsOfLine w.history base_of packet
   -- what stands before the tag that is taken next was taken
   pub accepted : (next : ℕ) → expected_tag w.accepted ≡ Some next → (tag : ℕ) → 0 < tag → tag < next
       → IsTakenAt (taken_items w) (line_after w.history (base_of (current_session w.accepted))) tag
@@ -80,8 +92,8 @@ pub record IsOrderly (base_of : ℕ → ℕ) (w : WorldState) : Type 0 where
   pub taken : (session : ℕ) → HasTakenUpTo w.history (taken_items w) (base_of session)
   pub held : HasTakenUpTo w.history (taken_items w) (held_timestamp w.held)
   -- what was ever confirmed was taken
-  pub confirms : (session tag : ℕ) → Contains w.confirms (record { session = session; answer = Confirmed tag })
-      → IsTakenAt (taken_items w) (line_after w.history (base_of session)) tag
+  pub confirms : (confirm : Confirm) → Contains w.confirms confirm
+      → IsTakenBy (taken_items w) (line_after w.history (base_of confirm.session)) confirm.answer
   pub session : (course : Course) → w.session ≡ Some course
       → IsCurrent base_of (held_number w.held) w.history (taken_items w) course
   -- what was taken is a replay of all that there is to tell
