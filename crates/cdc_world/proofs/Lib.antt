@@ -1,3 +1,4 @@
+pub mod ConnArrives
 pub mod ConnChanges
 pub mod ConnHistory
 pub mod ConnLines
