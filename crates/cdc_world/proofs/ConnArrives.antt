@@ -26,7 +26,7 @@ use Rattle.cdc_world.specs.Next.{confirms_of, taking_in}
 use Rattle.cdc_world.specs.Packets.{current_session, expected_after, expected_tag, is_tag, is_taken, items_of, packet_item, session_after}
 use Rattle.cdc_world.specs.Worlds.{WorldState, numbered, taken_items}
 use Rattle.cdc_world.proofs.ConnLines.{line_splits, split_events}
-use Rattle.cdc_world.proofs.ConnPlaces.{Contains_slice_get, each_has, numbered_from, numbered_parts, slice_get-before, slice_get-behind}
+use Rattle.cdc_world.proofs.ConnPlaces.{Contains_slice_get, each_from, each_has, numbered_from, numbered_parts, slice_get-before, slice_get-behind}
 use Rattle.cdc_world.proofs.ConnReplays.{IsReplay-in_turn}
 
 -- ---- where more was taken
@@ -80,11 +80,6 @@ tag_after-is tag next is = sym (cond_some (nat_lt (tag + 1) max_64) (tag + 1) ne
 
 -- ---- the item of a publish that is taken comes in turn
 
-each_from : {X : Type 0} (P : X → Type 0) (xs : List X) → ((x : X) → Contains xs x → P x) → AllByRecursion P xs
-each_from P [] has = tt
-each_from P (x ∷ xs) has =
-    (has x (0, omega arith, refl), each_from P xs (λ y there. has y (Contains-append_right (x ∷ []) xs y there)))
-
 each_of_map : (P : Item → Type 0) (es : List Event) → AllByRecursion (λ e. P (OfEvent e)) es
     → AllByRecursion P (map OfEvent es)
 each_of_map P [] all = tt
@@ -122,13 +117,14 @@ IsReplay-taken all f front rest tag item replay whole has there earlier =
     ] in
     IsReplay-in_turn all f item place replay here before
 
--- every event before the base of a session was taken
-front_taken : (h : History) (all : List Item) (t : ℕ) (front back : List Event) → events h ≡ front ++ back
-    → AllByRecursion (λ e. e.timestamp ≤ t) front → HasTakenUpTo h all t → AllByRecursion (Contains all) (map OfEvent front)
+-- every event up to a moment was taken
+pub front_taken : (h : History) (all : List Item) (t : ℕ) (front back : List Event) → events h ≡ front ++ back
+    → AllByRecursion (λ e. e.timestamp ≤ t) front → HasTakenUpTo h all t
+    → AllByRecursion (λ e. Contains all (OfEvent e)) front
 front_taken h all t front back whole low has =
-    each_of_map (Contains all) front (each_from (λ e. Contains all (OfEvent e)) front
+    each_from (λ e. Contains all (OfEvent e)) front
     (λ e there. has e (rw whole (Contains-append_left front back e there))
-    (each_has (λ x. x.timestamp ≤ t) front e low there)))
+    (each_has (λ x. x.timestamp ≤ t) front e low there))
 
 -- ---- the world after it
 
@@ -176,8 +172,9 @@ module _ (base_of : ℕ → ℕ) (w : WorldState) (is : IsOrderly base_of w) whe
       let cut = split_events w.history t is.sound in
       IsReplay-taken (taken_items w) (line w.history) (map OfEvent cut.0) (line_after w.history t) tag item is.replay
       (line_splits w.history t cut.0 cut.1)
+      (each_of_map (Contains (taken_items w)) cut.0
       (front_taken w.history (taken_items w) t cut.0 (events_after t (events w.history)) cut.1.whole cut.1.low
-      (is.taken session))
+      (is.taken session)))
       of_line
       (λ k above below. subst (λ c. IsTakenAt (taken_items w) (line_after w.history (base_of c)) k) (sym same)
       (is.accepted tag expected k above below))

@@ -83,6 +83,11 @@ each_has P (y ∷ xs) x all there =
       | inr later ↦ each_has P xs x all.1 later
     ]
 
+pub each_from : {X : Type 0} (P : X → Type 0) (xs : List X) → ((x : X) → Contains xs x → P x) → AllByRecursion P xs
+each_from P [] has = tt
+each_from P (x ∷ xs) has =
+    (has x (0, omega arith, refl), each_from P xs (λ y there. has y (Contains-append_right (x ∷ []) xs y there)))
+
 -- two lists, one after the other
 pub AllByRecursion-append : {X : Type 0} (P : X → Type 0) (xs ys : List X) → AllByRecursion P xs → AllByRecursion P ys
     → AllByRecursion P (xs ++ ys)

@@ -4,5 +4,6 @@ pub mod ConnHistory
 pub mod ConnLines
 pub mod ConnPlaces
 pub mod ConnReplays
+pub mod ConnSessions
 pub mod ConnSplits
 pub mod ConnSubmits
