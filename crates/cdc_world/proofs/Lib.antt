@@ -7,3 +7,4 @@ pub mod ConnReplays
 pub mod ConnSessions
 pub mod ConnSplits
 pub mod ConnSubmits
+pub mod Connector
