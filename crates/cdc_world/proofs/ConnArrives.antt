@@ -1,11 +1,11 @@
 -- A packet that comes to the broker.
-use Rattle.std.proofs.Common.{◌≡◌, ℕ, ◌+◌, ◌-◌, ◌<◌, ◌≤◌, Bool, true, false, List, [], ◌∷◌, ◌++◌, length, map, refl, sym, ap, ◌∙◌, subst, inl, inr, append-nil, arith}
-use Rattle.std.specs.Prelude.{◌==◌, ◌&&◌, nat_lt, Option, Some, None, Contains, slice_get, fold}
+use Rattle.std.proofs.Common.{◌≡◌, ℕ, ◌+◌, ◌-◌, ◌<◌, ◌≤◌, true, List, [], ◌∷◌, ◌++◌, length, map, sym, ap, ◌∙◌, subst, inl, inr, append-nil, arith}
+use Rattle.std.specs.Prelude.{◌==◌, nat_lt, Option, Some, None, Contains, slice_get}
 use Rattle.std.specs.List.{AllByRecursion}
 use Rattle.std.proofs.lemmas.Bool.{and_parts, cases_Bool, cases_lt, eqb-true}
-use Rattle.std.proofs.lemmas.List.Elements.{Contains-append_left, Contains-append_right, Contains-push, Contains-push_cases, filter_map-append}
+use Rattle.std.proofs.lemmas.List.Elements.{Contains-append_left, Contains-push, Contains-push_cases, filter_map-append}
 use Rattle.std.proofs.lemmas.List.Sums.{fold-append}
-use Rattle.std.proofs.lemmas.Option.{cond_some, none-some, same_Some}
+use Rattle.std.proofs.lemmas.Option.{cond_some, same_Some}
 use Rattle.cdc_broker.specs.Broker.{max_64, tag_after}
 use Rattle.cdc_ledger.specs.Events.{events}
 use Rattle.cdc_ledger.specs.History.{History}
@@ -20,9 +20,9 @@ use Rattle.cdc_message.specs.declared.packets.Packet.TheVariants.{Connect, Publi
 use Rattle.cdc_message.specs.Replays.{IsReplay}
 use Rattle.cdc_publisher.specs.Courses.{Course}
 use Rattle.cdc_types.specs.declared.events.Event.{Event}
-use Rattle.cdc_world.specs.Connector.{HasTakenUpTo, IsCurrent, IsOfLine, IsOrderly, IsTakenAt, IsTakenBy, KeepsTo, held_number, held_timestamp, line_after, session_of}
+use Rattle.cdc_world.specs.Connector.{HasTakenUpTo, IsCurrent, IsOfLine, IsOrderly, IsTakenAt, IsTakenBy, held_number, held_timestamp, line_after}
 use Rattle.cdc_world.specs.Line.{line}
-use Rattle.cdc_world.specs.Next.{confirms_of, taking_in}
+use Rattle.cdc_world.specs.Next.{taking_in}
 use Rattle.cdc_world.specs.Packets.{current_session, expected_after, expected_tag, is_tag, is_taken, items_of, packet_item, session_after}
 use Rattle.cdc_world.specs.Worlds.{WorldState, numbered, taken_items}
 use Rattle.cdc_world.proofs.ConnLines.{line_splits, split_events}
@@ -146,7 +146,8 @@ module _ (base_of : ℕ → ℕ) (w : WorldState) (is : IsOrderly base_of w) whe
         packet_numbers = is.packet_numbers;
         confirm_numbers = λ confirm there.
             is.confirm_numbers confirm (subst (λ cs. Contains cs confirm) (append-nil w.confirms) there);
-        current_number = subst (λ n. n ≤ held_number w.held) (sym (current_session-push w.accepted (Connect session))) low;
+        current_number =
+            subst (λ n. n ≤ held_number w.held) (sym (current_session-push w.accepted (Connect session))) low;
         packets = is.packets;
         accepted = λ next expected tag above below.
             let first : 1 ≡ next =
@@ -191,10 +192,10 @@ module _ (base_of : ℕ → ℕ) (w : WorldState) (is : IsOrderly base_of w) whe
             (λ x old. Contains-append_left (taken_items w) (item ∷ []) x old)
             (line_after w.history (base_of (current_session w.accepted))) k (is.accepted tag expected k above early)
         | inr late ↦
-            let this : k ≡ tag = omega (arith, is_next, late, below) in
-            (
+            let this : k ≡ tag = omega (arith, is_next, late, below) in (
               item,
-              subst (λ n. numbered (line_after w.history (base_of (current_session w.accepted))) n ≡ Some item) (sym this) there,
+              subst (λ n. numbered (line_after w.history (base_of (current_session w.accepted))) n ≡ Some item)
+                  (sym this) there,
               Contains-push (taken_items w) item,
             )
       ]
@@ -208,7 +209,8 @@ module _ (base_of : ℕ → ℕ) (w : WorldState) (is : IsOrderly base_of w) whe
       let after : List Item = items_of (w.accepted ++ packet ∷ []) in
       let pushed : after ≡ taken_items w ++ item ∷ [] = items_of-push w.accepted packet in
       let more : (x : Item) → Contains (taken_items w) x → Contains after x =
-      λ x there. subst (λ items. Contains items x) (sym pushed) (Contains-append_left (taken_items w) (item ∷ []) x there) in
+      λ x there.
+      subst (λ items. Contains items x) (sym pushed) (Contains-append_left (taken_items w) (item ∷ []) x there) in
       let last : Contains after item =
       subst (λ items. Contains items item) (sym pushed) (Contains-push (taken_items w) item) in
       let current : current_session (w.accepted ++ packet ∷ []) ≡ current_session w.accepted =

@@ -1,7 +1,7 @@
 -- What connector and broker keep to, where other parts of the world change.
-use Rattle.std.proofs.Common.{◌≡◌, ℕ, ◌+◌, ◌<◌, ◌≤◌, Bool, true, false, List, [], ◌∷◌, ◌++◌, refl, sym, ap, ◌∙◌, subst, inl, inr, arith}
-use Rattle.std.specs.Prelude.{◌==◌, Option, Some, None, Contains, if◌then◌else◌}
-use Rattle.std.proofs.lemmas.Bool.{cases_Bool, cases_lt, eqb-true, eqb-false}
+use Rattle.std.proofs.Common.{◌≡◌, ℕ, ◌<◌, ◌≤◌, List, [], ◌∷◌, ◌++◌, refl, sym, ◌∙◌, subst, inl, inr, arith}
+use Rattle.std.specs.Prelude.{◌==◌, Option, Some, if◌then◌else◌}
+use Rattle.std.proofs.lemmas.Bool.{cases_Bool, eqb-true, eqb-false}
 use Rattle.std.proofs.lemmas.List.Elements.{Contains-push_cases}
 use Rattle.cdc_ledger.specs.History.{History}
 use Rattle.cdc_message.specs.declared.items.Item.{Item}
@@ -9,7 +9,7 @@ use Rattle.cdc_message.specs.declared.packets.Packet.{Packet}
 use Rattle.cdc_message.specs.declared.packets.Packet.TheVariants.{Connect, Publish}
 use Rattle.cdc_progress.specs.Records.{Saved}
 use Rattle.cdc_publisher.specs.Courses.{Course}
-use Rattle.cdc_world.specs.Connector.{HasTakenUpTo, IsCurrent, IsOfLine, IsOrderly, IsTakenAt, IsTakenBy, KeepsTo, held_number, held_timestamp, line_after, session_of}
+use Rattle.cdc_world.specs.Connector.{HasTakenUpTo, IsCurrent, IsOfLine, IsOrderly, IsTakenAt, IsTakenBy, held_number, line_after, session_of}
 use Rattle.cdc_world.specs.Packets.{current_session}
 use Rattle.cdc_world.specs.Worlds.{Subscription, WorldState, numbered, taken_items}
 

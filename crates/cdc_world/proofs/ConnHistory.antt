@@ -1,6 +1,6 @@
 -- What connector and broker keep to stays so where the ledger's history goes on.
-use Rattle.std.proofs.Common.{◌≡◌, ℕ, ◌<◌, ◌≤◌, true, List, [], ◌∷◌, ◌++◌, refl, sym, ap, ◌∙◌, subst, inl, inr, append_assoc, append-nil, arith}
-use Rattle.std.specs.Prelude.{Some, Contains}
+use Rattle.std.proofs.Common.{◌≡◌, ℕ, ◌<◌, ◌≤◌, List, ◌++◌, sym, ap, ◌∙◌, subst, inl, inr, append_assoc, append-nil, arith}
+use Rattle.std.specs.Prelude.{Some}
 use Rattle.std.proofs.lemmas.List.Elements.{Contains-append_cases}
 use Rattle.cdc_ledger.specs.Events.{events}
 use Rattle.cdc_ledger.specs.History.{History}
@@ -11,10 +11,9 @@ use Rattle.cdc_message.specs.declared.packets.Answer.{Answer}
 use Rattle.cdc_message.specs.declared.packets.Answer.TheVariants.{Connected, Confirmed, Ignored, Broken}
 use Rattle.cdc_message.specs.declared.packets.Packet.{Packet}
 use Rattle.cdc_message.specs.declared.packets.Packet.TheVariants.{Connect, Publish}
-use Rattle.cdc_message.specs.Replays.{IsPrefix, IsReplay}
+use Rattle.cdc_message.specs.Replays.{IsReplay}
 use Rattle.cdc_message.proofs.ReplayLaws.{IsReplay-longer}
 use Rattle.cdc_publisher.specs.Courses.{Course}
-use Rattle.cdc_types.specs.declared.events.Event.{Event}
 use Rattle.cdc_world.specs.Connector.{HasTakenUpTo, IsCurrent, IsOfLine, IsOrderly, IsTakenAt, IsTakenBy, KeepsTo, held_number, held_timestamp, line_after}
 use Rattle.cdc_world.specs.Line.{line}
 use Rattle.cdc_world.specs.Packets.{current_session}
@@ -71,8 +70,7 @@ module _ (h g : History) (on : GoesOn h g) where
         };
         complete = λ is.
             let all = keeps.complete is in
-            let shut = on.shut all.0 in
-            (
+            let shut = on.shut all.0 in (
               shut.0,
               all.1
                   ∙ sym (append-nil (events_after course.base (events h)))
@@ -105,8 +103,8 @@ IsOrderly-history base_of w g is on sound =
       current_number = is.current_number;
       packets = λ packet there. IsOfLine-goes_on h g on base_of is.bases packet (is.packets packet there);
       accepted = λ next expected tag above below.
-          IsTakenAt-goes_on h g on all (base_of (current_session w.accepted)) tag (is.bases (current_session w.accepted))
-          (is.accepted next expected tag above below);
+          IsTakenAt-goes_on h g on all (base_of (current_session w.accepted)) tag
+          (is.bases (current_session w.accepted)) (is.accepted next expected tag above below);
       taken = λ session. HasTakenUpTo-goes_on h g on all (base_of session) (is.bases session) (is.taken session);
       held = HasTakenUpTo-goes_on h g on all (held_timestamp w.held) is.held_past is.held;
       confirms = λ confirm there.

@@ -1,8 +1,7 @@
 -- The line of a ledger: what it has to tell after a moment, and how it grows.
-use Rattle.std.proofs.Common.{◌≡◌, ℕ, zero, suc, ◌<◌, ◌≤◌, Bool, true, false, List, [], ◌∷◌, ◌++◌, map, refl, sym, ap, ap₂, ◌∙◌, subst, inl, inr, append_assoc, append-nil, arith}
+use Rattle.std.proofs.Common.{◌≡◌, ℕ, zero, suc, ◌<◌, ◌≤◌, Bool, true, false, List, [], ◌∷◌, ◌++◌, map, refl, sym, ap, ap₂, ◌∙◌, subst, append_assoc, append-nil, arith}
 use Rattle.std.specs.Prelude.{All, AllPairs, nat_lt, if◌then◌else◌}
 use Rattle.std.specs.List.{AllByRecursion}
-use Rattle.std.proofs.lemmas.Bool.{cases_Bool}
 use Rattle.std.proofs.lemmas.List.{map-append}
 use Rattle.std.proofs.lemmas.List.Elements.{filter-append}
 use Rattle.cdc_ledger.specs.Events.{event_of, events}
@@ -85,7 +84,8 @@ pub line_splits : (h : History) (t : ℕ) (front : List Event) → SplitsAt (eve
     → line h ≡ map OfEvent front ++ line_after h t
 line_splits h t front cut =
     ap (λ es. told es h.closed) cut.whole
-    ∙ ap (λ items. items ++ (if h.closed then EndMark ∷ [] else [])) (map-append OfEvent front (events_after t (events h)))
+    ∙ ap (λ items. items ++ (if h.closed then EndMark ∷ [] else []))
+    (map-append OfEvent front (events_after t (events h)))
     ∙ append_assoc (map OfEvent front) (map OfEvent (events_after t (events h))) (if h.closed then EndMark ∷ [] else [])
 
 pub split_events : (h : History) (t : ℕ) → sound.IsSound h
@@ -105,14 +105,19 @@ pub record GoesOn (h g : History) : Type 0 where
 told_more : (es new : List Event) (b c : Bool) → (b ≡ true → (c ≡ true) × (new ≡ []))
     → (more : List Item) × (told (es ++ new) c ≡ told es b ++ more)
 told_more es new true c shut =
-    let same = shut refl in
-    ([], ap₂ (λ xs d. told (es ++ xs) d) same.1 same.0 ∙ ap (λ xs. told xs true) (append-nil es) ∙ sym (append-nil (told es true)))
+    let same = shut refl in (
+      [],
+      ap₂ (λ xs d. told (es ++ xs) d) same.1 same.0
+          ∙ ap (λ xs. told xs true) (append-nil es)
+          ∙ sym (append-nil (told es true)),
+    )
 told_more es new false c shut =
-    let rest : List Item = if c then EndMark ∷ [] else [] in
-    (map OfEvent new ++ rest,
-    ap (λ items. items ++ rest) (map-append OfEvent es new)
-    ∙ append_assoc (map OfEvent es) (map OfEvent new) rest
-    ∙ ap (λ items. items ++ (map OfEvent new ++ rest)) (sym (append-nil (map OfEvent es))))
+    let rest : List Item = if c then EndMark ∷ [] else [] in (
+      map OfEvent new ++ rest,
+      ap (λ items. items ++ rest) (map-append OfEvent es new)
+          ∙ append_assoc (map OfEvent es) (map OfEvent new) rest
+          ∙ ap (λ items. items ++ (map OfEvent new ++ rest)) (sym (append-nil (map OfEvent es))),
+    )
 
 -- the line goes on
 pub line-goes_on : (h g : History) → GoesOn h g → (more : List Item) × (line g ≡ line h ++ more)
@@ -127,7 +132,8 @@ events_after-goes_on h g t on early =
     ap (events_after t) on.whole
     ∙ filter-append (λ (e : Event). nat_lt t e.timestamp) (events h) on.new
     ∙ ap (λ es. events_after t (events h) ++ es) (events_after-all t on.new
-    (AllByRecursion-weaker (λ e. h.last < e.timestamp) (λ e. t < e.timestamp) (λ e later. omega (arith, later)) on.new on.later))
+    (AllByRecursion-weaker (λ e. h.last < e.timestamp) (λ e. t < e.timestamp) (λ e later. omega (arith, later))
+    on.new on.later))
 
 pub line_after-goes_on : (h g : History) (t : ℕ) → GoesOn h g → t ≤ h.last
     → (more : List Item) × (line_after g t ≡ line_after h t ++ more)

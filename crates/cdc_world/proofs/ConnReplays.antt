@@ -1,13 +1,11 @@
 -- When one more element keeps a list a replay.
-use Rattle.std.proofs.Common.{◌≡◌, ℕ, ◌+◌, ◌-◌, ◌<◌, ◌≤◌, List, [], ◌∷◌, ◌++◌, length, get_or, take, refl, sym, ◌∙◌, inl, inr, arith}
+use Rattle.std.proofs.Common.{◌≡◌, ℕ, ◌<◌, ◌≤◌, List, [], ◌∷◌, ◌++◌, length, get_or, take, refl, sym, ◌∙◌, inl, inr, arith}
 use Rattle.std.specs.Prelude.{Contains, Some, slice_get}
 use Rattle.std.proofs.lemmas.Bool.{cases_lt}
 use Rattle.std.proofs.lemmas.List.{get_or-take, length-take}
 use Rattle.std.proofs.lemmas.Option.{slice_get_within, get_or_from_slice_get, slice_get_read}
 use Rattle.cdc_message.specs.Replays.{HaveSame, IsReplay}
 use Rattle.cdc_message.proofs.ReplayLaws.{IsReplay-again, IsReplay-all, IsReplay-next}
-use Rattle.cdc_world.specs.Connector.{IsTakenAt}
-use Rattle.cdc_world.proofs.ConnPlaces.{Contains_slice_get, numbered_parts, slice_get-before, slice_get-behind}
 
 -- an element of a beginning, by its place
 from_take : {X : Type 0} (m : ℕ) (f : List X) (x : X) → Contains (take m f) x

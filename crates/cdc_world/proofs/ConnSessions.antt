@@ -1,14 +1,14 @@
 -- The steps of the connector's session.
-use Rattle.std.proofs.Common.{◌≡◌, ℕ, zero, suc, ◌+◌, ◌-◌, ◌<◌, ◌≤◌, Bool, true, false, cond, List, [], ◌∷◌, ◌++◌, length, map, take, drop, refl, sym, ap, ap₂, ◌∙◌, subst, inl, inr, append_assoc, append-nil, arith}
+use Rattle.std.proofs.Common.{◌≡◌, ℕ, suc, ◌+◌, ◌-◌, ◌<◌, ◌≤◌, Bool, true, false, List, [], ◌∷◌, ◌++◌, length, map, take, drop, refl, sym, ap, ◌∙◌, subst, inl, inr, append_assoc, arith}
 use Rattle.std.specs.Prelude.{◌==◌, ◌&&◌, ◌||◌, ◌⊎◌, not, nat_le, nat_lt, Option, Some, None, Contains, slice_get, if◌then◌else◌}
 use Rattle.std.specs.List.{AllByRecursion, list_all, list_any}
 use Rattle.std.specs.Option.{option_map}
-use Rattle.std.proofs.lemmas.Bool.{and_parts, cases_Bool, cases_lt, eqb-true, eqb-false}
+use Rattle.std.proofs.lemmas.Bool.{and_parts, cases_Bool, eqb-true, eqb-false}
 use Rattle.std.proofs.lemmas.Bool.Decides.{nat_tests}
 use Rattle.std.proofs.lemmas.List.{length-map, take-append-drop, take_all}
 use Rattle.std.proofs.lemmas.List.Elements.{Contains-append_right}
 use Rattle.std.proofs.lemmas.List.Folds.{list_any-append}
-use Rattle.std.proofs.lemmas.Option.{cond_some, none-some, same_Some, slice_get-map, slice_get_within}
+use Rattle.std.proofs.lemmas.Option.{cond_some, none-some, same_Some, slice_get-map}
 use Rattle.cdc_ledger.specs.Events.{events}
 use Rattle.cdc_ledger.specs.History.{History}
 use Rattle.cdc_ledger.specs.Sound.{IsSound}
@@ -22,9 +22,8 @@ use Rattle.cdc_message.specs.declared.packets.Confirm.{Confirm}
 use Rattle.cdc_message.specs.declared.packets.Packet.{Packet}
 use Rattle.cdc_message.specs.declared.packets.Packet.TheVariants.{Connect, Publish}
 use Rattle.cdc_message.specs.Items.{last_timestamp_from}
-use Rattle.cdc_message.specs.Replays.{IsPrefix}
 use Rattle.cdc_progress.specs.Records.{Saved}
-use Rattle.cdc_publisher.specs.Courses.{Course, all_sent, begun, confirmed_from, confirmed_timestamp, end_packet, is_confirmed, is_sent, last_session, may_end, new_course, next_packet, numbers_from, progress_of, publish_packet, tags_sent, takes_confirm, unconfirmed, wanted, with_confirm, with_offer, with_sent}
+use Rattle.cdc_publisher.specs.Courses.{Course, all_sent, begun, confirmed_from, confirmed_timestamp, is_confirmed, is_sent, last_session, may_end, new_course, next_packet, numbers_from, progress_of, publish_packet, tags_sent, takes_confirm, unconfirmed, wanted, with_confirm, with_offer, with_sent}
 use Rattle.cdc_publisher.specs.declared.session.Poll.{Poll}
 use Rattle.cdc_types.specs.declared.events.Event.{Event}
 use Rattle.cdc_world.specs.Connector.{HasTakenUpTo, IsCurrent, IsOfLine, IsOrderly, IsTakenAt, IsTakenBy, KeepsTo, held_number, held_timestamp, line_after, session_of}
@@ -33,7 +32,7 @@ use Rattle.cdc_world.specs.Worlds.{WorldState, numbered, taken_items}
 use Rattle.cdc_world.proofs.ConnArrives.{front_taken}
 use Rattle.cdc_world.proofs.ConnChanges.{IsOrderly-base, IsOrderly-held, IsOrderly-sent, IsOrderly-session, with_base, with_base-new}
 use Rattle.cdc_world.proofs.ConnLines.{events_past, split_events}
-use Rattle.cdc_world.proofs.ConnPlaces.{each_has, numbered_from, numbered_parts, slice_get-append, slice_get-behind}
+use Rattle.cdc_world.proofs.ConnPlaces.{each_has, numbered_from, slice_get-append, slice_get-behind}
 use Rattle.cdc_world.proofs.ConnSplits.{SplitsAt, SplitsAt-later, SplitsAt-next, events_after-split, front_has}
 
 -- ---- what stands under a number of the line after a moment
@@ -182,10 +181,11 @@ IsOrderly-polled base_of w course poll is there wants =
       after = last_timestamp_from course.base course.offered;
       limit = course.window - length (unconfirmed course);
     }) poll wants in
-    let after : poll.after ≡ last_timestamp_from course.base course.offered = sym (ap (λ (p : Poll). p.after) asked.1) in
+    let after : poll.after ≡ last_timestamp_from course.base course.offered =
+    sym (ap (λ (p : Poll). p.after) asked.1) in
     IsOrderly-course base_of w course
-    (with_offer (take poll.limit (events_after poll.after (events w.history))) (none_follow w.history poll) course) is there
-    refl refl
+    (with_offer (take poll.limit (events_after poll.after (events w.history))) (none_follow w.history poll) course)
+    is there refl refl
     (KeepsTo-offer w.history (taken_items w) course poll is.sound (is.session course there).keeps after)
 
 -- ---- it sends a packet
@@ -246,8 +246,8 @@ packet_fits base_of number h taken course packet current is =
           subst (IsFit h base_of course) connects (record { number = refl; of_line = tt })
       | inr later ↦
           let some : 0 < course.sent = omega (arith, eqb-false course.sent 0 later) in
-          publish_fits base_of number h taken course current some (slice_get course.offered (course.sent - 1)) packet refl
-          (rw later at is)
+          publish_fits base_of number h taken course current some (slice_get course.offered (course.sent - 1)) packet
+          refl (rw later at is)
     ]
 
 pub IsOrderly-sending : (base_of : ℕ → ℕ) (w : WorldState) (course : Course) (packet : Packet) → IsOrderly base_of w

@@ -1,8 +1,7 @@
 -- A rising list of events, cut at a moment.
-use Rattle.std.proofs.Common.{◌≡◌, ℕ, ◌+◌, ◌<◌, ◌≤◌, Bool, true, false, cond, List, [], ◌∷◌, ◌++◌, refl, sym, ap, ap₂, ◌∙◌, subst, inl, inr, append_assoc, append-nil, arith}
+use Rattle.std.proofs.Common.{◌≡◌, ℕ, ◌<◌, ◌≤◌, Bool, true, false, cond, List, [], ◌∷◌, ◌++◌, refl, sym, ap, ap₂, ◌∙◌, subst, inl, inr, append_assoc, append-nil, arith}
 use Rattle.std.specs.Prelude.{Contains, nat_lt}
 use Rattle.std.specs.List.{AllByRecursion}
-use Rattle.std.proofs.lemmas.Bool.{cases_Bool}
 use Rattle.std.proofs.lemmas.Bool.Decides.{nat_tests}
 use Rattle.std.proofs.lemmas.List.Elements.{Contains-append_cases, filter-append}
 use Rattle.cdc_ledger.proofs.Elements.{AllByRecursion-weaker, AllByRecursion_push}
@@ -69,18 +68,22 @@ split_first : (t : ℕ) (e : Event) (es : List Event) (b : Bool) → nat_lt t e.
 split_first t e es true is rise rest =
     let later : t < e.timestamp = later_from t e.timestamp is in
     let all : events_after t es ≡ es =
-    events_after-all t es (all_later t es (RiseFrom-earlier t e.timestamp es (omega (arith, later)) rise)) in
-    ([], record {
-      whole = ap (λ more. e ∷ more) (sym all);
-      low = tt;
-      rise = (later, subst (RiseFrom e.timestamp) (sym all) rise);
-    })
-split_first t e es false is rise rest =
-    (e ∷ rest.0, record {
-      whole = ap (λ more. e ∷ more) rest.1.whole;
-      low = (early_from t e.timestamp is, rest.1.low);
-      rise = rest.1.rise;
-    })
+    events_after-all t es (all_later t es (RiseFrom-earlier t e.timestamp es (omega (arith, later)) rise)) in (
+      [],
+      record {
+        whole = ap (λ more. e ∷ more) (sym all);
+        low = tt;
+        rise = (later, subst (RiseFrom e.timestamp) (sym all) rise);
+      },
+    )
+split_first t e es false is rise rest = (
+  e ∷ rest.0,
+  record {
+    whole = ap (λ more. e ∷ more) rest.1.whole;
+    low = (early_from t e.timestamp is, rest.1.low);
+    rise = rest.1.rise;
+  },
+)
 
 -- every rising list can be cut at every moment
 pub split_at : (t s : ℕ) (es : List Event) → RiseFrom s es

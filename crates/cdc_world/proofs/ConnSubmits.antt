@@ -1,6 +1,6 @@
 -- A batch only adds later events to a ledger that isn't closed.
-use Rattle.std.proofs.Common.{◌≡◌, ℕ, ◌+◌, ◌<◌, ◌≤◌, Bool, true, false, List, [], ◌∷◌, ◌++◌, length, refl, sym, ap, ◌∙◌, subst, append_assoc, append-nil, arith}
-use Rattle.std.specs.Prelude.{◌==◌, Option, Some, None, Result, Ok, Err, if◌then◌else◌}
+use Rattle.std.proofs.Common.{◌≡◌, ℕ, ◌+◌, ◌<◌, ◌≤◌, Bool, true, false, List, [], ◌∷◌, ◌++◌, refl, sym, ap, ◌∙◌, subst, append_assoc, append-nil, arith}
+use Rattle.std.specs.Prelude.{◌==◌, Option, Some, None, Ok, if◌then◌else◌}
 use Rattle.std.specs.List.{AllByRecursion}
 use Rattle.cdc_ledger.specs.declared.errors.BatchError.{BatchError}
 use Rattle.cdc_ledger.specs.Changes.{expiry}
@@ -100,85 +100,77 @@ past-pushed h e past later =
 
 -- ---- the requests of a batch
 
--- one or the other of two histories, both of which have this timestamp, no entry past it, and the open accounts
-either_account : (h : History) (a : NewAccount) (t : ℕ) → IsRegular h → h.last < t → (b : Bool)
-    → (g : History) × (g ≡ if b then with_account h (opened_by a t) else timed h t) × IsRegular g × Adds h g
-    × (g.last ≡ t) × (g.closed ≡ h.closed)
-either_account h a t is later true = (
-  with_account h (opened_by a t),
-  refl,
-  IsRegular-with_account h (opened_by a t) is later,
-  Adds-with_account h (opened_by a t) is later,
-  refl,
-  refl,
-)
-either_account h a t is later false = (
-  timed h t, refl, IsRegular-timed h t is later, Adds-timed h t later, refl, refl,
-)
+-- g comes of h by a request for an account at the moment t
+record IsNextAccount (h : History) (t : ℕ) (g : History) : Type 0 where
+  regular : IsRegular g
+  adds : Adds h g
+  at : g.last ≡ t
+
+-- whether it is accepted or not
+next_account : (h : History) (a : NewAccount) (t : ℕ) → IsRegular h → h.last < t → (b : Bool)
+    → IsNextAccount h t (if b then with_account h (opened_by a t) else timed h t)
+next_account h a t is later true = record {
+  regular = IsRegular-with_account h (opened_by a t) is later;
+  adds = Adds-with_account h (opened_by a t) is later;
+  at = refl;
+}
+next_account h a t is later false =
+    record { regular = IsRegular-timed h t is later; adds = Adds-timed h t later; at = refl }
 
 Adds-accounts_from : (h : History) (t : ℕ) (rs : List NewAccount) → IsRegular h → h.last < t
-    → Adds h (accounts_from features h t rs).1 × ((accounts_from features h t rs).1.closed ≡ h.closed)
-Adds-accounts_from h t [] is later = (Adds-none h h refl (omega arith), refl)
+    → Adds h (accounts_from features h t rs).1
+Adds-accounts_from h t [] is later = Adds-none h h refl (omega arith)
 Adds-accounts_from h t (a ∷ rest) is later =
     let verdict : AccountResult = account_verdict features h a in
-    let after = either_account h a t is later (account_number verdict == 0) in
-    let more : Adds after.0 (accounts_from features after.0 (t + 1) rest).1
-    × ((accounts_from features after.0 (t + 1) rest).1.closed ≡ after.0.closed) =
-    Adds-accounts_from after.0 (t + 1) rest after.2 (omega (arith, after.4)) in
-    let P : History → Type 0 = λ g. Adds h (accounts_from features g (t + 1) rest).1
-    × ((accounts_from features g (t + 1) rest).1.closed ≡ h.closed) in
-    subst P after.1 (Adds-trans h after.0 _ after.3 more.0, more.1 ∙ after.5)
+    let g : History = after_account h a t verdict in
+    let next : IsNextAccount h t g = next_account h a t is later (account_number verdict == 0) in
+    Adds-trans h g (accounts_from features g (t + 1) rest).1 next.adds
+    (Adds-accounts_from g (t + 1) rest next.regular (omega (arith, next.at)))
 
--- the same of transfers, which open no account
-either_transfer : (h : History) (r : NewTransfer) (t : ℕ) → AllByRecursion (λ e. e.timestamp ≤ h.last) h.entries
+-- the same of a request for a transfer, which opens no account
+record IsNextTransfer (h : History) (t : ℕ) (g : History) : Type 0 where
+  past : AllByRecursion (λ e. e.timestamp ≤ g.last) g.entries
+  adds : Adds h g
+  at : g.last ≡ t
+
+next_transfer : (h : History) (r : NewTransfer) (t : ℕ) → AllByRecursion (λ e. e.timestamp ≤ h.last) h.entries
     → h.last < t → (b : Bool)
-    → (g : History) × (g ≡ if b then pushed h (entry_of h r t) else timed h t)
-    × AllByRecursion (λ e. e.timestamp ≤ g.last) g.entries × Adds h g × (g.last ≡ t) × (g.closed ≡ h.closed)
-either_transfer h r t past later true = (
-  pushed h (entry_of h r t),
-  refl,
-  past-pushed h (entry_of h r t) past later,
-  Adds-pushed h (entry_of h r t) past later,
-  refl,
-  refl,
-)
-either_transfer h r t past later false = (
-  timed h t,
-  refl,
-  AllByRecursion-weaker (λ e. e.timestamp ≤ h.last) (λ e. e.timestamp ≤ t) (λ e early. omega (arith, early, later))
-      h.entries past,
-  Adds-timed h t later,
-  refl,
-  refl,
-)
+    → IsNextTransfer h t (if b then pushed h (entry_of h r t) else timed h t)
+next_transfer h r t past later true = record {
+  past = past-pushed h (entry_of h r t) past later;
+  adds = Adds-pushed h (entry_of h r t) past later;
+  at = refl;
+}
+next_transfer h r t past later false = record {
+  past = AllByRecursion-weaker (λ e. e.timestamp ≤ h.last) (λ e. e.timestamp ≤ t)
+      (λ e early. omega (arith, early, later)) h.entries past;
+  adds = Adds-timed h t later;
+  at = refl;
+}
 
 Adds-transfers_from : (h : History) (t : ℕ) (rs : List NewTransfer)
     → AllByRecursion (λ e. e.timestamp ≤ h.last) h.entries → h.last < t
-    → Adds h (transfers_from features h t rs).1 × ((transfers_from features h t rs).1.closed ≡ h.closed)
-Adds-transfers_from h t [] past later = (Adds-none h h refl (omega arith), refl)
+    → Adds h (transfers_from features h t rs).1
+Adds-transfers_from h t [] past later = Adds-none h h refl (omega arith)
 Adds-transfers_from h t (r ∷ rest) past later =
     let verdict : TransferResult = transfer_verdict features h r t in
-    let after = either_transfer h r t past later (transfer_number verdict == 0) in
-    let more : Adds after.0 (transfers_from features after.0 (t + 1) rest).1
-    × ((transfers_from features after.0 (t + 1) rest).1.closed ≡ after.0.closed) =
-    Adds-transfers_from after.0 (t + 1) rest after.2 (omega (arith, after.4)) in
-    let P : History → Type 0 = λ g. Adds h (transfers_from features g (t + 1) rest).1
-    × ((transfers_from features g (t + 1) rest).1.closed ≡ h.closed) in
-    subst P after.1 (Adds-trans h after.0 _ after.3 more.0, more.1 ∙ after.5)
+    let g : History = after_transfer h r t verdict in
+    let next : IsNextTransfer h t g = next_transfer h r t past later (transfer_number verdict == 0) in
+    Adds-trans h g (transfers_from features g (t + 1) rest).1 next.adds
+    (Adds-transfers_from g (t + 1) rest next.past (omega (arith, next.at)))
 
 Adds-expiries_from : (h : History) (t : ℕ) (ps : List Transfer) → AllByRecursion (λ e. e.timestamp ≤ h.last) h.entries
-    → h.last < t → Adds h (expiries_from h t ps) × ((expiries_from h t ps).closed ≡ h.closed)
-Adds-expiries_from h t [] past later = (Adds-none h h refl (omega arith), refl)
+    → h.last < t → Adds h (expiries_from h t ps)
+Adds-expiries_from h t [] past later = Adds-none h h refl (omega arith)
 Adds-expiries_from h t (p ∷ ps) past later =
-    let more : Adds (pushed h (expiry p t)) (expiries_from (pushed h (expiry p t)) (t + 1) ps)
-    × ((expiries_from (pushed h (expiry p t)) (t + 1) ps).closed ≡ h.closed) =
+    let more : Adds (pushed h (expiry p t)) (expiries_from (pushed h (expiry p t)) (t + 1) ps) =
     Adds-expiries_from (pushed h (expiry p t)) (t + 1) ps (past-pushed h (expiry p t) past later) (omega arith) in
-    (Adds-trans h (pushed h (expiry p t)) _ (Adds-pushed h (expiry p t) past later) more.0, more.1)
+    Adds-trans h (pushed h (expiry p t)) (expiries_from (pushed h (expiry p t)) (t + 1) ps)
+    (Adds-pushed h (expiry p t) past later) more
 
 -- ---- a batch
 
-Adds-taken : (h : History) (b : Batch) → IsSound h
-    → Adds h (taken features h b).1 × ((taken features h b).1.closed ≡ h.closed)
+Adds-taken : (h : History) (b : Batch) → IsSound h → Adds h (taken features h b).1
 Adds-taken h (batch.Accounts now items) sound =
     Adds-accounts_from h (base h now) items (record { past = sound.past; known = sound.known }) (omega arith)
 Adds-taken h (batch.Transfers now items) sound =
@@ -196,7 +188,7 @@ pub GoesOn-submit : (h : History) (b : Batch) (answer : BatchResults × History)
 GoesOn-submit h b answer sound e =
     let not_closed : h.closed ≡ false = submit_open h b answer e in
     let is : taken features h b ≡ answer = answered_is (refusal_of h b) (taken features h b) answer e in
-    let adds : Adds h answer.1 = subst (λ (a : BatchResults × History). Adds h a.1) is (Adds-taken h b sound).0 in
+    let adds : Adds h answer.1 = subst (λ (a : BatchResults × History). Adds h a.1) is (Adds-taken h b sound) in
     record {
       new = adds.new;
       whole = adds.whole;

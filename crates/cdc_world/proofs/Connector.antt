@@ -1,6 +1,6 @@
 -- Whatever steps are taken, what the broker took is a replay of the ledger's line.
-use Rattle.std.proofs.Common.{◌≡◌, ℕ, ◌+◌, ◌<◌, ◌≤◌, Bool, true, false, List, [], ◌∷◌, ◌++◌, refl, sym, ap, ◌∙◌, subst, inl, inr, arith}
-use Rattle.std.specs.Prelude.{◌⊎◌, IsTrue, Option, Some, None, Result, Ok, Err, Contains, if◌then◌else◌}
+use Rattle.std.proofs.Common.{◌≡◌, ℕ, ◌+◌, ◌≤◌, Bool, true, false, List, [], ◌∷◌, refl, sym, ap, subst, inl, inr, arith}
+use Rattle.std.specs.Prelude.{Option, Some, None, Result, Ok, Err}
 use Rattle.std.specs.Option.{option_map}
 use Rattle.std.proofs.lemmas.Option.{none-some, same_Some}
 use Rattle.cdc_ledger.specs.declared.errors.BatchError.{BatchError}
@@ -10,8 +10,6 @@ use Rattle.cdc_ledger.specs.Submit.{submit}
 use Rattle.cdc_ledger.proofs.KeptLaws.{IsSound-submit}
 use Rattle.cdc_ledger.proofs.SoundLaws.{IsSound-closed, IsSound-empty}
 use Rattle.cdc_match.specs.Arguments.{Arguments}
-use Rattle.cdc_message.specs.declared.packets.Confirm.{Confirm}
-use Rattle.cdc_message.specs.declared.packets.Packet.{Packet}
 use Rattle.cdc_message.specs.Replays.{IsReplay}
 use Rattle.cdc_message.proofs.ReplayLaws.{IsReplay-nil}
 use Rattle.cdc_progress.specs.declared.errors.StoreError.{StoreError}
@@ -20,17 +18,17 @@ use Rattle.cdc_progress.specs.Records.{Saved}
 use Rattle.cdc_publisher.specs.Courses.{Course, begun, next_packet, progress_of, wanted}
 use Rattle.cdc_types.specs.declared.batches.Batch.{Batch}
 use Rattle.cdc_types.specs.declared.batches.BatchResults.{BatchResults}
-use Rattle.cdc_world.specs.Connector.{HasTakenUpTo, IsOrderly, held_timestamp}
+use Rattle.cdc_world.specs.Connector.{IsOrderly, held_timestamp}
 use Rattle.cdc_world.specs.declared.steps.Did.{Did}
-use Rattle.cdc_world.specs.declared.steps.Did.TheVariants.{Submitted, Arrived, Counted, Took, Done}
+use Rattle.cdc_world.specs.declared.steps.Did.TheVariants.{Submitted, Done}
 use Rattle.cdc_world.specs.declared.steps.Step.{Step}
 use Rattle.cdc_world.specs.declared.steps.Step.TheVariants.{Submit, CloseLedger, Start, Crash, Poll as PollStep, Publish as PublishStep, Arrive, Answer, Save, Send, Rewind, Break, Take, Ack, Close}
 use Rattle.cdc_world.specs.declared.steps.StepError.{StepError}
 use Rattle.cdc_world.specs.declared.steps.StepError.TheVariants.{NotEnabled, Refused, Store, SessionsExhausted, OutOfMemory}
 use Rattle.cdc_world.specs.Line.{line}
-use Rattle.cdc_world.specs.Next.{AfterFailure, IsAtStart, IsReachedBy, IsTried, LeadsBy, NextBy, Offered, Outcome, confirmed, first_flight, may_come, next_by, next_delivery, saves, started, starting, submitted, taking_in, where_so, ◌>>=◌}
+use Rattle.cdc_world.specs.Next.{AfterFailure, IsAtStart, IsReached, IsReachedBy, IsTried, LeadsBy, NextBy, Offered, Outcome, confirmed, first_flight, may_come, next_by, next_delivery, offered, saves, started, starting, submitted, taking_in, where_so, ◌>>=◌}
 use Rattle.cdc_world.specs.Packets.{is_taken}
-use Rattle.cdc_world.specs.Worlds.{Subscription, WorldState, new_subscription, new_world, numbered, taken_items}
+use Rattle.cdc_world.specs.Worlds.{Subscription, WorldState, new_world, numbered, taken_items}
 use Rattle.cdc_world.proofs.ConnArrives.{IsOrderly-arrived}
 use Rattle.cdc_world.proofs.ConnChanges.{IsOrderly-others, IsOrderly-session}
 use Rattle.cdc_world.proofs.ConnHistory.{IsOrderly-history}
@@ -66,19 +64,24 @@ so_it_is false o x is = absurd (none-some x is)
 
 -- ---- the steps
 
-HasOrder-submitted : (w w' : WorldState) (batch : Batch) (did : Did) (answer : Result (BatchResults × History) BatchError)
+HasOrder-submitted : (w w' : WorldState) (batch : Batch) (did : Did)
+    (answer : Result (BatchResults × History) BatchError)
     → HasOrder w → submit w.history batch ≡ answer → submitted w answer ≡ Ok (did, w') → HasOrder w'
 HasOrder-submitted w w' batch did (Ok answered) order answers is =
     let sound : IsSound answered.1 = IsSound-submit w.history batch answered order.1.sound answers in
-    subst HasOrder (world_is (Submitted answered.0) did (record w { history = answered.1 }) w' is)
-    (order.0, IsOrderly-history order.0 w answered.1 order.1
-    (GoesOn-submit w.history batch answered order.1.sound answers) sound)
+    subst HasOrder (world_is (Submitted answered.0) did (record w { history = answered.1 }) w' is) (
+      order.0,
+      IsOrderly-history order.0 w answered.1 order.1
+          (GoesOn-submit w.history batch answered order.1.sound answers) sound,
+    )
 HasOrder-submitted w w' batch did (Err why) order answers is = absurd (no_answer (Refused why) (did, w') is)
 
 HasOrder-closed : (w : WorldState) → HasOrder w → HasOrder (record w { history = record w.history { closed = true } })
-HasOrder-closed w order =
-    (order.0, IsOrderly-history order.0 w (record w.history { closed = true }) order.1 (GoesOn-closed w.history)
-    (IsSound-closed w.history order.1.sound))
+HasOrder-closed w order = (
+  order.0,
+  IsOrderly-history order.0 w (record w.history { closed = true }) order.1 (GoesOn-closed w.history)
+      (IsSound-closed w.history order.1.sound),
+)
 
 HasOrder-started : (w w' : WorldState) (did : Did) (saved : Option Saved) → HasOrder w → w.session ≡ None
     → begun w.held ≡ saved → started w saved ≡ Ok (did, w') → HasOrder w'
@@ -241,22 +244,24 @@ none_yet (Some saved) start = omega (arith, start)
 -- before the first step
 HasOrder-new : (bindings : List Arguments) (window : ℕ) (held : Option Saved) → IsAtStart held
     → HasOrder (new_world bindings window held)
-HasOrder-new bindings window held start =
-    (λ session. 0, record {
-      sound = IsSound-empty;
-      bases = λ session. omega arith;
-      held_past = none_yet held start;
-      packet_numbers = λ packet there. absurd (none_there packet there);
-      confirm_numbers = λ confirm there. absurd (none_there confirm there);
-      current_number = omega arith;
-      packets = λ packet there. absurd (none_there packet there);
-      accepted = λ next expected tag above below. absurd (none-some next expected);
-      taken = λ session event there low. absurd (none_there event there);
-      held = λ event there low. absurd (none_there event there);
-      confirms = λ confirm there. absurd (none_there confirm there);
-      session = λ course there. absurd (none-some course there);
-      replay = IsReplay-nil (line empty_history);
-    })
+HasOrder-new bindings window held start = (
+  λ session. 0,
+  record {
+    sound = IsSound-empty;
+    bases = λ session. omega arith;
+    held_past = none_yet held start;
+    packet_numbers = λ packet there. absurd (none_there packet there);
+    confirm_numbers = λ confirm there. absurd (none_there confirm there);
+    current_number = omega arith;
+    packets = λ packet there. absurd (none_there packet there);
+    accepted = λ next expected tag above below. absurd (none-some next expected);
+    taken = λ session event there low. absurd (none_there event there);
+    held = λ event there low. absurd (none_there event there);
+    confirms = λ confirm there. absurd (none_there confirm there);
+    session = λ course there. absurd (none-some course there);
+    replay = IsReplay-nil (line empty_history);
+  },
+)
 
 -- every world that steps lead to, with all of them offered or some
 pub HasOrder-reached_by : (offers : Offered) (w : WorldState) → IsReachedBy offers w → HasOrder w
@@ -272,3 +277,10 @@ IsReplay-reached_by offers w reached = (HasOrder-reached_by offers w reached).1.
 -- and the ledger's history is sound
 pub IsSound-reached_by : (offers : Offered) (w : WorldState) → IsReachedBy offers w → IsSound w.history
 IsSound-reached_by offers w reached = (HasOrder-reached_by offers w reached).1.sound
+
+-- the same of today's steps
+pub IsReplay-reached : (w : WorldState) → IsReached w → IsReplay (taken_items w) (line w.history)
+IsReplay-reached w reached = IsReplay-reached_by offered w reached
+
+pub IsSound-reached : (w : WorldState) → IsReached w → IsSound w.history
+IsSound-reached w reached = IsSound-reached_by offered w reached
