@@ -7,7 +7,7 @@ use Rattle.std.proofs.lemmas.Bool.Decides.{nat_tests}
 use Rattle.std.proofs.lemmas.List.Elements.{filter-append}
 use Rattle.std.proofs.Math.Seq.{take-nil}
 use Rattle.cdc_types.specs.declared.events.Event.{Event}
-use Rattle.cdc_message.specs.Items.{last_timestamp_from}
+use Rattle.cdc_types.specs.Timestamps.{last_timestamp_from}
 use Rattle.cdc_publisher.specs.Courses.{Course, confirmed_from, is_confirmed, numbers_from, tags_sent, unconfirmed}
 
 -- one number more, at the end

@@ -1,7 +1,7 @@
 -- How what a session keeps stands for its course, where one event waits at a time.
 use Rattle.std.specs.Prelude.{◌≡◌, ℕ, ◌+◌, ◌-◌, ◌<◌, ◌≤◌, Bool, IsTrue, Option, Some, None, take, length, slice_get, if◌then◌else◌}
 use Rattle.cdc_types.specs.declared.events.Event.{Event}
-use Rattle.cdc_message.specs.Items.{last_timestamp_from}
+use Rattle.cdc_types.specs.Timestamps.{last_timestamp_from}
 use Rattle.cdc_publisher.specs.Courses.{Course, numbers_from, tags_sent}
 use Rattle.cdc_publisher.specs.Kept.{Kept}
 

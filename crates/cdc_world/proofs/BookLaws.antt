@@ -21,7 +21,7 @@ use Rattle.cdc_ledger.proofs.Elements.{AllByRecursion_push, AllByRecursion-every
 use Rattle.cdc_ledger.proofs.EventLaws.{events-pushed}
 use Rattle.cdc_ledger.proofs.OpenedLaws.{opened_id}
 use Rattle.cdc_ledger.proofs.OtherLaws.{HasSidesOf, sides_of_all, balances-pushed_other}
-use Rattle.cdc_message.specs.Items.{last_timestamp, last_timestamp_from}
+use Rattle.cdc_types.specs.Timestamps.{last_timestamp, last_timestamp_from}
 use Rattle.cdc_message.specs.Replays.{IsPrefix}
 use Rattle.cdc_subscriber.specs.declared.book.BookEntry.{BookEntry}
 use Rattle.cdc_subscriber.specs.Book.{accounts_of, book_of, entry_of, last_shown, sides, unseen}

@@ -21,7 +21,7 @@ use Rattle.cdc_message.specs.declared.packets.Answer.TheVariants.{Connected, Con
 use Rattle.cdc_message.specs.declared.packets.Confirm.{Confirm}
 use Rattle.cdc_message.specs.declared.packets.Packet.{Packet}
 use Rattle.cdc_message.specs.declared.packets.Packet.TheVariants.{Connect, Publish}
-use Rattle.cdc_message.specs.Items.{last_timestamp_from}
+use Rattle.cdc_types.specs.Timestamps.{last_timestamp_from}
 use Rattle.cdc_progress.specs.Records.{Saved}
 use Rattle.cdc_publisher.specs.Courses.{Course, all_sent, begun, confirmed_from, confirmed_timestamp, is_confirmed, is_sent, last_session, may_end, new_course, next_packet, numbers_from, progress_of, publish_packet, tags_sent, takes_confirm, unconfirmed, wanted, with_confirm, with_offer, with_sent}
 use Rattle.cdc_publisher.specs.declared.session.Poll.{Poll}

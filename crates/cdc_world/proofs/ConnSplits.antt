@@ -6,7 +6,7 @@ use Rattle.std.proofs.lemmas.Bool.Decides.{nat_tests}
 use Rattle.std.proofs.lemmas.List.Elements.{Contains-append_cases, filter-append}
 use Rattle.cdc_ledger.proofs.Elements.{AllByRecursion-weaker, AllByRecursion_push}
 use Rattle.cdc_log.specs.Log.{RiseFrom, events_after}
-use Rattle.cdc_message.specs.Items.{last_timestamp_from}
+use Rattle.cdc_types.specs.Timestamps.{last_timestamp_from}
 use Rattle.cdc_types.specs.declared.events.Event.{Event}
 use Rattle.cdc_world.proofs.ConnPlaces.{each_has}
 

@@ -8,7 +8,7 @@ use Rattle.cdc_match.proofs.FilterLaws.{IsReplay-filter}
 use Rattle.cdc_message.specs.declared.items.Delivery.{Delivery}
 use Rattle.cdc_message.specs.declared.items.Item.{Item}
 use Rattle.cdc_message.specs.declared.items.Item.TheVariants.{Event as OfEvent}
-use Rattle.cdc_message.specs.Items.{last_timestamp}
+use Rattle.cdc_types.specs.Timestamps.{last_timestamp}
 use Rattle.cdc_message.specs.Replays.{IsPrefix, IsReplay}
 use Rattle.cdc_message.proofs.ReplayLaws.{IsReplay-take, IsReplay-trans}
 use Rattle.cdc_subscriber.specs.Book.{book_of}

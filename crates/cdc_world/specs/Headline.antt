@@ -3,7 +3,8 @@ use Rattle.std.specs.Prelude.{◌≡◌, ℕ, true, List, Option, unwrap_or}
 use Rattle.cdc_ledger.specs.Balances.{as_of}
 use Rattle.cdc_ledger.specs.Events.{events}
 use Rattle.cdc_ledger.specs.History.{History}
-use Rattle.cdc_message.specs.Items.{last_timestamp, TimestampsRise}
+use Rattle.cdc_message.specs.Items.{TimestampsRise}
+use Rattle.cdc_types.specs.Timestamps.{last_timestamp}
 use Rattle.cdc_message.specs.Replays.{IsPrefix}
 use Rattle.cdc_subscriber.specs.declared.book.BookEntry.{BookEntry}
 use Rattle.cdc_subscriber.specs.Book.{balances_in, book_of}

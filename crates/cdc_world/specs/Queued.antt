@@ -2,7 +2,7 @@
 use Rattle.std.specs.Prelude.{◌≡◌, ◌⊎◌, ℕ, ◌+◌, ◌-◌, ◌<◌, ◌≤◌, ◌^◌, min, true, false, Some, List, [], ◌∷◌, ◌++◌, Contains, length, map, take}
 use Rattle.cdc_message.specs.declared.items.Delivery.{Delivery}
 use Rattle.cdc_message.specs.declared.items.Item.{Item}
-use Rattle.cdc_message.specs.Items.{last_timestamp}
+use Rattle.cdc_types.specs.Timestamps.{last_timestamp}
 use Rattle.cdc_message.specs.Replays.{IsReplay}
 use Rattle.cdc_subscriber.specs.Book.{book_of}
 use Rattle.cdc_subscriber.specs.Heard.{has_ended}
