@@ -101,7 +101,12 @@ advance_by : (kept : Kept) (course : Course) → StandsFor kept course
     → (none_sent : Bool) (unsent : Option Event) (ending : Bool)
     → (kept.sent == 0) ≡ none_sent → kept.unsent ≡ unsent → ends kept ≡ ending
     → StandsFor (if none_sent then record kept { sent = 1 }
-    else (if is_some unsent || ending then record kept { sent = kept.sent + 1; unsent = None; unconfirmed = Some kept.sent; ended = kept.ended || is_none unsent } else kept))
+    else (if is_some unsent || ending then record kept {
+      sent = kept.sent + 1;
+      unsent = None;
+      unconfirmed = Some kept.sent;
+      ended = kept.ended || is_none unsent;
+    } else kept))
     (with_sent (if none_sent then Some (Connect kept.number) else publish_of kept unsent) course)
 advance_by kept course stands true unsent ending at_first is_unsent is_ending =
     connect_stands kept course stands (sent_zero kept.sent at_first)
@@ -132,13 +137,15 @@ advance_by kept course stands false None true at_first is_unsent is_ending =
     (sym is_ending)
     (publish_stands kept course (kept.ended || true) stands connected (omega arith) (omega arith) (λ set. free.0))
 advance_by kept course stands false None false at_first is_unsent is_ending =
-    subst (λ (b : Bool). StandsFor kept (with_sent (if b then Some (Publish kept.number kept.sent EndMark) else None) course))
+    subst (λ (b : Bool). StandsFor kept
+    (with_sent (if b then Some (Publish kept.number kept.sent EndMark) else None) course))
     (sym is_ending) stands
 
 pub advanced_stands : (kept : Kept) (course : Course) → StandsFor kept course
     → StandsFor (advanced kept) (with_sent (next_packet course) course)
 advanced_stands kept course stands =
-    subst (λ (packet : Option Packet). StandsFor (advanced kept) (with_sent packet course)) (packet_is kept course stands)
+    subst (λ (packet : Option Packet). StandsFor (advanced kept) (with_sent packet course))
+    (packet_is kept course stands)
     (advance_by kept course stands (kept.sent == 0) kept.unsent (ends kept) refl refl refl)
 
 eq_from : (a b : ℕ) → (a == b) ≡ true → a ≡ b
@@ -201,7 +208,8 @@ free_by : (kept : Kept) (events : List Event) (unsent : Option Event) (unconfirm
     → IsOffered (if is_none unsent && (is_none unconfirmed && not complete)
     then Some (record { after = kept.last; limit = 1 }) else None) events
     → IsFree kept events
-free_by kept events None None false a b c offer = record { unsent = a; unconfirmed = b; complete = c; count = offer.count }
+free_by kept events None None false a b c offer =
+    record { unsent = a; unconfirmed = b; complete = c; count = offer.count }
 free_by kept events None None true a b c offer = absurd offer
 free_by kept events None (Some tag) complete a b c offer = absurd offer
 free_by kept events (Some event) unconfirmed complete a b c offer = absurd offer

@@ -152,7 +152,8 @@ with_subscription i s w = record w { subscriptions = with_numbered i s w.subscri
 
 -- what the queue of a subscriber hands out next, if there is anything
 abbrev pub next_delivery : WorldState → Subscription → Option Delivery
-next_delivery w s = option_map (λ item. record { position = s.cursor; item = item }) (slice_get (queue_in w s) (s.cursor - 1))
+next_delivery w s =
+    option_map (λ item. record { position = s.cursor; item = item }) (slice_get (queue_in w s) (s.cursor - 1))
 
 -- a delivery is on its way
 abbrev pub with_sending : Delivery → Subscription → Subscription

@@ -17,8 +17,8 @@ use Rattle.cdc_types.specs.declared.events.Event.{Event}
 use Rattle.cdc_world.specs.Packets.{items_of}
 
 -- a subscriber and its queue: the binding; what the queue handed out and the subscriber has taken, in order; what was
--- handed out and is on its way; the positions that the subscriber has acknowledged, in order; the position that the queue
--- hands out next; the one up to which the broker knows all to be acknowledged; and what the subscriber has heard
+-- handed out and is on its way; the positions that the subscriber has acknowledged, in order; the position that the
+-- queue hands out next; the one up to which the broker knows all to be acknowledged; and what the subscriber has heard
 pub record Subscription : Type 0 where
   pub binding : Arguments
   pub taken : List Delivery
@@ -29,8 +29,8 @@ pub record Subscription : Type 0 where
   pub heard : Heard
 
 -- the ledger's history; what the store holds; for how many events a session waits at a time; the connector's session,
--- none where it is down; the packets and the confirms that were ever sent, in order; those packets that the broker took,
--- in order; how many times a packet, and a confirm, has come; and the subscribers with their queues
+-- none where it is down; the packets and the confirms that were ever sent, in order; those packets that the broker
+-- took, in order; how many times a packet, and a confirm, has come; and the subscribers with their queues
 pub record WorldState : Type 0 where
   pub history : History
   pub held : Option Saved
