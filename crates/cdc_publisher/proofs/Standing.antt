@@ -43,11 +43,13 @@ sent_all n tags None false count one = grind (arith, nat_tests)
 sent_all n tags (Some event) true count one = absurd (omega arith)
 sent_all n tags (Some event) false count one = grind (arith, nat_tests)
 
--- what is wanted after this moment, where all is sent or not, so many tags wait and so many may, and the end is known or
--- not
+-- what is wanted after this moment, where all is sent or not, so many tags wait and so many may, and the end is known
+-- or not
 abbrev wanted_from : ℕ → Bool → ℕ → ℕ → Bool → Option Poll
 wanted_from after sent count window complete =
-    if sent && nat_lt count window && not complete then Some (record { after = after; limit = window - count }) else None
+    if sent && nat_lt count window && not complete
+    then Some (record { after = after; limit = window - count })
+    else None
 
 wanted_here : (after : ℕ) (unsent : Option Event) (w : Option ℕ) (complete : Bool)
     → (if is_none unsent && (is_none w && not complete) then Some (record { after = after; limit = 1 }) else None)
@@ -107,7 +109,8 @@ publish_is kept course stands None is =
     then Some (Publish number sent EndMark) else None) stands.number stands.sent
 
 packet_same : (sent sent' number number' : ℕ) (next next' : Option Packet) → sent ≡ sent' → number ≡ number'
-    → next ≡ next' → (if sent == 0 then Some (Connect number) else next) ≡ (if sent' == 0 then Some (Connect number') else next')
+    → next ≡ next'
+    → (if sent == 0 then Some (Connect number) else next) ≡ (if sent' == 0 then Some (Connect number') else next')
 packet_same sent sent' number number' next next' a b c = cc
 
 -- the next packet

@@ -101,7 +101,8 @@ unconfirmed_one course k are sent =
     ap length (ap (λ n. filter is_open (numbers_from 1 n)) sent
     ∙ ap (filter is_open) (numbers_from-suc 1 k)
     ∙ filter-append is_open (numbers_from 1 k) ((1 + k) ∷ [])
-    ∙ ap₂ (λ xs b. xs ++ cond (not b) ((1 + k) ∷ []) []) (none_left k (is_confirmed course) 1 k up (omega arith) (omega arith))
+    ∙ ap₂ (λ xs b. xs ++ cond (not b) ((1 + k) ∷ []) [])
+    (none_left k (is_confirmed course) 1 k up (omega arith) (omega arith))
     (fails_past k (is_confirmed course) (1 + k) up (omega arith)))
 
 -- the timestamp up to which all is confirmed is that of the last of the first events
