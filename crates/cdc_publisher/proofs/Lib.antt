@@ -1,4 +1,5 @@
 pub mod Bounds
+mod Examples
 pub mod Moves
 pub mod Standing
 pub mod Tags

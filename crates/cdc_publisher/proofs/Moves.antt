@@ -13,7 +13,7 @@ use Rattle.cdc_publisher.specs.Courses.{Course, next_packet, numbers_from, tags_
 use Rattle.cdc_publisher.specs.Kept.{Kept, poll_of}
 use Rattle.cdc_publisher.specs.Offers.{IsOffered}
 use Rattle.cdc_publisher.specs.Stands.{IsLastTag, StandsFor, flag_count, unsent_count, waiting}
-use Rattle.cdc_publisher.specs.Turns.{advanced, ends, publish_of}
+use Rattle.cdc_publisher.specs.Turns.{advanced, ends, publish_of, tagged}
 use Rattle.cdc_publisher.proofs.Standing.{is_waiting, packet_is}
 use Rattle.cdc_publisher.proofs.Tags.{numbers_from-suc}
 
@@ -64,10 +64,9 @@ connect_stands kept course stands none =
 -- an event or the end mark is sent, while no tag waits
 publish_stands : (kept : Kept) (course : Course) (ended : Bool) → StandsFor kept course → 0 < kept.sent
     → waiting kept.unconfirmed ≤ 0
-    → course.sent ≡ length course.offered + flag_count ended
-    → (ended ≡ true → kept.complete ≡ true)
-    → StandsFor (record kept { sent = kept.sent + 1; unsent = None; unconfirmed = Some kept.sent; ended = ended })
-    (record course { sent = course.sent + 1 })
+    → course.sent ≡ length course.offered + flag_count (kept.ended || ended)
+    → ((kept.ended || ended) ≡ true → kept.complete ≡ true)
+    → StandsFor (tagged ended kept) (record course { sent = course.sent + 1 })
 publish_stands kept course ended stands connected none count known =
     let sent = stands.sent in
     let same : course.sent - 1 - waiting kept.unconfirmed ≡ course.sent + 1 - 1 - 1 = omega arith in
@@ -84,7 +83,7 @@ publish_stands kept course ended stands connected none count known =
       unsent = sym (slice_get_past course.offered (course.sent + 1 - 1) (omega arith));
       last_tag = (omega arith, omega arith);
       one_waits = omega arith;
-      end_last = flag_at_most ended;
+      end_last = flag_at_most (kept.ended || ended);
       end_known = known;
     }
 
@@ -101,12 +100,7 @@ advance_by : (kept : Kept) (course : Course) → StandsFor kept course
     → (none_sent : Bool) (unsent : Option Event) (ending : Bool)
     → (kept.sent == 0) ≡ none_sent → kept.unsent ≡ unsent → ends kept ≡ ending
     → StandsFor (if none_sent then record kept { sent = 1 }
-    else (if is_some unsent || ending then record kept {
-      sent = kept.sent + 1;
-      unsent = None;
-      unconfirmed = Some kept.sent;
-      ended = kept.ended || is_none unsent;
-    } else kept))
+    else (if is_some unsent || ending then tagged (is_none unsent) kept else kept))
     (with_sent (if none_sent then Some (Connect kept.number) else publish_of kept unsent) course)
 advance_by kept course stands true unsent ending at_first is_unsent is_ending =
     connect_stands kept course stands (sent_zero kept.sent at_first)
@@ -119,7 +113,7 @@ advance_by kept course stands false (Some event) ending at_first is_unsent is_en
     let connected = sent_some kept.sent at_first in
     let off : (kept.ended || false) ≡ false = ap (λ b. b || false) (flag_none kept.ended (omega arith)) in
     let none : flag_count (kept.ended || false) ≡ 0 = ap flag_count off in
-    publish_stands kept course (kept.ended || false) stands connected (omega arith) (omega arith)
+    publish_stands kept course false stands connected (omega arith) (omega arith)
     (λ on. cc)
 advance_by kept course stands false None true at_first is_unsent is_ending =
     let none : unsent_count kept.unsent ≡ 0 = ap unsent_count is_unsent in
@@ -132,13 +126,13 @@ advance_by kept course stands false None true at_first is_unsent is_ending =
     let sent = stands.sent in
     let connected = sent_some kept.sent at_first in
     subst (λ (b : Bool). StandsFor
-    (record kept { sent = kept.sent + 1; unsent = None; unconfirmed = Some kept.sent; ended = kept.ended || true })
+    (tagged true kept)
     (with_sent (if b then Some (Publish kept.number kept.sent EndMark) else None) course))
     (sym is_ending)
-    (publish_stands kept course (kept.ended || true) stands connected (omega arith) (omega arith) (λ set. free.0))
+    (publish_stands kept course true stands connected (omega arith) (omega arith) (λ set. free.0))
 advance_by kept course stands false None false at_first is_unsent is_ending =
-    subst (λ (b : Bool). StandsFor kept
-    (with_sent (if b then Some (Publish kept.number kept.sent EndMark) else None) course))
+    subst (λ (b : Bool).
+    StandsFor kept (with_sent (if b then Some (Publish kept.number kept.sent EndMark) else None) course))
     (sym is_ending) stands
 
 pub advanced_stands : (kept : Kept) (course : Course) → StandsFor kept course

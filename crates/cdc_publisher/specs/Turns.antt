@@ -19,17 +19,17 @@ publish_of kept None = if ends kept then Some (Publish kept.number kept.sent End
 abbrev pub packet_of : Kept → Option Packet
 packet_of kept = if kept.sent == 0 then Some (Connect kept.number) else publish_of kept kept.unsent
 
--- what is kept after one more tag was sent
-abbrev pub published : Kept → Kept
-published kept = record kept {
+-- what is kept after one more tag was sent, which was the end mark's or not
+abbrev pub tagged : Bool → Kept → Kept
+tagged ended kept = record kept {
   sent = kept.sent + 1;
   unsent = None;
   unconfirmed = Some kept.sent;
-  ended = kept.ended || is_none kept.unsent;
+  ended = kept.ended || ended;
 }
 
 -- what is kept after the next packet was sent, if there is one
 abbrev pub advanced : Kept → Kept
 advanced kept =
     if kept.sent == 0 then record kept { sent = 1 }
-    else (if is_some kept.unsent || ends kept then published kept else kept)
+    else (if is_some kept.unsent || ends kept then tagged (is_none kept.unsent) kept else kept)

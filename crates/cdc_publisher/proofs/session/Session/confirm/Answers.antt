@@ -38,8 +38,8 @@ returns-then-session-self-clause-answer c = λ course stands.
           (waits_where_equal inside.unconfirmed c.args.tag w.ne.result w.ne.ensures ∙ ap not w.if-ne.true)
           ∙ and-false (c.args.session == inside.number)
     ] in
-    sym (ap (λ (kept : Kept). (c.args.session == kept.number) && is_waiting kept.unconfirmed c.args.tag) (sym c.self.view_is)
-    ∙ refused)
+    let test : Kept → Bool = λ kept. (c.args.session == kept.number) && is_waiting kept.unconfirmed c.args.tag in
+    sym (ap test (sym c.self.view_is) ∙ refused)
     ∙ takes_is c.args.self.now course c.args.session c.args.tag stands
 
 pub returns-then-session-self-clause-stands : goal.returns-then-session-self-clause-stands
@@ -54,8 +54,8 @@ returns-clause-answer c = λ course stands.
     let counts : ((c.args.session == inside.number) && is_waiting inside.unconfirmed c.args.tag) ≡ true =
     ap₂ (λ a b. a && b) (this_session c.args.session inside.number c.if-session-self.false)
     (waits_where_equal inside.unconfirmed c.args.tag c.ne.result c.ne.ensures ∙ ap not c.if-ne.false) in
-    sym (ap (λ (kept : Kept). (c.args.session == kept.number) && is_waiting kept.unconfirmed c.args.tag) (sym c.self.view_is)
-    ∙ counts)
+    let test : Kept → Bool = λ kept. (c.args.session == kept.number) && is_waiting kept.unconfirmed c.args.tag in
+    sym (ap test (sym c.self.view_is) ∙ counts)
     ∙ takes_is c.args.self.now course c.args.session c.args.tag stands
 
 pub returns-clause-stands : goal.returns-clause-stands

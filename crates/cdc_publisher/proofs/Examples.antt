@@ -1,0 +1,117 @@
+-- The definitions at work: a course with room for three events, whose confirms come out of order.
+use Rattle.std.specs.Prelude.{◌≡◌, ℕ, true, false, [], ◌∷◌, Some, None}
+use Rattle.std.proofs.Common.{refl}
+use Rattle.cdc_types.specs.declared.events.Event.{Event}
+use Rattle.cdc_types.specs.declared.events.EventAccount.{EventAccount}
+use Rattle.cdc_types.specs.declared.events.EventKind.TheVariants.{SinglePhase}
+use Rattle.cdc_message.specs.declared.items.Item.TheVariants.{Event as OfEvent, EndMark}
+use Rattle.cdc_message.specs.declared.packets.Packet.TheVariants.{Connect, Publish}
+use Rattle.cdc_progress.specs.Records.{Saved}
+use Rattle.cdc_publisher.specs.Courses.{Course, begun, confirmed_timestamp, is_done, new_course, next_packet, takes_confirm, unconfirmed, wanted, with_confirm, with_offer, with_sent}
+
+-- an account as an event shows it
+abbrev side : ℕ → EventAccount
+side id = record {
+  id = id;
+  debits_pending = 0;
+  debits_posted = 0;
+  credits_pending = 0;
+  credits_posted = 0;
+  user_data_128 = 0;
+  user_data_64 = 0;
+  user_data_32 = 0;
+  code = 10;
+  flags = 0;
+  timestamp = 1000;
+}
+
+-- an event of that moment
+abbrev event : ℕ → Event
+event timestamp = record {
+  timestamp = timestamp;
+  kind = SinglePhase;
+  ledger = 700;
+  transfer = record {
+    id = timestamp;
+    amount = 1;
+    pending_id = 0;
+    user_data_128 = 0;
+    user_data_64 = 0;
+    user_data_32 = 0;
+    timeout = 0;
+    code = 1;
+    flags = 0;
+    timestamp = timestamp;
+  };
+  debit_account = side 1;
+  credit_account = side 2;
+}
+
+abbrev saved : ℕ → ℕ → Saved
+saved session timestamp = record { session = session; timestamp = timestamp }
+
+-- the session after the sixth, and after the greatest
+next_number : begun (Some (saved 6 2000)) ≡ Some (saved 7 2000)
+next_number = refl
+
+no_next_number : begun (Some (saved 18446744073709551615 2000)) ≡ None
+no_next_number = refl
+
+-- one more packet is sent
+abbrev sent_one : Course → Course
+sent_one course = with_sent (next_packet course) course
+
+-- a session of three events at a time, and after it was offered two
+abbrev opened : Course
+opened = new_course (saved 7 2000) 3
+
+abbrev offered : Course
+offered = with_offer (event 3000 ∷ event 3001 ∷ []) true opened
+
+it_connects_first : next_packet offered ≡ Some (Connect 7)
+it_connects_first = refl
+
+three_are_wanted : wanted opened ≡ Some (record { after = 2000; limit = 3 })
+three_are_wanted = refl
+
+-- both events are sent, under tags 1 and 2
+abbrev published : Course
+published = sent_one (sent_one (sent_one offered))
+
+the_second_has_tag_2 : next_packet (sent_one (sent_one offered)) ≡ Some (Publish 7 2 (OfEvent (event 3001)))
+the_second_has_tag_2 = refl
+
+both_wait : unconfirmed published ≡ 1 ∷ 2 ∷ []
+both_wait = refl
+
+nothing_follows_yet : next_packet published ≡ None
+nothing_follows_yet = refl
+
+-- the second is confirmed before the first
+abbrev second_first : Course
+second_first = with_confirm 7 2 published
+
+the_first_holds_it_back : confirmed_timestamp second_first ≡ 2000
+the_first_holds_it_back = refl
+
+no_confirm_counts_twice : takes_confirm second_first 7 2 ≡ false
+no_confirm_counts_twice = refl
+
+no_other_session_counts : takes_confirm second_first 6 1 ≡ false
+no_other_session_counts = refl
+
+-- then the first
+abbrev both_confirmed : Course
+both_confirmed = with_confirm 7 1 second_first
+
+both_count : confirmed_timestamp both_confirmed ≡ 3001
+both_count = refl
+
+the_end_follows : next_packet both_confirmed ≡ Some (Publish 7 3 EndMark)
+the_end_follows = refl
+
+the_end_is_sent_once : next_packet (sent_one both_confirmed) ≡ None
+the_end_is_sent_once = refl
+
+done_when_it_is_confirmed : is_done (with_confirm 7 3 (sent_one both_confirmed)) ≡ true
+done_when_it_is_confirmed = refl
