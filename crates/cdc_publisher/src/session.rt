@@ -1,6 +1,6 @@
 //! The session itself.
 
-ghost use Rattle.std.specs.Prelude.{◌≡◌, ◌⊎◌, ◌<◌, ◌≤◌, ◌^◌, Some, Err, IfOk, IfErr, OnOk, OnErr, option_map};
+ghost use Rattle.std.specs.Prelude.{◌≡◌, ◌⊎◌, ◌<◌, ◌≤◌, ◌^◌, Some, Err, IfOk, IfErr, OnOk, OnErr, is_some, option_map};
 ghost use Rattle.cdc_progress.specs.Stores.{MayRefuseSave};
 ghost use Rattle.cdc_publisher.specs.Courses.{Course, begun, confirmed_timestamp, is_done, next_packet, progress_of, takes_confirm, wanted, with_confirm, with_offer, with_sent};
 ghost use Rattle.cdc_publisher.specs.Kept.{poll_of};
@@ -159,6 +159,13 @@ impl Session {
         self.complete = complete;
     }
 
+    /// Whether the session has a packet to send.
+    pub fn has_packet(&self) -> bool
+        ensures { (course : Course) → StandsFor self.now course → result ≡ is_some (next_packet course) }
+    {
+        self.is_sending()
+    }
+
     /// What the session sends next: first the connect, then the oldest unsent event, and the end mark once every event is
     /// confirmed and no other one follows. Nothing where nothing is to be sent. Where memory runs out nothing changes.
     pub fn next_packet(&mut self, alloc: Global) -> Result<Option<Packet>, AllocError>
@@ -222,6 +229,13 @@ impl Session {
         ensures { result ≡ ends self.now }
     {
         self.complete && !self.ended && self.unconfirmed.is_none()
+    }
+
+    /// Whether anything is sent next.
+    fn is_sending(&self) -> bool
+        ensures { result ≡ is_some (packet_of self.now) }
+    {
+        self.sent == 0 || self.unsent.is_some() || self.ends()
     }
 
     /// What is sent next.
