@@ -1,6 +1,7 @@
 pub mod Connector
 pub mod Errors
 pub mod Headline
+pub mod Laws
 pub mod Line
 pub mod Next
 pub mod Packets
