@@ -1,6 +1,6 @@
 //! The broker as its callers see it.
 
-ghost use Rattle.std.specs.Prelude.{◌≡◌, ◌<◌, ◌≤◌, ◌↔◌, List, [], All, IfOk, OnOk, OnErr, IsTrue, not, if◌then◌else◌, length, map, take, drop};
+ghost use Rattle.std.specs.Prelude.{◌≡◌, ◌<◌, ◌≤◌, ◌↔◌, List, [], All, IfOk, OnOk, OnErr, IsTrue, is_some, not, if◌then◌else◌, length, map, take, drop};
 ghost use Rattle.cdc_message.specs.declared.items.Item.{Item as SomeItem};
 ghost use Rattle.cdc_broker.specs.Broker.{HasAccepted, Publishes, accepted_after, connected, empty_broker, queue_of, tag_after as next_tag, with_queue};
 ghost use Rattle.cdc_broker.specs.Kept.{queue_state, IsInOrder};
@@ -149,6 +149,15 @@ impl Broker {
         queue_from(alloc, self.queues.as_mut_slice(), 0, &item)?;
         self.expected = tag_after(tag);
         Ok(Taken::Accepted)
+    }
+
+    /// Whether queue `i` has an item to hand out next.
+    pub fn has_next(&self, i: usize) -> bool
+        requires first { 0 < i }
+        requires last { i ≤ length self.now.queues }
+        ensures { result ≡ is_some (next_delivery (queue_of self.now i)) }
+    {
+        self.queues[i - 1].has_next()
     }
 
     /// Hands out the item at the cursor of queue `i`, with its position, and moves the cursor on; nothing where the cursor

@@ -1,6 +1,6 @@
 //! One queue: a list of items in the order in which they came.
 
-ghost use Rattle.std.specs.Prelude.{◌≡◌, ◌<◌, not, IfOk, OnOk, OnErr, if◌then◌else◌};
+ghost use Rattle.std.specs.Prelude.{◌≡◌, ◌<◌, not, is_some, IfOk, OnOk, OnErr, if◌then◌else◌};
 ghost use Rattle.cdc_match.specs.Queue.{takes_item};
 ghost use Rattle.cdc_broker.specs.Queues.{acknowledged, empty_queue, is_unknown, moved_on, next_delivery, wanted, with_item};
 ghost use Rattle.cdc_broker.specs.Kept.{queue_state, room_of, IsInOrder};
@@ -75,6 +75,15 @@ impl Queue {
             self.items.push_reserved(item);
         }
     }
+
+    /// Whether there is an item at the cursor.
+    pub(crate) fn has_next(&self) -> bool
+        requires { IsInOrder self.now }
+        ensures { result ≡ is_some (next_delivery (queue_state self.now)) }
+    {
+        self.items.get(self.cursor as usize - 1).is_some()
+    }
+
     /// Hands out a copy of the item at the cursor, which moves on, or nothing where the cursor is past the items.
     pub(crate) fn next(&mut self, alloc: Global) -> Result<Option<Delivery>, AllocError>
         requires { IsInOrder self.old }

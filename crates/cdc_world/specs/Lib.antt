@@ -3,4 +3,7 @@ pub mod Headline
 pub mod Line
 pub mod Next
 pub mod Packets
+pub mod Refusals
+pub mod Stands
+pub mod Turns
 pub mod Worlds

@@ -1,6 +1,12 @@
 //! The world of all actors: ledger, connector, broker and subscribers, moved one action of one actor at a time.
 #![tactic(auto)]
 
+mod connector;
+mod refusals;
+mod seats;
 pub mod steps;
+mod taking;
+pub mod world;
 
 pub use steps::{Did, Step, StepError};
+pub use world::{Played, World};
