@@ -1,3 +1,11 @@
-//! Stub.
+//! A publisher's session: the events that it is offered go out under rising tags, their confirms are counted, and how
+//! far it has come is saved.
 #![tactic(auto)]
+
+pub mod errors;
 pub mod session;
+#[cfg(test)]
+mod tests;
+
+pub use errors::StartError;
+pub use session::{Poll, Session};

@@ -1,0 +1,4 @@
+pub mod Bounds
+pub mod Moves
+pub mod Standing
+pub mod Tags

@@ -1,0 +1,15 @@
+use Rattle.std.proofs.Common.{◌∙◌, sym, subst}
+use Rattle.cdc_publisher.specs.Courses.{next_packet, with_sent}
+use Rattle.cdc_publisher.specs.Kept.{Kept}
+use Rattle.cdc_publisher.specs.Stands.{StandsFor}
+use Rattle.cdc_publisher.proofs.Moves.{advanced_stands}
+use Rattle.cdc_publisher.proofs.Standing.{packet_is}
+use Rattle.cdc_publisher.proofs.session.Session.next_packet.Goals as goal
+
+pub returns-clause-packet : goal.returns-clause-packet
+returns-clause-packet c = λ course stands. c.in_ok-packet.ensures ∙ packet_is c.args.self.now course stands
+
+pub returns-clause-stands : goal.returns-clause-stands
+returns-clause-stands c = λ course stands.
+    subst (λ (kept : Kept). StandsFor kept (with_sent (next_packet course) course)) (sym c.advance.ensures)
+    (advanced_stands c.args.self.now course stands)

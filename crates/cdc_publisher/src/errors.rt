@@ -1,0 +1,59 @@
+//! Why a session doesn't start.
+
+ghost use Rattle.std.specs.Prelude.{◌≡◌};
+ghost use Rattle.cdc_publisher.specs.Errors.{start_error_number, start_error_name};
+
+use cdc_progress::StoreError;
+use thiserror::Error;
+
+/// Why a session doesn't start.
+#[derive(Clone, Copy, Debug, PartialEq, Eq, Error)]
+pub enum StartError {
+    /// The store didn't load or save, for this reason; never for want of memory.
+    #[error("the store refused: {0}")]
+    Store(StoreError),
+    /// The greatest session number is used up.
+    #[error("there is no further session number")]
+    SessionsExhausted,
+    /// There was no memory, here or in the store.
+    #[error("out of memory")]
+    OutOfMemory,
+}
+
+impl From<StoreError> for StartError {
+    ghost use Rattle.std.specs.Prelude.{◌≡◌};
+    ghost use Rattle.cdc_publisher.specs.Errors.{store_refusal};
+
+    ghost from_gives = { λ error e. e ≡ store_refusal error };
+
+    fn from(error: StoreError) -> StartError {
+        match error {
+            StoreError::OutOfMemory => StartError::OutOfMemory,
+            _ => StartError::Store(error),
+        }
+    }
+}
+
+impl StartError {
+    /// The error's number, from 1 to 3.
+    pub fn number(self) -> u8
+        ensures { result ≡ start_error_number self }
+    {
+        match self {
+            StartError::Store(_) => 1,
+            StartError::SessionsExhausted => 2,
+            StartError::OutOfMemory => 3,
+        }
+    }
+
+    /// The error's name, whatever the reason of the store.
+    pub fn name(self) -> &'static str
+        ensures { result.now ≡ start_error_name self }
+    {
+        match self {
+            StartError::Store(_) => "store",
+            StartError::SessionsExhausted => "sessions_exhausted",
+            StartError::OutOfMemory => "out_of_memory",
+        }
+    }
+}
