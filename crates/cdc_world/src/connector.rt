@@ -1,9 +1,10 @@
 //! What the connector's session does with the ledger's events, and with what the broker says.
 
-ghost use Rattle.std.specs.Prelude.{◌≡◌, take};
+ghost use Rattle.std.specs.Prelude.{◌≡◌, ◌≤◌, IfOk, length, take};
 ghost use Rattle.cdc_ledger.specs.Events.{events as events_of};
 ghost use Rattle.cdc_log.specs.Log.{events_after};
 ghost use Rattle.cdc_publisher.specs.Courses.{Course};
+ghost use Rattle.cdc_publisher.specs.Offers.{IsReply};
 ghost use Rattle.cdc_publisher.specs.Stands.{StandsFor};
 ghost use Rattle.cdc_world.specs.Next.{confirmed, counts, none_follow as none_follows};
 ghost use Rattle.cdc_world.specs.Turns.{Offers, Sends};
@@ -11,19 +12,31 @@ ghost use Rattle.cdc_world.specs.Turns.{Offers, Sends};
 use crate::steps::StepError;
 use cdc_ledger::Ledger;
 use cdc_message::{Answer, Confirm, Packet};
+use cdc_progress::Progress;
 use cdc_publisher::{Poll, Session};
 use cdc_types::Event;
-use std::alloc::Global;
+use std::alloc::{AllocError, Global};
 
 /// The session is offered the events that it wants of the ledger's log.
 pub(crate) fn poll(alloc: Global, ledger: &Ledger, session: &mut Session) -> Result<(), StepError>
     ensures { Offers ledger.now session.old result session.new }
 {
     let poll = session.wants().ok_or(StepError::NotEnabled)?;
-    let events = ledger.log().read_after(alloc, poll.after, poll.limit)?;
+    let events = read(alloc, ledger, poll)?;
     let complete = none_follow(ledger, poll, &events);
     session.offer(&events, complete);
     Ok(())
+}
+
+/// The events that are wanted.
+fn read(alloc: Global, ledger: &Ledger, poll: Poll) -> Result<Vec<Event>, AllocError>
+    ensures events { IfOk result (λ read. read.items ≡ take poll.limit (events_after poll.after (events_of ledger.now))) }
+    ensures reply { IfOk result (λ read. IsReply poll read.items) }
+{
+    let log = ledger.log();
+    let (last, rising) = (ledger.last(), log.last_timestamp());
+    prove!(last <= Progress::MAX_TIMESTAMP && rising <= last);
+    log.read_after(alloc, poll.after, poll.limit)
 }
 
 /// Whether no events follow these ones, which were read, and none will.
@@ -44,7 +57,8 @@ pub(crate) fn publish(
     session: &mut Session,
     packets: &mut Vec<Packet>,
 ) -> Result<(), StepError>
-    ensures { Sends session.old packets.old.items result session.new packets.new.items }
+    ensures sends { Sends session.old packets.old.items result session.new packets.new.items }
+    ensures grows { length packets.old.items ≤ length packets.new.items }
 {
     if !session.has_packet() {
         return Err(StepError::NotEnabled);

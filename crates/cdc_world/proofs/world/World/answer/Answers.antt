@@ -1,0 +1,4 @@
+use Rattle.cdc_world.proofs.world.World.answer.Goals as goal
+
+pub returns-clause-next : goal.returns-clause-next
+returns-clause-next g c = ?
