@@ -4,7 +4,8 @@ use Rattle.std.specs.Prelude.{nat_lt, option_map, if◌then◌else◌}
 use Rattle.std.specs.List.{slice_get}
 use Rattle.std.proofs.lemmas.List.{length-map}
 use Rattle.std.proofs.lemmas.Option.{slice_get-map, slice_get_past, slice_get_read}
-use Rattle.cdc_world.specs.Turns.{place_in}
+use Rattle.cdc_world.specs.declared.seats.Seat.{Seat}
+use Rattle.cdc_world.specs.Turns.{place_in, seat_state}
 use Rattle.cdc_world.specs.Worlds.{numbered}
 
 -- a number above 0 isn't 0
@@ -69,3 +70,9 @@ pub slice_get_made : {X Y : Type 0} (f : X → Y) (xs : List X) (k : ℕ) (y : Y
 slice_get_made f [] k y found = cc
 slice_get_made f (x ∷ xs) zero y found = (x, (refl, cc))
 slice_get_made f (x ∷ xs) (suc k) y found = slice_get_made f xs k y found
+
+-- a seat of the world
+pub seat_here : (items : List Seat) (k : ℕ) (seat : Seat) → k < length items → seat ≡ get_or items k seat
+    → slice_get (map seat_state items) k ≡ Some (seat_state seat)
+seat_here items k seat inside here =
+    slice_get-map seat_state items k ∙ ap (option_map seat_state) (slice_get_read items (length items) k seat refl inside here)

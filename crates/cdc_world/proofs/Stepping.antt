@@ -1,15 +1,16 @@
 -- What is kept after each step, and the state that it stands for.
-use Rattle.std.proofs.Common.{◌≡◌, ◌≢◌, ℕ, ◌+◌, ◌-◌, ◌<◌, ◌≤◌, ◌==◌, ◌&&◌, Bool, true, false, IsTrue, List, [], ◌∷◌, ◌++◌, Option, Some, None, Result, Ok, Err, zero, suc, refl, sym, ap, ap₂, ◌∙◌, subst, map, length, take, get_or, inl, inr, arith}
-use Rattle.std.specs.Prelude.{◌⊎◌, nat_lt, option_map, slice_set, unwrap_or, if◌then◌else◌}
+use Rattle.std.proofs.Common.{◌≡◌, ◌≢◌, ℕ, ◌+◌, ◌-◌, ◌<◌, ◌≤◌, ◌==◌, ◌&&◌, Bool, true, false, IsTrue, List, [], ◌∷◌, ◌++◌, Option, Some, None, Result, Ok, Err, zero, suc, refl, sym, ap, ap₂, ◌∙◌, subst, map, length, take, drop, get_or, replicate, inl, inr, arith}
+use Rattle.std.specs.Prelude.{◌⊎◌, MatchResult, is_ok, nat_lt, option_map, slice_set, unwrap_or, if◌then◌else◌}
 use Rattle.std.specs.List.{slice_get}
 use Rattle.std.specs.Result.{IsErrAnd}
 use Rattle.std.specs.declared.alloc.AllocError.{AllocError}
 use Rattle.std.proofs.Math.Seq.{map-set_same}
-use Rattle.std.proofs.lemmas.List.{length-map, map-set, set-get_or}
+use Rattle.std.proofs.lemmas.List.{length-map, length-replicate, map-set, set-get_or}
 use Rattle.std.proofs.lemmas.Option.{get_or_from_slice_get, slice_get-map, slice_get_past, slice_get_within}
-use Rattle.cdc_broker.specs.Broker.{BrokerState, connected, nobody, published, queue_of, with_queue}
+use Rattle.cdc_broker.specs.Broker.{BrokerState, connected, empty_broker, nobody, published, queue_of, with_queue}
 use Rattle.cdc_broker.specs.Queues.{QueueState, empty_queue, moved_on, next_delivery as next_of_queue}
-use Rattle.cdc_ledger.specs.History.{History}
+use Rattle.cdc_ledger.specs.History.{History, empty_history}
+use Rattle.cdc_match.specs.Arguments.{Arguments}
 use Rattle.cdc_ledger.specs.Submit.{submit}
 use Rattle.cdc_message.specs.declared.items.Delivery.{Delivery}
 use Rattle.cdc_message.specs.declared.items.Item.{Item}
@@ -21,7 +22,8 @@ use Rattle.cdc_publisher.specs.Courses.{Course, begun, new_course, next_packet, 
 use Rattle.cdc_publisher.specs.Kept.{Kept as SessionKept}
 use Rattle.cdc_publisher.specs.Stands.{StandsFor}
 use Rattle.cdc_publisher.specs.declared.session.Poll.{Poll}
-use Rattle.cdc_subscriber.specs.Answers.{answer_to}
+use Rattle.cdc_subscriber.specs.Answers.{TakesItem, answer_to}
+use Rattle.cdc_subscriber.specs.declared.errors.TakeError.{TakeError}
 use Rattle.cdc_subscriber.specs.Heard.{Heard, kept_of, next}
 use Rattle.cdc_subscriber.specs.Kept.{Kept}
 use Rattle.cdc_subscriber.specs.declared.subscriber.Taking.{Taking}
@@ -36,9 +38,10 @@ use Rattle.cdc_world.specs.declared.steps.StepError.TheVariants.{NotEnabled, Out
 use Rattle.cdc_world.specs.Next.{Next, Outcome, ◌>>=◌, IsTried, confirms_of, arrived, done, first_flight, next_by, next_delivery, offered, submitted, takes_memory, taking_in, with_sending, with_taking}
 use Rattle.cdc_world.specs.Packets.{current_session, expected_tag, expected_after, is_tag, is_taken, items_of, session_after}
 use Rattle.cdc_world.specs.Stands.{Moves, Parts, QueueView, SeatState, SessionStands, Stands, queue_for, seat_of, view_of}
-use Rattle.cdc_world.specs.Turns.{ComesTo, HandsAt, HasTaken, TakesAt, after_packet, place_in, takes_packet}
-use Rattle.cdc_world.specs.Worlds.{Subscription, WorldState, numbered, queue_in, taken_items, with_numbered}
-use Rattle.cdc_world.proofs.Places.{IsPlace, numbered_next, numbered_place, place_none, slice_get_made}
+use Rattle.cdc_world.specs.Turns.{ComesTo, HandsAt, HasTaken, TakesAt, after_packet, empty_seat, place_in, seat_state, takes_packet}
+use Rattle.cdc_world.specs.declared.seats.Seat.{Seat}
+use Rattle.cdc_world.specs.Worlds.{Subscription, WorldState, new_subscription, new_world, numbered, queue_in, taken_items, with_numbered}
+use Rattle.cdc_world.proofs.Places.{IsPlace, numbered_next, numbered_place, place_is, place_none, seat_here, slice_get_made}
 use Rattle.cdc_world.proofs.Queueing.{current_session-push, expected_tag-push, items_of-connected, items_of-published, queues_after}
 
 -- one refusal is the other
@@ -498,3 +501,134 @@ no_send p i none honest w st =
     let nowhere : numbered w.subscriptions i ≡ None = place_none w.subscriptions i (ap (place_in i) same ∙ none) in
     (w, (st, (ap (λ (found : Option Subscription). found >>= (λ s. next_delivery w s >>= (λ delivery.
     done (record w { subscriptions = with_numbered i (with_sending delivery s) w.subscriptions })))) nowhere, refl)))
+
+-- a seat of the world that changed, by its place
+module _ (p : Parts) (i count place : ℕ) (items : List Seat) (seat seat' : Seat) (same : p.seats ≡ map seat_state items)
+    (counted : count ≡ length items) (found : place_in i count ≡ Some place) (got : seat ≡ get_or items place seat) where
+  is_at : IsPlace i count place
+  is_at = place_is i count place found
+
+  seat_at : slice_get p.seats (i - 1) ≡ Some (seat_state seat)
+  seat_at =
+      let at = is_at in
+      let inside : place < length items = omega (arith, at.inside, at.here, counted) in
+      ap₂ (λ (ss : List SeatState) (k : ℕ). slice_get ss k) same (sym at.here) ∙ seat_here items place seat inside got
+
+  seats_set : map seat_state (slice_set items place seat') ≡ slice_set p.seats (i - 1) (seat_state seat')
+  seats_set =
+      map-set seat_state items place seat'
+      ∙ ap₂ (λ (ss : List SeatState) (k : ℕ). slice_set ss k (seat_state seat')) (sym same) is_at.here
+
+  number_is : place + 1 ≡ i
+  number_is = let at = is_at in omega (arith, at.above, at.here)
+
+  pub send_at : (b' : BrokerState)
+      → HandsAt (place + 1) p.broker (seat_state seat) (next_of_queue (queue_of p.broker (place + 1))) (Ok tt) b' (seat_state seat')
+      → Moves p (Send i) (Ok Done) (record p { broker = b'; seats = map seat_state (slice_set items place seat') })
+  send_at b' hands =
+      send_done p i (seat_state seat) (seat_state seat') b' (map seat_state (slice_set items place seat')) is_at.above seat_at
+      (subst (λ (n : ℕ). HandsAt n p.broker (seat_state seat) (next_of_queue (queue_of p.broker n)) (Ok tt) b' (seat_state seat'))
+      number_is hands)
+      seats_set
+
+  pub send_at_refused : (b' : BrokerState) (why : StepError)
+      → HandsAt (place + 1) p.broker (seat_state seat) (next_of_queue (queue_of p.broker (place + 1))) (Err why) b' (seat_state seat')
+      → Moves p (Send i) (Err why) (record p { broker = b'; seats = map seat_state (slice_set items place seat') })
+  send_at_refused b' why hands =
+      send_refused p i (seat_state seat) (seat_state seat') b' (map seat_state (slice_set items place seat')) why is_at.above seat_at
+      (subst (λ (n : ℕ). HandsAt n p.broker (seat_state seat) (next_of_queue (queue_of p.broker n)) (Err why) b' (seat_state seat'))
+      number_is hands)
+      seats_set
+
+  pub take_at : (taking : Taking) → TakesAt (seat_state seat) (seat_state seat).flight (Ok taking) (seat_state seat')
+      → Moves p (Take i) (Ok (Took taking)) (record p { seats = map seat_state (slice_set items place seat') })
+  take_at taking takes =
+      take_done p i (seat_state seat) (seat_state seat') (map seat_state (slice_set items place seat')) taking is_at.above seat_at
+      takes seats_set
+
+  pub take_at_refused : (why : StepError) → TakesAt (seat_state seat) (seat_state seat).flight (Err why) (seat_state seat')
+      → Moves p (Take i) (Err why) (record p { seats = map seat_state (slice_set items place seat') })
+  take_at_refused why takes =
+      take_refused p i (seat_state seat) (seat_state seat') (map seat_state (slice_set items place seat')) why is_at.above seat_at
+      takes seats_set
+
+-- the seat that a reader finds is that of the subscription
+pub seat_read : (p : Parts) (w : WorldState) (items : List Seat) (i : ℕ) (seat : Seat) (s : Subscription) → Stands p w
+    → map seat_state items ≡ p.seats → 0 < i → i ≤ length p.seats → seat ≡ get_or items (i - 1) seat
+    → numbered w.subscriptions i ≡ Some s → seat_state seat ≡ seat_of s
+seat_read p w items i seat s st same above within here there =
+    let n : length p.seats ≡ length items = ap length (sym same) ∙ length-map items seat_state in
+    let inside : i - 1 < length items = omega arith in
+    let kept : slice_get p.seats (i - 1) ≡ Some (seat_state seat) =
+    ap (λ (ss : List SeatState). slice_get ss (i - 1)) (sym same) ∙ seat_here items (i - 1) seat inside here in
+    let of = seat_is p w i (seat_state seat) st above kept in
+    let one : Some of.subscription ≡ Some s = sym of.numbered_so ∙ there in
+    let this : of.subscription ≡ s = cc in
+    sym of.seat ∙ ap seat_of this
+
+-- as many seats as queues, in a new world
+pub new_counts : (bindings : List Arguments) (count : ℕ) (items : List Seat) (b : BrokerState) → count ≡ length bindings
+    → map seat_state items ≡ replicate count empty_seat → b ≡ empty_broker bindings → length items ≡ length b.queues
+new_counts bindings count items b counted seats is =
+    sym (length-map items seat_state) ∙ (ap length seats ∙ (length-replicate count empty_seat ∙ (counted
+    ∙ (sym (length-map bindings empty_queue) ∙ ap (λ (b : BrokerState). length b.queues) (sym is)))))
+
+new_queues : (bindings : List Arguments)
+    → map view_of (map empty_queue bindings) ≡ map (queue_for []) (map new_subscription bindings)
+new_queues [] = refl
+new_queues (binding ∷ bindings) = ap (λ (vs : List QueueView). queue_for [] (new_subscription binding) ∷ vs) (new_queues bindings)
+
+new_seats : (bindings : List Arguments)
+    → replicate (length bindings) empty_seat ≡ map seat_of (map new_subscription bindings)
+new_seats [] = refl
+new_seats (binding ∷ bindings) = ap (λ (ss : List SeatState). empty_seat ∷ ss) (new_seats bindings)
+
+-- a new world
+pub new_stands : (p : Parts) (bindings : List Arguments) (count window : ℕ) (held : Option Saved) → p.history ≡ empty_history
+    → p.broker ≡ empty_broker bindings → p.held ≡ held → p.window ≡ window → p.session ≡ None → p.packets ≡ []
+    → p.confirms ≡ [] → p.arrivals ≡ 0 → p.answers ≡ 0 → p.seats ≡ replicate count empty_seat → count ≡ length bindings
+    → Stands p (new_world bindings window held)
+new_stands p bindings count window held history broker is_held is_window session packets confirms arrivals answers seats counted = record {
+  history = history;
+  held = is_held;
+  window = is_window;
+  session = subst (λ (s : Option SessionKept). SessionStands s None) (sym session) tt;
+  packets = packets;
+  confirms = confirms;
+  connection = ap (λ (b : BrokerState). b.connection) broker;
+  expected = ap (λ (b : BrokerState). b.expected) broker;
+  queues = ap (λ (b : BrokerState). map view_of b.queues) broker ∙ new_queues bindings;
+  arrivals = arrivals;
+  answers = answers;
+  seats = seats ∙ (ap (λ (n : ℕ). replicate n empty_seat) counted ∙ new_seats bindings);
+}
+
+-- a subscriber that took the first of the deliveries
+pub taken_is : (s s' : SeatState) (delivery : Delivery) (flight : List Delivery) (taking : Taking)
+    → delivery ≡ get_or flight 0 delivery → 0 < length flight → s'.flight ≡ drop 1 flight
+    → taking ≡ answer_to s.kept delivery.item → s'.acks ≡ s.acks ++ delivery.position ∷ []
+    → ((heard : Heard) → s.kept ≡ kept_of heard → s'.kept ≡ kept_of (next heard delivery.item))
+    → TakesAt s flight (Ok taking) s'
+taken_is s s' delivery [] taking first some rest answers acks hears = absurd (omega arith)
+taken_is s s' delivery (d ∷ ds) taking first some rest answers acks hears = record {
+  answered = answers ∙ ap (λ (x : Delivery). answer_to s.kept x.item) first;
+  flight = rest;
+  acks = acks ∙ ap (λ (x : Delivery). s.acks ++ x.position ∷ []) first;
+  hears = λ heard is. hears heard is ∙ ap (λ (x : Delivery). kept_of (next heard x.item)) first;
+}
+
+-- an answer, whatever the errors
+abbrev pub ok_of : {A : Type 0} → (F : Type 0) → A → Result A F
+ok_of F x = Ok x
+
+-- the answer behind a mapped error
+pub mapped_ok : {A E : Type 0} (F : Type 0) (r : Result A E) (x : A) (Q : E → Type 0)
+    → MatchResult r (λ y. ok_of F x ≡ ok_of F y) Q → true ≡ is_ok r → r ≡ Ok x
+mapped_ok F (Ok y) x Q mapped ok = cc mapped
+mapped_ok F (Err e) x Q mapped ok = cc
+
+-- what is answered
+pub answered_is : (kept : Kept) (item : Item) (taking : Taking) (r : Result Taking TakeError) → TakesItem kept item r
+    → r ≡ Ok taking → taking ≡ answer_to kept item
+answered_is kept item taking r takes is =
+    elim takes [ inl same ↦ cc | inr lacks ↦ cc (lacks.1) ]

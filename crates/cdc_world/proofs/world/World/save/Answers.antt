@@ -1,4 +1,4 @@
-use Rattle.std.proofs.Common.{Ok}
+use Rattle.std.proofs.Common.{Ok, Err, ap}
 use Rattle.cdc_world.specs.declared.steps.Did.TheVariants.{Done}
 use Rattle.cdc_world.specs.declared.steps.Step.TheVariants.{Save}
 use Rattle.cdc_world.specs.Refusals.{store_refusal}
@@ -9,7 +9,10 @@ use Rattle.cdc_world.proofs.world.World.save.Goals as goal
 pub returns-in_err-save-clause-next : goal.returns-in_err-save-clause-next
 returns-in_err-save-clause-next g c =
     at_entry_err Save c.from_residual.result (store_refusal c.in_err-save.field-0.0) c.from_residual.ensures.1 c.self.view_is
-    (save_failed _ c.in_Some.session.now _ _ c.in_err-save.field-0.0 _ _ ? ? ? ?)
+    (save_failed _ c.in-Some.session _ _ c.in_err-save.field-0.0 _ _ c.in-Some.is c.in_err-save.ensures.refused
+    (λ e. c.in_err-save.ensures.without_memory (ap Err e)) c.in_err-save.ensures.refusals)
 
 pub returns-clause-next : goal.returns-clause-next
-returns-clause-next g c = ?
+returns-clause-next g c =
+    at_entry Save (Ok Done) c.self.view_is
+    (save_done _ c.in-Some.session _ _ c.in-Some.is c.in_ok-save.ensures.saved)
