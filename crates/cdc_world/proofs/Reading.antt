@@ -4,6 +4,7 @@ use Rattle.std.specs.Prelude.{All, IfOk, filter, nat_le, nat_lt, max, min, ◌&&
 use Rattle.std.specs.List.{AllByRecursion, slice_get}
 use Rattle.cdc_ledger.specs.Events.{events}
 use Rattle.cdc_ledger.specs.History.{History}
+use Rattle.cdc_ledger.specs.Sound as sound
 use Rattle.cdc_ledger.specs.Submit.{IsLegal}
 use Rattle.cdc_ledger.specs.Verdict.{max_timestamp}
 use Rattle.cdc_ledger.proofs.EventLaws.{timestamps-events}
@@ -86,11 +87,25 @@ all_fit [] fit k d inside = absurd (omega arith)
 all_fit (e ∷ es) fit zero d inside = fit.0
 all_fit (e ∷ es) fit (suc k) d inside = all_fit es fit.1 k d (omega arith)
 
+-- the events rise as the entries do
+events_rise : (t : ℕ) (es : List Event) (entries : List Entry)
+    → map (λ e. e.timestamp) es ≡ map (λ e. e.timestamp) entries → sound.RiseFrom t entries → RiseFrom t es
+events_rise t [] entries same rise = tt
+events_rise t (e ∷ es) [] same rise = cc
+events_rise t (e ∷ es) (x ∷ entries) same rise =
+    let here : e.timestamp ≡ x.timestamp = cc in
+    let rest : map (λ e. e.timestamp) es ≡ map (λ e. e.timestamp) entries = cc in
+    (
+      omega (arith, rise.0),
+      events_rise e.timestamp es entries rest (subst (λ (n : ℕ). sound.RiseFrom n entries) (sym here) rise.1),
+    )
+
 -- what is read may be offered
-pub IsReply-read : (h : History) (poll : Poll) → IsLegal h → RiseFrom 0 (events h)
+pub IsReply-read : (h : History) (poll : Poll) → IsLegal h
     → IsReply poll (take poll.limit (events_after poll.after (events h)))
-IsReply-read h poll legal rise =
-    let sound = IsSound-from_legal h legal in
+IsReply-read h poll legal =
+    let holds = IsSound-from_legal h legal in
+    let rise = events_rise 0 (events h) h.entries (timestamps-events h) holds.rising in
     record {
       count = omega (arith, length-take poll.limit (events_after poll.after (events h)));
       rising = take_rise poll.after poll.limit (events_after poll.after (events h))
@@ -98,7 +113,7 @@ IsReply-read h poll legal rise =
       fits = all_fit (take poll.limit (events_after poll.after (events h)))
       (fit_take poll.limit (events_after poll.after (events h))
       (fit_after poll.after (events h)
-      (events_fit h.last (events h) h.entries (timestamps-events h) sound.past sound.within)));
+      (events_fit h.last (events h) h.entries (timestamps-events h) holds.past holds.within)));
     }
 
 -- the last timestamp isn't below the moment before

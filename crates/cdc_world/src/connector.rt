@@ -33,10 +33,9 @@ fn read(alloc: Global, ledger: &Ledger, poll: Poll) -> Result<Vec<Event>, AllocE
     ensures events { IfOk result (λ read. read.items ≡ take poll.limit (events_after poll.after (events_of ledger.now))) }
     ensures reply { IfOk result (λ read. IsReply poll read.items) }
 {
-    let log = ledger.log();
-    let (last, rising) = (ledger.last(), log.last_timestamp());
-    prove!(last <= Progress::MAX_TIMESTAMP && rising <= last);
-    log.read_after(alloc, poll.after, poll.limit)
+    let last = ledger.last();
+    prove!(last <= Progress::MAX_TIMESTAMP);
+    ledger.log().read_after(alloc, poll.after, poll.limit)
 }
 
 /// Whether no events follow these ones, which were read, and none will.
