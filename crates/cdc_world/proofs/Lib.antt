@@ -1,6 +1,4 @@
 pub mod BookLaws
-mod Examples
-pub mod RunLaws
 pub mod ConnArrives
 pub mod ConnChanges
 pub mod ConnHistory
@@ -10,12 +8,20 @@ pub mod ConnReplays
 pub mod ConnSessions
 pub mod ConnSplits
 pub mod ConnSubmits
+pub mod Connecting
 pub mod Connector
-pub mod SubReplays
+mod Examples
+pub mod Places
+pub mod Playing
+pub mod Queueing
+pub mod Reached
+pub mod Reading
+pub mod RunLaws
+pub mod Stepping
+pub mod SubClosed
 pub mod SubDeliveries
+pub mod SubFaithful
+pub mod SubFeeds
+pub mod SubReplays
 pub mod SubServed
 pub mod SubSteps
-pub mod SubFeeds
-pub mod SubFaithful
-pub mod Reached
-pub mod SubClosed

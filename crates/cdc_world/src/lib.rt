@@ -1,8 +1,14 @@
 //! The world of all actors: ledger, connector, broker and subscribers, moved one action of one actor at a time.
 #![tactic(auto)]
 
+mod connector;
 pub mod laws;
+mod refusals;
+mod seats;
 pub mod steps;
+mod taking;
+pub mod world;
 
 pub use laws::world_laws;
 pub use steps::{Did, Step, StepError};
+pub use world::{Played, World};

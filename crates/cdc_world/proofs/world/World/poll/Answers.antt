@@ -1,0 +1,11 @@
+use Rattle.std.proofs.Common.{Ok}
+use Rattle.cdc_world.specs.declared.steps.Did.TheVariants.{Done}
+use Rattle.cdc_world.specs.declared.steps.Step.TheVariants.{Poll}
+use Rattle.cdc_world.proofs.Connecting.{poll_done}
+use Rattle.cdc_world.proofs.Stepping.{at_entry}
+use Rattle.cdc_world.proofs.world.World.poll.Goals as goal
+
+pub returns-clause-next : goal.returns-clause-next
+returns-clause-next g c =
+    at_entry Poll (Ok Done) c.self.view_is
+    (poll_done _ c.in-Some.session c.poll.new.session c.in-Some.is c.in_ok-poll.ensures)

@@ -1,0 +1,12 @@
+use Rattle.std.proofs.Common.{Ok}
+use Rattle.cdc_world.specs.declared.steps.Did.TheVariants.{Done}
+use Rattle.cdc_world.specs.declared.steps.Step.TheVariants.{Publish}
+use Rattle.cdc_world.proofs.Connecting.{publish_done}
+use Rattle.cdc_world.proofs.Stepping.{at_entry}
+use Rattle.cdc_world.proofs.world.World.publish.Goals as goal
+
+pub returns-clause-next : goal.returns-clause-next
+returns-clause-next g c =
+    at_entry Publish (Ok Done) c.self.view_is
+    (publish_done _ c.in-Some.session c.publish.new.session c.publish.new.packets.items c.in-Some.is
+    c.in_ok-publish.ensures.sends)

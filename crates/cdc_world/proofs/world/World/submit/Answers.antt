@@ -1,0 +1,10 @@
+use Rattle.std.proofs.Common.{Ok}
+use Rattle.cdc_world.specs.declared.steps.Did.TheVariants.{Submitted}
+use Rattle.cdc_world.specs.declared.steps.Step.TheVariants.{Submit}
+use Rattle.cdc_world.proofs.Stepping.{at_entry, submit_done}
+use Rattle.cdc_world.proofs.world.World.submit.Goals as goal
+
+pub returns-clause-next : goal.returns-clause-next
+returns-clause-next g c =
+    at_entry (Submit c.args.batch.now) (Ok (Submitted c.in_ok-submit.field-0)) c.self.view_is
+    (submit_done _ c.args.batch.now c.submit.new.self c.in_ok-submit.field-0 c.in_ok-submit.ensures)

@@ -1,0 +1,29 @@
+-- Which refusal of a step stands for a refusal of one of the actors.
+use Rattle.cdc_ledger.specs.declared.errors.BatchError.{BatchError}
+use Rattle.cdc_ledger.specs.declared.errors.BatchError.TheVariants as batch
+use Rattle.cdc_progress.specs.declared.errors.StoreError.{StoreError}
+use Rattle.cdc_progress.specs.declared.errors.StoreError.TheVariants as store
+use Rattle.cdc_publisher.specs.declared.errors.StartError.{StartError}
+use Rattle.cdc_publisher.specs.declared.errors.StartError.TheVariants as start
+use Rattle.cdc_world.specs.declared.steps.StepError.{StepError}
+use Rattle.cdc_world.specs.declared.steps.StepError.TheVariants.{Refused, Store, SessionsExhausted, OutOfMemory}
+
+-- the ledger's, of a batch
+abbrev pub batch_refusal : BatchError → StepError
+batch_refusal batch.LedgerClosed = Refused batch.LedgerClosed
+batch_refusal batch.BatchTooLarge = Refused batch.BatchTooLarge
+batch_refusal batch.TimestampsExhausted = Refused batch.TimestampsExhausted
+batch_refusal batch.OutOfMemory = OutOfMemory
+
+-- the store's
+abbrev pub store_refusal : StoreError → StepError
+store_refusal store.ReadFault = Store store.ReadFault
+store_refusal store.WriteFault = Store store.WriteFault
+store_refusal store.BadRecord = Store store.BadRecord
+store_refusal store.OutOfMemory = OutOfMemory
+
+-- that of a session that doesn't start
+abbrev pub start_refusal : StartError → StepError
+start_refusal (start.Store why) = Store why
+start_refusal start.SessionsExhausted = SessionsExhausted
+start_refusal start.OutOfMemory = OutOfMemory

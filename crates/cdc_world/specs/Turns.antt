@@ -1,0 +1,103 @@
+-- What the parts of a world do in a step. Cited by private contracts alone.
+use Rattle.std.specs.Prelude.{◌≡◌, ℕ, ◌-◌, ◌==◌, ◌&&◌, nat_lt, Bool, true, false, Option, Some, None, Result, Ok, Err, List, [], ◌∷◌, ◌++◌, if◌then◌else◌, take}
+use Rattle.std.specs.declared.alloc.AllocError.{AllocError}
+use Rattle.cdc_broker.specs.Broker.{BrokerState, connected, published, queue_of, with_queue}
+use Rattle.cdc_broker.specs.Queues.{moved_on}
+use Rattle.cdc_ledger.specs.Events.{events}
+use Rattle.cdc_ledger.specs.History.{History}
+use Rattle.cdc_log.specs.Log.{events_after}
+use Rattle.cdc_message.specs.declared.items.Delivery.{Delivery}
+use Rattle.cdc_message.specs.declared.packets.Confirm.{Confirm}
+use Rattle.cdc_message.specs.declared.packets.Packet.{Packet}
+use Rattle.cdc_message.specs.declared.packets.Packet.TheVariants.{Connect, Publish}
+use Rattle.cdc_publisher.specs.Courses.{Course, next_packet, wanted, with_offer, with_sent}
+use Rattle.cdc_publisher.specs.Kept.{Kept}
+use Rattle.cdc_publisher.specs.Stands.{StandsFor}
+use Rattle.cdc_publisher.specs.declared.session.Poll.{Poll}
+use Rattle.cdc_subscriber.specs.Answers.{answer_to}
+use Rattle.cdc_subscriber.specs.Heard.{Heard, kept_of, next, nothing}
+use Rattle.cdc_subscriber.specs.declared.subscriber.Taking.{Taking}
+use Rattle.cdc_world.specs.declared.seats.Seat.{Seat}
+use Rattle.cdc_world.specs.declared.steps.StepError.{StepError}
+use Rattle.cdc_world.specs.declared.steps.StepError.TheVariants.{NotEnabled, OutOfMemory}
+use Rattle.cdc_world.specs.Next.{confirms_of, counts, confirmed, none_follow}
+use Rattle.cdc_world.specs.Packets.{is_tag}
+use Rattle.cdc_world.specs.Stands.{SeatState}
+
+-- a seat as clauses see it
+abbrev pub seat_state : Seat → SeatState
+seat_state seat = record { kept = seat.subscriber; flight = seat.flight.items; acks = seat.acks.items }
+
+-- the seat of a subscriber that nothing has come to
+abbrev pub empty_seat : SeatState
+empty_seat = record { kept = kept_of nothing; flight = []; acks = [] }
+
+-- a session that stands for a course is offered the events that it wants of a ledger's, where it wants any
+abbrev pub OffersAt : History → Kept → Course → Option Poll → Result (Unit {0}) StepError → Kept → Type 0
+OffersAt h kept course None answer kept' = (answer ≡ Err NotEnabled) × (kept' ≡ kept)
+OffersAt h kept course (Some poll) (Ok _) kept' =
+    StandsFor kept' (with_offer (take poll.limit (events_after poll.after (events h))) (none_follow h poll) course)
+OffersAt h kept course (Some poll) (Err why) kept' = (why ≡ OutOfMemory) × (kept' ≡ kept)
+
+-- the same, whatever course it stands for
+abbrev pub Offers : History → Kept → Result (Unit {0}) StepError → Kept → Type 0
+Offers h kept answer kept' = (course : Course) → StandsFor kept course → OffersAt h kept course (wanted course) answer kept'
+
+-- a session that stands for a course sends its next packet, if there is one, to the back of those that were sent
+abbrev pub SendsAt : Kept → List Packet → Course → Option Packet → Result (Unit {0}) StepError → Kept → List Packet
+    → Type 0
+SendsAt kept packets course None answer kept' packets' = (answer ≡ Err NotEnabled) × ((kept' ≡ kept) × (packets' ≡ packets))
+SendsAt kept packets course (Some packet) (Ok _) kept' packets' =
+    StandsFor kept' (with_sent (Some packet) course) × (packets' ≡ packets ++ packet ∷ [])
+SendsAt kept packets course (Some packet) (Err why) kept' packets' =
+    (why ≡ OutOfMemory) × ((kept' ≡ kept) × (packets' ≡ packets))
+
+-- the same, whatever course it stands for
+abbrev pub Sends : Kept → List Packet → Result (Unit {0}) StepError → Kept → List Packet → Type 0
+Sends kept packets answer kept' packets' =
+    (course : Course) → StandsFor kept course → SendsAt kept packets course (next_packet course) answer kept' packets'
+
+-- whether a broker takes a packet
+abbrev pub takes_packet : BrokerState → Packet → Bool
+takes_packet b (Connect session) = nat_lt b.connection session
+takes_packet b (Publish session tag item) = (session == b.connection) && is_tag b.expected tag
+
+-- the broker after a packet that it took
+abbrev pub after_packet : BrokerState → Packet → BrokerState
+after_packet b (Connect session) = connected session b
+after_packet b (Publish session tag item) = published tag item b
+
+-- a packet comes to a broker, and is confirmed where it is taken and has a confirm; where memory ran out nothing changes
+abbrev pub ComesTo : BrokerState → List Confirm → Packet → Result Bool AllocError → BrokerState → List Confirm → Type 0
+ComesTo b confirms packet (Ok true) b' confirms' =
+    (takes_packet b packet ≡ true) × ((b' ≡ after_packet b packet) × (confirms' ≡ confirms ++ confirms_of packet))
+ComesTo b confirms packet (Ok false) b' confirms' =
+    (takes_packet b packet ≡ false) × ((b' ≡ b) × (confirms' ≡ confirms))
+ComesTo b confirms packet (Err _) b' confirms' = (b' ≡ b) × (confirms' ≡ confirms)
+
+-- a queue hands out its next delivery, if there is one, to the back of those that are on their way to a seat
+abbrev pub HandsAt : ℕ → BrokerState → SeatState → Option Delivery → Result (Unit {0}) StepError → BrokerState → SeatState
+    → Type 0
+HandsAt i b s None answer b' s' = (answer ≡ Err NotEnabled) × ((b' ≡ b) × (s' ≡ s))
+HandsAt i b s (Some delivery) (Ok _) b' s' =
+    (b' ≡ with_queue i (moved_on (Some delivery) (queue_of b i)) b)
+    × (s' ≡ record s { flight = s.flight ++ delivery ∷ [] })
+HandsAt i b s (Some delivery) (Err why) b' s' = (why ≡ OutOfMemory) × ((b' ≡ b) × (s' ≡ s))
+
+-- a subscriber has taken a delivery, and left these: it answers, acknowledges the position and hears the item
+pub record HasTaken (s : SeatState) (delivery : Delivery) (rest : List Delivery) (answer : Taking) (s' : SeatState)
+    : Type 0 where
+  pub answered : answer ≡ answer_to s.kept delivery.item
+  pub flight : s'.flight ≡ rest
+  pub acks : s'.acks ≡ s.acks ++ delivery.position ∷ []
+  pub hears : (heard : Heard) → s.kept ≡ kept_of heard → s'.kept ≡ kept_of (next heard delivery.item)
+
+-- a subscriber takes the first of the deliveries on their way to it, if there is one
+abbrev pub TakesAt : SeatState → List Delivery → Result Taking StepError → SeatState → Type 0
+TakesAt s [] answer s' = (answer ≡ Err NotEnabled) × (s' ≡ s)
+TakesAt s (delivery ∷ rest) (Ok taking) s' = HasTaken s delivery rest taking s'
+TakesAt s (delivery ∷ rest) (Err why) s' = (why ≡ OutOfMemory) × (s' ≡ s)
+
+-- the place of a number, from 1 on, among so many
+abbrev pub place_in : ℕ → ℕ → Option ℕ
+place_in i count = if i == 0 then None else (if nat_lt (i - 1) count then Some (i - 1) else None)
