@@ -9,7 +9,7 @@ pub mod ConnSessions
 pub mod ConnSplits
 pub mod ConnSubmits
 pub mod Connecting
-pub mod Connector
+pub mod ConnReached
 mod Examples
 pub mod Places
 pub mod Playing

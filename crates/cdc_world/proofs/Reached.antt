@@ -6,7 +6,7 @@ use Rattle.cdc_world.specs.Next.{IsReached, IsReachedBy, Offered, offered}
 use Rattle.cdc_world.specs.Queued.{kept_from}
 use Rattle.cdc_world.specs.Worlds.{Subscription, WorldState, numbered}
 use Rattle.cdc_world.proofs.BookLaws.{holds-balances}
-use Rattle.cdc_world.proofs.Connector.{IsReplay-reached_by, IsSound-reached_by}
+use Rattle.cdc_world.proofs.ConnReached.{IsReplay-reached_by, IsSound-reached_by}
 use Rattle.cdc_world.proofs.SubFaithful.{IsFaithful-served, kept_of-served}
 use Rattle.cdc_world.proofs.SubSteps.{AreQueued-reached}
 
