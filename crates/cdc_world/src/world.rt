@@ -3,6 +3,9 @@
 ghost use Rattle.std.specs.Prelude.{◌≡◌, ◌+◌, ◌<◌, ◌≤◌, ◌==◌, ℕ, List, Some, IfOk, IfSome, IfNone, IsTrue, OnOk, length};
 ghost use Rattle.cdc_progress.specs.Records.{Saved};
 ghost use Rattle.cdc_subscriber.specs.Heard.{kept_of};
+ghost use Rattle.cdc_world.specs.Headline.{IsFaithful};
+ghost use Rattle.cdc_world.specs.Next.{IsReached};
+ghost use Rattle.cdc_world.specs.Queued.{kept_from};
 ghost use Rattle.cdc_world.specs.Stands.{Moves, Plays, Stands};
 ghost use Rattle.cdc_world.specs.Turns.{place_in};
 ghost use Rattle.cdc_world.specs.Worlds.{Subscription, WorldState, new_world, numbered};
@@ -155,12 +158,18 @@ impl<S: ProgressStore> World<S> {
         &self.ledger
     }
 
-    /// The subscriber of this number, from 1 on.
+    /// The subscriber of this number, from 1 on. In every world that steps lead to, what it has applied is a beginning of the
+    /// ledger's events that its binding takes, and complete once it has ended; what it keeps is told by that; and where its
+    /// binding takes every event, its book has the ledger's balances as of the last one that it has applied.
     pub fn subscriber(&self, i: usize) -> &Subscriber
         requires first { 0 < i }
         requires last { i ≤ length self.now.seats }
         ensures heard { (w : WorldState) → Stands self.now w → (s : Subscription)
             → numbered w.subscriptions i ≡ Some s → result.now ≡ kept_of s.heard }
+        ensures applied { (w : WorldState) → Stands self.now w → IsReached w → (s : Subscription)
+            → numbered w.subscriptions i ≡ Some s → result.now ≡ kept_from s }
+        ensures faithful { (w : WorldState) → Stands self.now w → IsReached w → (s : Subscription)
+            → numbered w.subscriptions i ≡ Some s → IsFaithful w s }
     {
         &self.seats[i - 1].subscriber
     }
