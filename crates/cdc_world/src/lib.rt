@@ -6,6 +6,8 @@ mod refusals;
 mod seats;
 pub mod steps;
 mod taking;
+#[cfg(test)]
+mod tests;
 pub mod world;
 
 pub use steps::{Did, Step, StepError};
