@@ -58,7 +58,8 @@ none_of None is = refl
 none_of (Some x) is = cc
 
 -- the events that a session was offered
-offered_found : (h : History) (kept kept' : Kept) (course : Course) (found : Option Poll) → OffersAt h kept course found (Ok tt) kept'
+offered_found : (h : History) (kept kept' : Kept) (course : Course) (found : Option Poll)
+    → OffersAt h kept course found (Ok tt) kept'
     → (poll : Poll) × ((found ≡ Some poll)
     × StandsFor kept' (with_offer (take poll.limit (events_after poll.after (events h))) (none_follow h poll) course))
 offered_found h kept kept' course None offers = cc (offers.0)
@@ -78,7 +79,8 @@ poll_done p kept kept' is offers honest w st =
           history = st.history;
           held = st.held;
           window = st.window;
-          session = subst (λ (h : History). StandsFor kept' (with_offer (take poll.limit (events_after poll.after (events h)))
+          session = subst (λ (h : History). StandsFor kept' (with_offer (take poll.limit (events_after poll.after
+          (events h)))
           (none_follow h poll) at.course)) st.history found.1.1;
           packets = st.packets;
           confirms = st.confirms;
@@ -108,7 +110,8 @@ pub publish_done : (p : Parts) (kept kept' : Kept) (packets' : List Packet) → 
     → Moves p PublishStep (Ok Done) (record p { session = Some kept'; packets = packets' })
 publish_done p kept kept' packets' is sends honest w st =
     let at = course_of p w kept st is in
-    let found = sent_found kept kept' p.packets packets' at.course (next_packet at.course) (sends at.course at.stands) in
+    let found = sent_found kept kept' p.packets packets' at.course (next_packet at.course)
+    (sends at.course at.stands) in
     let packet = found.0 in
     (
       sending w at.course packet,
@@ -127,7 +130,8 @@ publish_done p kept kept' packets' is sends honest w st =
           answers = st.answers;
           seats = st.seats;
         },
-        ap (λ (s : Option Course). s >>= (λ course. next_packet course >>= (λ packet. done (sending w course packet)))) at.is
+        ap (λ (s : Option Course). s >>= (λ course. next_packet course >>= (λ packet. done
+        (sending w course packet)))) at.is
         ∙ ap (λ (f : Option Packet). f >>= (λ packet. done (sending w at.course packet))) found.1.0,
       ),
     )
@@ -161,7 +165,8 @@ answer_done p kept kept' k confirm counted is here next answer stands honest w s
           answers = ap (λ (n : ℕ). n + 1) st.answers;
           seats = st.seats;
         },
-        ap (λ (s : Option Course). s >>= (λ course. (if k == w.answers + 1 then numbered w.confirms k else None) >>= answered w course)) at.is
+        ap (λ (s : Option Course). s >>= (λ course.
+        (if k == w.answers + 1 then numbered w.confirms k else None) >>= answered w course)) at.is
         ∙ (ap₂ (λ (b : Bool) (f : Option Confirm). (if b then f else None) >>= answered w at.course) comes there
         ∙ ap (λ (b : Bool). Ok (Counted b, record w {
           session = Some (confirmed at.course confirm.session confirm.answer);
@@ -212,7 +217,8 @@ save_tried : (w : WorldState) (course : Course) → w.session ≡ Some course �
 save_tried w course is = subst IsTried (sym (saves_next w course is)) tt
 
 -- a save that fails
-pub save_failed : (p : Parts) (kept : Kept) (held : Option Saved) (honest : Bool) (why : StoreError) (failed failed' : ℕ) → p.session ≡ Some kept
+pub save_failed : (p : Parts) (kept : Kept) (held : Option Saved) (honest : Bool) (why : StoreError)
+    (failed failed' : ℕ) → p.session ≡ Some kept
     → ((course : Course) → StandsFor kept course → (held ≡ p.held) ⊎ (held ≡ Some (progress_of course)))
     → (why ≡ store.OutOfMemory → held ≡ p.held) → MayRefuseSave failed failed' why
     → Moves p Save (Err (store_refusal why)) (record p { held = held; honest = honest })
@@ -263,7 +269,8 @@ pub start_done : (p : Parts) (kept : Kept) (held : Option Saved) (honest : Bool)
     → HasStarted p.honest p.held held p.window kept
     → Moves p Start (Ok Done) (record p { held = held; honest = honest; session = Some kept })
 start_done p kept held honest' down has honest w st =
-    let begins : begun w.held ≡ Some has.saved = ap begun (sym st.held) ∙ ap begun (sym (has.given honest)) ∙ has.begins in
+    let begins : begun w.held ≡ Some has.saved = ap begun (sym st.held) ∙ ap begun (sym (has.given honest))
+    ∙ has.begins in
     (
       record w { held = Some has.saved; session = Some (new_course has.saved w.window) },
       (
@@ -286,7 +293,8 @@ start_done p kept held honest' down has honest w st =
     )
 
 -- a session doesn't start
-pub start_failed : (p : Parts) (held : Option Saved) (honest : Bool) (why : StartError) (failed failed' : ℕ) → p.session ≡ None
+pub start_failed : (p : Parts) (held : Option Saved) (honest : Bool) (why : StartError) (failed failed' : ℕ)
+    → p.session ≡ None
     → MayRefuseStart p.honest p.held held failed failed' why
     → Moves p Start (Err (start_refusal why)) (record p { held = held; honest = honest })
 start_failed p held honest' (start.Store store.ReadFault) failed failed' down may honest w st =

@@ -26,11 +26,6 @@ numbered_next xs come k same =
     let g : numbered xs (come + 1) ≡ slice_get xs (come + 1 - 1) = numbered_place xs (come + 1) (omega arith) in
     ap (numbered xs) e ∙ g ∙ ap (slice_get xs) f
 
--- what was found is at the place of its number
-pub place_found : {X : Type 0} (xs : List X) (i : ℕ) (x : X) → numbered xs i ≡ Some x
-    → 0 < i → slice_get xs (i - 1) ≡ Some x
-place_found xs i x found above = sym (numbered_place xs i above) ∙ found
-
 -- a place that a number has
 pub record IsPlace (i count place : ℕ) : Type 0 where
   pub above : 0 < i
@@ -52,18 +47,6 @@ place_is zero count place found = cc
 place_is (suc i) count place found =
     place_cases i count place (nat_lt (suc i - 1) count) refl (sym (place_above i count) ∙ found)
 
-none_cases : {X : Type 0} (xs : List X) (i : ℕ) (b : Bool) → nat_lt (suc i - 1) (length xs) ≡ b
-    → (if b then Some (suc i - 1) else None) ≡ None → slice_get xs (suc i - 1) ≡ None
-none_cases xs i true below none = cc
-none_cases xs i false below none = slice_get_past xs (suc i - 1) (grind arith)
-
--- a number that has no place among so many is none of a list as long
-pub place_none : {X : Type 0} (xs : List X) (i : ℕ) → place_in i (length xs) ≡ None → numbered xs i ≡ None
-place_none xs zero none = refl
-place_none xs (suc i) none =
-    numbered_place xs (suc i) (omega arith)
-    ∙ none_cases xs i (nat_lt (suc i - 1) (length xs)) refl (sym (place_above i (length xs)) ∙ none)
-
 -- an element of a list that is made of another stands for the other's element there
 pub slice_get_made : {X Y : Type 0} (f : X → Y) (xs : List X) (k : ℕ) (y : Y) → slice_get (map f xs) k ≡ Some y
     → (x : X) × ((slice_get xs k ≡ Some x) × (f x ≡ y))
@@ -75,4 +58,5 @@ slice_get_made f (x ∷ xs) (suc k) y found = slice_get_made f xs k y found
 pub seat_here : (items : List Seat) (k : ℕ) (seat : Seat) → k < length items → seat ≡ get_or items k seat
     → slice_get (map seat_state items) k ≡ Some (seat_state seat)
 seat_here items k seat inside here =
-    slice_get-map seat_state items k ∙ ap (option_map seat_state) (slice_get_read items (length items) k seat refl inside here)
+    slice_get-map seat_state items k ∙ ap (option_map seat_state) (slice_get_read items
+    (length items) k seat refl inside here)

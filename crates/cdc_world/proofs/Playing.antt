@@ -54,7 +54,8 @@ drop_here (y ∷ ys) zero x inside here = (ys, ap (λ z. z ∷ ys) (sym here))
 drop_here (y ∷ ys) (suc i) x inside here = drop_here ys i x (omega arith) here
 
 -- a step that is refused ends a play
-pub Plays-stopped : (p p' p'' : Parts) (steps : List Step) (done : ℕ) (step : Step) (why : StepError) → done < length steps
+pub Plays-stopped : (p p' p'' : Parts) (steps : List Step) (done : ℕ) (step : Step) (why : StepError)
+    → done < length steps
     → step ≡ get_or steps done step → HasDone p p' steps done → Moves p' step (Err why) p''
     → Plays p steps done (Some why) p''
 Plays-stopped p p' p'' steps done step why inside here has moves honest w st =

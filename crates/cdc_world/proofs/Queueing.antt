@@ -22,7 +22,8 @@ with_item_view : (b : Bool) (item : Item) (q : QueueState)
     → view_of (with_item (if b then Some item else None) q)
     ≡ record (view_of q) { items = q.items ++ (if b then item ∷ [] else []) }
 with_item_view true item q = refl
-with_item_view false item q = ap (λ (items : List Item). record (view_of q) { items = items }) (sym (append-nil q.items))
+with_item_view false item q = ap (λ (items : List Item). record (view_of q) { items = items }) (sym
+    (append-nil q.items))
 
 -- a queue that stands for a subscription's does so after one more item
 queued_view : (item : Item) (items : List Item) (q : QueueState) (s : Subscription) → view_of q ≡ queue_for items s

@@ -60,7 +60,8 @@ take_rise low (suc n) (e ∷ es) rise = (rise.0, take_rise e.timestamp n es rise
 abbrev FitsTime : Event → Type 0
 FitsTime e = e.timestamp < 2 ^ 63
 
-events_fit : (last : ℕ) (es : List Event) (entries : List Entry) → map (λ e. e.timestamp) es ≡ map (λ e. e.timestamp) entries
+events_fit : (last : ℕ) (es : List Event) (entries : List Entry)
+    → map (λ e. e.timestamp) es ≡ map (λ e. e.timestamp) entries
     → AllByRecursion (λ e. e.timestamp ≤ last) entries → last ≤ max_timestamp → AllByRecursion FitsTime es
 events_fit last [] entries same past within = tt
 events_fit last (e ∷ es) [] same past within = cc
@@ -83,7 +84,8 @@ fit_take zero es fit = tt
 fit_take (suc n) [] fit = tt
 fit_take (suc n) (e ∷ es) fit = (fit.0, fit_take n es fit.1)
 
-all_fit : (es : List Event) → AllByRecursion FitsTime es → (k : ℕ) (d : Event) → k < length es → FitsTime (get_or es k d)
+all_fit : (es : List Event) → AllByRecursion FitsTime es → (k : ℕ) (d : Event) → k < length es
+    → FitsTime (get_or es k d)
 all_fit [] fit k d inside = absurd (omega arith)
 all_fit (e ∷ es) fit zero d inside = fit.0
 all_fit (e ∷ es) fit (suc k) d inside = all_fit es fit.1 k d (omega arith)

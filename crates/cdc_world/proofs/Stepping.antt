@@ -41,7 +41,7 @@ use Rattle.cdc_world.specs.Stands.{Moves, Parts, QueueView, SeatState, SessionSt
 use Rattle.cdc_world.specs.Turns.{ComesTo, HandsAt, HasTaken, TakesAt, after_packet, empty_seat, place_in, seat_state, takes_packet}
 use Rattle.cdc_world.specs.declared.seats.Seat.{Seat}
 use Rattle.cdc_world.specs.Worlds.{Subscription, WorldState, new_subscription, new_world, numbered, queue_in, taken_items, with_numbered}
-use Rattle.cdc_world.proofs.Places.{IsPlace, numbered_next, numbered_place, place_is, place_none, seat_here, slice_get_made}
+use Rattle.cdc_world.proofs.Places.{IsPlace, numbered_next, numbered_place, place_is, seat_here, slice_get_made}
 use Rattle.cdc_world.proofs.Queueing.{current_session-push, expected_tag-push, items_of-connected, items_of-published, queues_after}
 
 -- one refusal is the other
@@ -113,13 +113,15 @@ close_done p h' is honest w st = (
 )
 
 -- whether the broker takes a packet
-takes_is : (p : Parts) (w : WorldState) (packet : Packet) → Stands p w → takes_packet p.broker packet ≡ is_taken w.accepted packet
+takes_is : (p : Parts) (w : WorldState) (packet : Packet) → Stands p w
+    → takes_packet p.broker packet ≡ is_taken w.accepted packet
 takes_is p w (Connect session) st = ap (λ (n : ℕ). nat_lt n session) st.connection
 takes_is p w (Publish session tag item) st =
     ap₂ (λ (n : ℕ) (e : Option ℕ). (session == n) && is_tag e tag) st.connection st.expected
 
 -- the broker after a packet that it took
-connection_after : (b : BrokerState) (packet : Packet) → (after_packet b packet).connection ≡ session_after b.connection packet
+connection_after : (b : BrokerState) (packet : Packet) → (after_packet b packet).connection
+    ≡ session_after b.connection packet
 connection_after b (Connect session) = refl
 connection_after b (Publish session tag item) = refl
 
@@ -134,10 +136,12 @@ queues_are b accepted (Connect session) subscriptions same =
     same ∙ ap (λ (items : List Item). map (queue_for items) subscriptions) (sym (items_of-connected accepted session))
 queues_are b accepted (Publish session tag item) subscriptions same =
     queues_after item (items_of accepted) b.queues subscriptions same
-    ∙ ap (λ (items : List Item). map (queue_for items) subscriptions) (sym (items_of-published accepted session tag item))
+    ∙ ap (λ (items : List Item). map (queue_for items) subscriptions) (sym
+    (items_of-published accepted session tag item))
 
 -- a packet that is there comes
-arrives : (w : WorldState) (k : ℕ) (packet : Packet) (taken : Bool) → (k == w.arrivals + 1) ≡ true → slice_get w.packets w.arrivals ≡ Some packet
+arrives : (w : WorldState) (k : ℕ) (packet : Packet) (taken : Bool) → (k == w.arrivals + 1) ≡ true
+    → slice_get w.packets w.arrivals ≡ Some packet
     → is_taken w.accepted packet ≡ taken
     → next_by offered w (Arrive k) ≡ Ok (Arrived taken, record (taking_in w packet taken) { arrivals = w.arrivals + 1 })
 arrives w k packet taken next here is =
@@ -145,9 +149,12 @@ arrives w k packet taken next here is =
     ap₂ (λ (b : Bool) (found : Option Packet). (if b then found else None) >>= arrived w) next there
     ∙ ap (λ (b : Bool). Ok (Arrived b, record (taking_in w packet b) { arrivals = w.arrivals + 1 })) is
 
-arrive_taken : (p : Parts) (packet : Packet) (k : ℕ) → slice_get p.packets p.arrivals ≡ Some packet → (k == p.arrivals + 1) ≡ true
+arrive_taken : (p : Parts) (packet : Packet) (k : ℕ) → slice_get p.packets p.arrivals ≡ Some packet
+    → (k == p.arrivals + 1) ≡ true
     → takes_packet p.broker packet ≡ true
-    → Moves p (Arrive k) (Ok (Arrived true)) (record p { broker = after_packet p.broker packet; confirms = p.confirms ++ confirms_of packet; arrivals = p.arrivals + 1 })
+    → Moves p (Arrive k) (Ok (Arrived true))
+    (record p { broker = after_packet p.broker packet; confirms = p.confirms ++ confirms_of packet; arrivals =
+    p.arrivals + 1 })
 arrive_taken p packet k here next takes honest w st = (
   record (taking_in w packet true) { arrivals = w.arrivals + 1 },
   (
@@ -173,7 +180,8 @@ arrive_taken p packet k here next takes honest w st = (
   ),
 )
 
-arrive_passed : (p : Parts) (packet : Packet) (k : ℕ) → slice_get p.packets p.arrivals ≡ Some packet → (k == p.arrivals + 1) ≡ true
+arrive_passed : (p : Parts) (packet : Packet) (k : ℕ) → slice_get p.packets p.arrivals ≡ Some packet
+    → (k == p.arrivals + 1) ≡ true
     → takes_packet p.broker packet ≡ false
     → Moves p (Arrive k) (Ok (Arrived false)) (record p { arrivals = p.arrivals + 1 })
 arrive_passed p packet k here next takes honest w st = (
@@ -203,13 +211,17 @@ arrive_passed p packet k here next takes honest w st = (
 pub arrive_done : (p : Parts) (packet : Packet) (k : ℕ) (taken : Bool) (b' : BrokerState) (confirms' : List Confirm)
     → slice_get p.packets p.arrivals ≡ Some packet → (k == p.arrivals + 1) ≡ true
     → ComesTo p.broker p.confirms packet (Ok taken) b' confirms'
-    → Moves p (Arrive k) (Ok (Arrived taken)) (record p { broker = b'; confirms = confirms'; arrivals = p.arrivals + 1 })
+    → Moves p (Arrive k) (Ok (Arrived taken))
+    (record p { broker = b'; confirms = confirms'; arrivals = p.arrivals + 1 })
 arrive_done p packet k true b' confirms' here next comes =
-    let P : BrokerState → List Confirm → Type 0 = λ b cs. Moves p (Arrive k) (Ok (Arrived true)) (record p { broker = b; confirms = cs; arrivals = p.arrivals + 1 }) in
+    let P : BrokerState → List Confirm → Type 0 = λ b cs. Moves p (Arrive k) (Ok (Arrived true))
+    (record p { broker = b; confirms = cs; arrivals = p.arrivals + 1 }) in
     subst (λ (b : BrokerState). P b confirms') (sym comes.1.0)
-    (subst (λ (cs : List Confirm). P (after_packet p.broker packet) cs) (sym comes.1.1) (arrive_taken p packet k here next comes.0))
+    (subst (λ (cs : List Confirm). P (after_packet p.broker packet) cs) (sym comes.1.1)
+    (arrive_taken p packet k here next comes.0))
 arrive_done p packet k false b' confirms' here next comes =
-    let P : BrokerState → List Confirm → Type 0 = λ b cs. Moves p (Arrive k) (Ok (Arrived false)) (record p { broker = b; confirms = cs; arrivals = p.arrivals + 1 }) in
+    let P : BrokerState → List Confirm → Type 0 = λ b cs. Moves p (Arrive k) (Ok (Arrived false))
+    (record p { broker = b; confirms = cs; arrivals = p.arrivals + 1 }) in
     subst (λ (b : BrokerState). P b confirms') (sym comes.1.0)
     (subst (λ (cs : List Confirm). P p.broker cs) (sym comes.1.1) (arrive_passed p packet k here next comes.0))
 
@@ -223,7 +235,8 @@ pub record IsOf (p : Parts) (w : WorldState) (i : ℕ) (s : SeatState) : Type 0 
 pub seat_is : (p : Parts) (w : WorldState) (i : ℕ) (s : SeatState) → Stands p w → 0 < i
     → slice_get p.seats (i - 1) ≡ Some s → IsOf p w i s
 seat_is p w i s st above here =
-    let found = slice_get_made seat_of w.subscriptions (i - 1) s (ap (λ (ss : List SeatState). slice_get ss (i - 1)) (sym st.seats) ∙ here) in
+    let found = slice_get_made seat_of w.subscriptions (i - 1) s (ap (λ (ss : List SeatState). slice_get ss
+    (i - 1)) (sym st.seats) ∙ here) in
     record {
       subscription = found.0;
       numbered_so = numbered_place w.subscriptions i above ∙ found.1.0;
@@ -235,11 +248,13 @@ seat_is p w i s st above here =
 seats_after : (p : Parts) (w : WorldState) (place : ℕ) (s' : Subscription) → Stands p w
     → slice_set p.seats place (seat_of s') ≡ map seat_of (slice_set w.subscriptions place s')
 seats_after p w place s' st =
-    ap (λ (ss : List SeatState). slice_set ss place (seat_of s')) st.seats ∙ sym (map-set seat_of w.subscriptions place s')
+    ap (λ (ss : List SeatState). slice_set ss place (seat_of s')) st.seats
+    ∙ sym (map-set seat_of w.subscriptions place s')
 
 -- what a subscriber takes
 taken_found : (s s' : SeatState) (flight : List Delivery) (taking : Taking) → TakesAt s flight (Ok taking) s'
-    → (delivery : Delivery) × ((rest : List Delivery) × ((flight ≡ delivery ∷ rest) × HasTaken s delivery rest taking s'))
+    → (delivery : Delivery) × ((rest : List Delivery) × ((flight ≡ delivery ∷ rest)
+    × HasTaken s delivery rest taking s'))
 taken_found s s' [] taking takes = cc (takes.0)
 taken_found s s' (delivery ∷ rest) taking takes = (delivery, (rest, (refl, takes)))
 
@@ -251,11 +266,15 @@ seat_with s s' k f a =
     ∙ ap (λ (x : List ℕ). record s' { acks = x }) a)
 
 -- a step of a subscriber is what it does with the first of the deliveries
-takes_next : (w : WorldState) (i : ℕ) (s : Subscription) (delivery : Delivery) (rest : List Delivery) → numbered w.subscriptions i ≡ Some s
+takes_next : (w : WorldState) (i : ℕ) (s : Subscription) (delivery : Delivery) (rest : List Delivery)
+    → numbered w.subscriptions i ≡ Some s
     → s.flight ≡ delivery ∷ rest → next_by offered w (Take i)
-    ≡ Ok (Took (answer_to (kept_of s.heard) delivery.item), record w { subscriptions = with_numbered i (with_taking delivery rest s) w.subscriptions })
+    ≡ Ok (Took (answer_to (kept_of s.heard) delivery.item), record w { subscriptions = with_numbered i
+    (with_taking delivery rest s) w.subscriptions })
 takes_next w i s delivery rest here first =
-    let after : Subscription → Delivery × List Delivery → Outcome = λ s first. Ok (Took (answer_to (kept_of s.heard) first.0.item), record w { subscriptions = with_numbered i (with_taking first.0 first.1 s) w.subscriptions }) in
+    let after : Subscription → Delivery × List Delivery → Outcome = λ s first. Ok (Took (answer_to
+    (kept_of s.heard) first.0.item), record w { subscriptions = with_numbered i
+    (with_taking first.0 first.1 s) w.subscriptions }) in
     ap (λ (found : Option Subscription). found >>= (λ s. first_flight s.flight >>= after s)) here
     ∙ ap (λ (flight : List Delivery). first_flight flight >>= after s) first
 
@@ -301,14 +320,6 @@ take_done p i s s' seats' taking above here takes set honest w st =
       ),
     )
 
--- no number, no step
-pub no_take : (p : Parts) (i : ℕ) → place_in i (length p.seats) ≡ None → Moves p (Take i) (Err NotEnabled) p
-no_take p i none honest w st =
-    let same : length w.subscriptions ≡ length p.seats = sym (ap length st.seats ∙ length-map w.subscriptions seat_of) in
-    let nowhere : numbered w.subscriptions i ≡ None = place_none w.subscriptions i (ap (place_in i) same ∙ none) in
-    (w, (st, (ap (λ (found : Option Subscription). found >>= (λ s. first_flight s.flight >>= (λ first.
-    Ok (Took (answer_to (kept_of s.heard) first.0.item), record w { subscriptions = with_numbered i (with_taking first.0 first.1 s) w.subscriptions })))) nowhere, refl)))
-
 -- a step that has nothing to act on changes nothing
 unable : (p : Parts) (w : WorldState) (step : Step) → Stands p w → next_by offered w step ≡ Err NotEnabled
     → (w' : WorldState) × (Stands p w' × Next w step (Err NotEnabled) w')
@@ -323,7 +334,8 @@ lacking p w w' step did st takes is = (w, (st, (takes, (subst IsTried (sym is) t
 seats_same : (seats seats' : List SeatState) (place : ℕ) (s s' : SeatState) → slice_get seats place ≡ Some s → s' ≡ s
     → seats' ≡ slice_set seats place s' → seats' ≡ seats
 seats_same seats seats' place s s' here same set =
-    set ∙ ap (slice_set seats place) (same ∙ sym (get_or_from_slice_get seats place s s here)) ∙ set-get_or seats place s
+    set ∙ ap (slice_set seats place) (same ∙ sym (get_or_from_slice_get seats place s s here))
+    ∙ set-get_or seats place s
 
 with_seats_same : (p : Parts) (step : Step) (answer : Result Did StepError) (seats' : List SeatState) → seats' ≡ p.seats
     → Moves p step answer p → Moves p step answer (record p { seats = seats' })
@@ -336,7 +348,9 @@ untaken_none p i s above here none honest w st =
     let of = seat_is p w i s st above here in
     let sub = of.subscription in
     let empty : sub.flight ≡ [] = ap (λ (t : SeatState). t.flight) of.seat ∙ none in
-    let after : Subscription → Delivery × List Delivery → Outcome = λ s first. Ok (Took (answer_to (kept_of s.heard) first.0.item), record w { subscriptions = with_numbered i (with_taking first.0 first.1 s) w.subscriptions }) in
+    let after : Subscription → Delivery × List Delivery → Outcome = λ s first. Ok (Took (answer_to
+    (kept_of s.heard) first.0.item), record w { subscriptions = with_numbered i
+    (with_taking first.0 first.1 s) w.subscriptions }) in
     unable p w (Take i) st
     (ap (λ (found : Option Subscription). found >>= (λ s. first_flight s.flight >>= after s)) of.numbered_so
     ∙ ap (λ (flight : List Delivery). first_flight flight >>= after sub) empty)
@@ -354,7 +368,8 @@ untaken : (p : Parts) (i : ℕ) (s s' : SeatState) (flight : List Delivery) (why
     → (s' ≡ s) × Moves p (Take i) (Err why) p
 untaken p i s s' [] why above here is takes = (
   takes.1,
-  subst (λ (e : StepError). Moves p (Take i) (Err e) p) (err_same (Err why) why NotEnabled refl takes.0) (untaken_none p i s above here is),
+  subst (λ (e : StepError). Moves p (Take i) (Err e) p) (err_same (Err why) why NotEnabled refl takes.0)
+  (untaken_none p i s above here is),
 )
 untaken p i s s' (delivery ∷ rest) why above here is takes = (
   takes.1,
@@ -369,17 +384,14 @@ take_refused p i s s' seats' why above here takes set =
     let un = untaken p i s s' s.flight why above here refl takes in
     with_seats_same p (Take i) (Err why) seats' (seats_same p.seats seats' (i - 1) s s' here un.0 set) un.1
 
--- the queue of a seat
-pub record IsQueueOf (p : Parts) (w : WorldState) (i : ℕ) (s : Subscription) : Type 0 where
-  pub seen : view_of (queue_of p.broker i) ≡ queue_for (taken_items w) s
-
 -- what a queue hands out is that which its subscription's does
 pub queue_is : (p : Parts) (w : WorldState) (i : ℕ) (s : Subscription) → Stands p w
     → slice_get w.subscriptions (i - 1) ≡ Some s → view_of (queue_of p.broker i) ≡ queue_for (taken_items w) s
 queue_is p w i s st there =
     let found = slice_get_made view_of p.broker.queues (i - 1) (queue_for (taken_items w) s)
     (ap (λ (vs : List QueueView). slice_get vs (i - 1)) st.queues
-    ∙ (slice_get-map (queue_for (taken_items w)) w.subscriptions (i - 1) ∙ ap (option_map (queue_for (taken_items w))) there)) in
+    ∙ (slice_get-map (queue_for (taken_items w)) w.subscriptions (i - 1)
+    ∙ ap (option_map (queue_for (taken_items w))) there)) in
     ap (λ (q : Option QueueState). view_of (unwrap_or q (empty_queue nobody))) found.1.0 ∙ found.1.1
 
 -- what is handed out next, of a queue as it is seen
@@ -398,21 +410,27 @@ queues_sent : (p : Parts) (w : WorldState) (i : ℕ) (s : Subscription) (deliver
 queues_sent p w i s delivery st there =
     let q = queue_of p.broker i in
     map-set view_of p.broker.queues (i - 1) (moved_on (Some delivery) q)
-    ∙ (ap₂ (λ (vs : List QueueView) (v : QueueView). slice_set vs (i - 1) (record v { cursor = v.cursor + 1 })) st.queues (queue_is p w i s st there)
+    ∙ (ap₂ (λ (vs : List QueueView) (v : QueueView). slice_set vs (i - 1)
+    (record v { cursor = v.cursor + 1 })) st.queues (queue_is p w i s st there)
     ∙ sym (map-set (queue_for (taken_items w)) w.subscriptions (i - 1) (with_sending delivery s)))
 
 -- a step of a queue is what it does with what it hands out next
 sends_next : (w : WorldState) (i : ℕ) (s : Subscription) (found : Option Delivery) → numbered w.subscriptions i ≡ Some s
     → next_delivery w s ≡ found → next_by offered w (Send i)
-    ≡ (found >>= (λ delivery. done (record w { subscriptions = with_numbered i (with_sending delivery s) w.subscriptions })))
+    ≡ (found >>= (λ delivery. done (record w { subscriptions = with_numbered i
+    (with_sending delivery s) w.subscriptions })))
 sends_next w i s found here next =
-    let after : Subscription → Delivery → Outcome = λ s delivery. done (record w { subscriptions = with_numbered i (with_sending delivery s) w.subscriptions }) in
+    let after : Subscription → Delivery → Outcome = λ s delivery. done (record w { subscriptions = with_numbered i
+    (with_sending delivery s) w.subscriptions }) in
     ap (λ (found : Option Subscription). found >>= (λ s. next_delivery w s >>= after s)) here
     ∙ ap (λ (found : Option Delivery). found >>= after s) next
 
 -- what a queue hands out where it is done
-handed_found : (i : ℕ) (b b' : BrokerState) (s s' : SeatState) (found : Option Delivery) → HandsAt i b s found (Ok tt) b' s'
-    → (delivery : Delivery) × ((found ≡ Some delivery) × ((b' ≡ with_queue i (moved_on (Some delivery) (queue_of b i)) b) × (s' ≡ record s { flight = s.flight ++ delivery ∷ [] })))
+handed_found : (i : ℕ) (b b' : BrokerState) (s s' : SeatState) (found : Option Delivery)
+    → HandsAt i b s found (Ok tt) b' s'
+    → (delivery : Delivery) × ((found ≡ Some delivery) × ((b'
+    ≡ with_queue i (moved_on (Some delivery) (queue_of b i)) b)
+    × (s' ≡ record s { flight = s.flight ++ delivery ∷ [] })))
 handed_found i b b' s s' None hands = cc (hands.0)
 handed_found i b b' s s' (Some delivery) hands = (delivery, (refl, hands))
 
@@ -426,7 +444,8 @@ send_done p i s s' b' seats' above here hands set honest w st =
     let found = handed_found i p.broker b' s s' (next_of_queue (queue_of p.broker i)) hands in
     let delivery = found.0 in
     let sub' : Subscription = with_sending delivery sub in
-    let same : s' ≡ seat_of sub' = found.1.1.1 ∙ ap (λ (t : SeatState). record t { flight = t.flight ++ delivery ∷ [] }) (sym of.seat) in
+    let same : s' ≡ seat_of sub' = found.1.1.1 ∙ ap (λ
+    (t : SeatState). record t { flight = t.flight ++ delivery ∷ [] }) (sym of.seat) in
     let next : next_delivery w sub ≡ Some delivery = sym (deliveries_same p w i sub st of.there) ∙ found.1.0 in
     let broker = found.1.1.0 in
     (
@@ -486,7 +505,8 @@ unsent p i s s' b' (Some delivery) why above here is hands = (
   ),
 )
 
-pub send_refused : (p : Parts) (i : ℕ) (s s' : SeatState) (b' : BrokerState) (seats' : List SeatState) (why : StepError) → 0 < i
+pub send_refused : (p : Parts) (i : ℕ) (s s' : SeatState) (b' : BrokerState) (seats' : List SeatState)
+    (why : StepError) → 0 < i
     → slice_get p.seats (i - 1) ≡ Some s → HandsAt i p.broker s (next_of_queue (queue_of p.broker i)) (Err why) b' s'
     → seats' ≡ slice_set p.seats (i - 1) s' → Moves p (Send i) (Err why) (record p { broker = b'; seats = seats' })
 send_refused p i s s' b' seats' why above here hands set =
@@ -494,17 +514,10 @@ send_refused p i s s' b' seats' why above here hands set =
     subst (λ (b : BrokerState). Moves p (Send i) (Err why) (record p { broker = b; seats = seats' })) (sym un.0)
     (with_seats_same p (Send i) (Err why) seats' (seats_same p.seats seats' (i - 1) s s' here un.1.0 set) un.1.1)
 
--- no number, no step
-pub no_send : (p : Parts) (i : ℕ) → place_in i (length p.seats) ≡ None → Moves p (Send i) (Err NotEnabled) p
-no_send p i none honest w st =
-    let same : length w.subscriptions ≡ length p.seats = sym (ap length st.seats ∙ length-map w.subscriptions seat_of) in
-    let nowhere : numbered w.subscriptions i ≡ None = place_none w.subscriptions i (ap (place_in i) same ∙ none) in
-    (w, (st, (ap (λ (found : Option Subscription). found >>= (λ s. next_delivery w s >>= (λ delivery.
-    done (record w { subscriptions = with_numbered i (with_sending delivery s) w.subscriptions })))) nowhere, refl)))
-
 -- a seat of the world that changed, by its place
 module _ (p : Parts) (i count place : ℕ) (items : List Seat) (seat seat' : Seat) (same : p.seats ≡ map seat_state items)
-    (counted : count ≡ length items) (found : place_in i count ≡ Some place) (got : seat ≡ get_or items place seat) where
+    (counted : count ≡ length items) (found : place_in i count ≡ Some place) (got : seat
+    ≡ get_or items place seat) where
   is_at : IsPlace i count place
   is_at = place_is i count place found
 
@@ -523,33 +536,42 @@ module _ (p : Parts) (i count place : ℕ) (items : List Seat) (seat seat' : Sea
   number_is = let at = is_at in omega (arith, at.above, at.here)
 
   pub send_at : (b' : BrokerState)
-      → HandsAt (place + 1) p.broker (seat_state seat) (next_of_queue (queue_of p.broker (place + 1))) (Ok tt) b' (seat_state seat')
+      → HandsAt (place + 1) p.broker (seat_state seat) (next_of_queue (queue_of p.broker (place + 1))) (Ok tt) b'
+      (seat_state seat')
       → Moves p (Send i) (Ok Done) (record p { broker = b'; seats = map seat_state (slice_set items place seat') })
   send_at b' hands =
-      send_done p i (seat_state seat) (seat_state seat') b' (map seat_state (slice_set items place seat')) is_at.above seat_at
-      (subst (λ (n : ℕ). HandsAt n p.broker (seat_state seat) (next_of_queue (queue_of p.broker n)) (Ok tt) b' (seat_state seat'))
+      send_done p i (seat_state seat) (seat_state seat') b' (map seat_state
+      (slice_set items place seat')) is_at.above seat_at
+      (subst (λ (n : ℕ). HandsAt n p.broker (seat_state seat) (next_of_queue (queue_of p.broker n)) (Ok tt) b'
+      (seat_state seat'))
       number_is hands)
       seats_set
 
   pub send_at_refused : (b' : BrokerState) (why : StepError)
-      → HandsAt (place + 1) p.broker (seat_state seat) (next_of_queue (queue_of p.broker (place + 1))) (Err why) b' (seat_state seat')
+      → HandsAt (place + 1) p.broker (seat_state seat) (next_of_queue (queue_of p.broker (place + 1)))
+      (Err why) b' (seat_state seat')
       → Moves p (Send i) (Err why) (record p { broker = b'; seats = map seat_state (slice_set items place seat') })
   send_at_refused b' why hands =
-      send_refused p i (seat_state seat) (seat_state seat') b' (map seat_state (slice_set items place seat')) why is_at.above seat_at
-      (subst (λ (n : ℕ). HandsAt n p.broker (seat_state seat) (next_of_queue (queue_of p.broker n)) (Err why) b' (seat_state seat'))
+      send_refused p i (seat_state seat) (seat_state seat') b' (map seat_state
+      (slice_set items place seat')) why is_at.above seat_at
+      (subst (λ (n : ℕ). HandsAt n p.broker (seat_state seat) (next_of_queue (queue_of p.broker n)) (Err why) b'
+      (seat_state seat'))
       number_is hands)
       seats_set
 
   pub take_at : (taking : Taking) → TakesAt (seat_state seat) (seat_state seat).flight (Ok taking) (seat_state seat')
       → Moves p (Take i) (Ok (Took taking)) (record p { seats = map seat_state (slice_set items place seat') })
   take_at taking takes =
-      take_done p i (seat_state seat) (seat_state seat') (map seat_state (slice_set items place seat')) taking is_at.above seat_at
+      take_done p i (seat_state seat) (seat_state seat') (map seat_state
+      (slice_set items place seat')) taking is_at.above seat_at
       takes seats_set
 
-  pub take_at_refused : (why : StepError) → TakesAt (seat_state seat) (seat_state seat).flight (Err why) (seat_state seat')
+  pub take_at_refused : (why : StepError) → TakesAt (seat_state seat) (seat_state seat).flight (Err why)
+      (seat_state seat')
       → Moves p (Take i) (Err why) (record p { seats = map seat_state (slice_set items place seat') })
   take_at_refused why takes =
-      take_refused p i (seat_state seat) (seat_state seat') (map seat_state (slice_set items place seat')) why is_at.above seat_at
+      take_refused p i (seat_state seat) (seat_state seat') (map seat_state
+      (slice_set items place seat')) why is_at.above seat_at
       takes seats_set
 
 -- the seat that a reader finds is that of the subscription
@@ -576,7 +598,8 @@ new_counts bindings count items b counted seats is =
 new_queues : (bindings : List Arguments)
     → map view_of (map empty_queue bindings) ≡ map (queue_for []) (map new_subscription bindings)
 new_queues [] = refl
-new_queues (binding ∷ bindings) = ap (λ (vs : List QueueView). queue_for [] (new_subscription binding) ∷ vs) (new_queues bindings)
+new_queues (binding ∷ bindings) = ap (λ (vs : List QueueView). queue_for [] (new_subscription binding) ∷ vs)
+    (new_queues bindings)
 
 new_seats : (bindings : List Arguments)
     → replicate (length bindings) empty_seat ≡ map seat_of (map new_subscription bindings)
@@ -584,11 +607,13 @@ new_seats [] = refl
 new_seats (binding ∷ bindings) = ap (λ (ss : List SeatState). empty_seat ∷ ss) (new_seats bindings)
 
 -- a new world
-pub new_stands : (p : Parts) (bindings : List Arguments) (count window : ℕ) (held : Option Saved) → p.history ≡ empty_history
+pub new_stands : (p : Parts) (bindings : List Arguments) (count window : ℕ) (held : Option Saved)
+    → p.history ≡ empty_history
     → p.broker ≡ empty_broker bindings → p.held ≡ held → p.window ≡ window → p.session ≡ None → p.packets ≡ []
     → p.confirms ≡ [] → p.arrivals ≡ 0 → p.answers ≡ 0 → p.seats ≡ replicate count empty_seat → count ≡ length bindings
     → Stands p (new_world bindings window held)
-new_stands p bindings count window held history broker is_held is_window session packets confirms arrivals answers seats counted = record {
+new_stands p bindings count window held history broker is_held is_window session packets confirms arrivals answers
+    seats counted = record {
   history = history;
   held = is_held;
   window = is_window;

@@ -41,12 +41,14 @@ OffersAt h kept course (Some poll) (Err why) kept' = (why ≡ OutOfMemory) × (k
 
 -- the same, whatever course it stands for
 abbrev pub Offers : History → Kept → Result (Unit {0}) StepError → Kept → Type 0
-Offers h kept answer kept' = (course : Course) → StandsFor kept course → OffersAt h kept course (wanted course) answer kept'
+Offers h kept answer kept' = (course : Course) → StandsFor kept course
+    → OffersAt h kept course (wanted course) answer kept'
 
 -- a session that stands for a course sends its next packet, if there is one, to the back of those that were sent
 abbrev pub SendsAt : Kept → List Packet → Course → Option Packet → Result (Unit {0}) StepError → Kept → List Packet
     → Type 0
-SendsAt kept packets course None answer kept' packets' = (answer ≡ Err NotEnabled) × ((kept' ≡ kept) × (packets' ≡ packets))
+SendsAt kept packets course None answer kept' packets' = (answer ≡ Err NotEnabled) × ((kept' ≡ kept)
+    × (packets' ≡ packets))
 SendsAt kept packets course (Some packet) (Ok _) kept' packets' =
     StandsFor kept' (with_sent (Some packet) course) × (packets' ≡ packets ++ packet ∷ [])
 SendsAt kept packets course (Some packet) (Err why) kept' packets' =
@@ -67,7 +69,8 @@ abbrev pub after_packet : BrokerState → Packet → BrokerState
 after_packet b (Connect session) = connected session b
 after_packet b (Publish session tag item) = published tag item b
 
--- a packet comes to a broker, and is confirmed where it is taken and has a confirm; where memory ran out nothing changes
+-- a packet comes to a broker, and is confirmed where it is taken and has a confirm; where memory ran out nothing
+-- changes
 abbrev pub ComesTo : BrokerState → List Confirm → Packet → Result Bool AllocError → BrokerState → List Confirm → Type 0
 ComesTo b confirms packet (Ok true) b' confirms' =
     (takes_packet b packet ≡ true) × ((b' ≡ after_packet b packet) × (confirms' ≡ confirms ++ confirms_of packet))
@@ -76,7 +79,8 @@ ComesTo b confirms packet (Ok false) b' confirms' =
 ComesTo b confirms packet (Err _) b' confirms' = (b' ≡ b) × (confirms' ≡ confirms)
 
 -- a queue hands out its next delivery, if there is one, to the back of those that are on their way to a seat
-abbrev pub HandsAt : ℕ → BrokerState → SeatState → Option Delivery → Result (Unit {0}) StepError → BrokerState → SeatState
+abbrev pub HandsAt : ℕ → BrokerState → SeatState → Option Delivery → Result (Unit {0}) StepError → BrokerState
+    → SeatState
     → Type 0
 HandsAt i b s None answer b' s' = (answer ≡ Err NotEnabled) × ((b' ≡ b) × (s' ≡ s))
 HandsAt i b s (Some delivery) (Ok _) b' s' =

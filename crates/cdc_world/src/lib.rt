@@ -7,6 +7,8 @@ mod refusals;
 mod seats;
 pub mod steps;
 mod taking;
+#[cfg(test)]
+mod tests;
 pub mod world;
 
 pub use laws::world_laws;

@@ -1,7 +1,6 @@
 //! A subscriber, with what is on its way to it.
 
-ghost use Rattle.std.specs.Prelude.{◌≡◌, ℕ, IfOk, length, map, List, replicate};
-ghost use Rattle.cdc_world.specs.Stands.{seat_of};
+ghost use Rattle.std.specs.Prelude.{◌≡◌, IfOk, map, replicate};
 ghost use Rattle.cdc_world.specs.Turns.{empty_seat, seat_state, TakesAt};
 
 use crate::steps::StepError;

@@ -15,6 +15,7 @@ returns-then-closed c =
       | in-Some w ↦ w.last-is ∙ last_read_some after read w.in-Some.event.now (sym w.in-Some.ensures.value)
       | in-None w ↦ w.last-is ∙ last_read_none after read (sym w.in-None.ensures.value)
     ] in
-    none_follow_is c.args.ledger.now c.args.poll read c.last_timestamp.result c.match-last.last c.if-closed.ensures c.requires
+    none_follow_is c.args.ledger.now c.args.poll read c.last_timestamp.result c.match-last.last c.if-closed.ensures
+    c.requires
     (subst (RiseFrom 0) c.log.ensures c.last_timestamp.ensures.rising)
     (c.last_timestamp.ensures.last ∙ ap last_timestamp c.log.ensures) last

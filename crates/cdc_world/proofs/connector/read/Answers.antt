@@ -12,6 +12,7 @@ returns-clause-reply c =
     if_ok_then c.read_after.result
     (λ read. read.items ≡ take poll.limit (events_after poll.after c.log.result.now.events))
     (λ read. IsReply poll read.items)
-    (λ read is. subst (IsReply poll) (sym (subst (λ (es : List Event). read.items ≡ take poll.limit (events_after poll.after es))
+    (λ read is. subst (IsReply poll) (sym (subst (λ (es : List Event). read.items
+    ≡ take poll.limit (events_after poll.after es))
     c.log.ensures is)) reply)
     c.read_after.ensures

@@ -14,9 +14,11 @@ returns c =
     mapped_ok _ c.take.result c.in_ok-taking.taking _ c.in_ok-taking.ensures.cases c.in_ok-taking.ensures.variant in
     let some : 0 < length c.args.self.now.flight.items =
     omega (arith, c.in-Some.ensures.variant.0 refl, c.args.self.now.flight.ok.0) in
-    taken_is (seat_state c.args.self.now) _ delivery c.args.self.now.flight.items c.in_ok-taking.taking c.in-Some.ensures.lookup
+    taken_is (seat_state c.args.self.now) _ delivery c.args.self.now.flight.items c.in_ok-taking.taking
+    c.in-Some.ensures.lookup
     some c.pop_front.ensures.rest
     (answered_is c.args.self.now.subscriber delivery.item c.in_ok-taking.taking c.take.result c.take.ensures.answer is)
     (c.push_reserved.ensures.items ∙ ap (λ (xs : List ℕ). xs ++ delivery.position ∷ []) c.reserve.ensures.items)
-    (λ heard kept. subst (λ (r : Result Taking TakeError). OnOk r (c.take.new.self ≡ kept_of (next heard delivery.item))) is
+    (λ heard kept. subst (λ (r : Result Taking TakeError). OnOk r (c.take.new.self
+    ≡ kept_of (next heard delivery.item))) is
     (c.take.ensures.stands heard kept))

@@ -8,7 +8,8 @@ use Rattle.cdc_world.proofs.world.World.save.Goals as goal
 
 pub returns-in_err-save-clause-next : goal.returns-in_err-save-clause-next
 returns-in_err-save-clause-next g c =
-    at_entry_err Save c.from_residual.result (store_refusal c.in_err-save.field-0.0) c.from_residual.ensures.1 c.self.view_is
+    at_entry_err Save c.from_residual.result
+    (store_refusal c.in_err-save.field-0.0) c.from_residual.ensures.1 c.self.view_is
     (save_failed _ c.in-Some.session _ _ c.in_err-save.field-0.0 _ _ c.in-Some.is c.in_err-save.ensures.refused
     (λ e. c.in_err-save.ensures.without_memory (ap Err e)) c.in_err-save.ensures.refusals)
 

@@ -9,11 +9,13 @@ use Rattle.cdc_world.proofs.world.World.start.Goals as goal
 
 pub returns-in_err-start-clause-next : goal.returns-in_err-start-clause-next
 returns-in_err-start-clause-next g c =
-    at_entry_err Start c.from_residual.result (start_refusal c.in_err-start.field-0.0) c.from_residual.ensures.1 c.self.view_is
+    at_entry_err Start c.from_residual.result
+    (start_refusal c.in_err-start.field-0.0) c.from_residual.ensures.1 c.self.view_is
     (start_failed _ _ _ c.in_err-start.field-0.0 _ _ (none_of _ (sym c.is_some.ensures ∙ c.if-is_some.false))
     c.in_err-start.ensures.err)
 
 pub returns-clause-next : goal.returns-clause-next
 returns-clause-next g c =
     at_entry Start (Ok Done) c.self.view_is
-    (start_done _ c.in_ok-start.field-0 _ _ (none_of _ (sym c.is_some.ensures ∙ c.if-is_some.false)) c.in_ok-start.ensures.ok)
+    (start_done _ c.in_ok-start.field-0 _ _ (none_of _ (sym c.is_some.ensures
+    ∙ c.if-is_some.false)) c.in_ok-start.ensures.ok)

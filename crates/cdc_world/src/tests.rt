@@ -1,0 +1,226 @@
+//! What no clause says: that steps find memory, and that whole courses of them go as they should.
+
+use crate::{Did, Step, StepError, World};
+use cdc_match::Binding;
+use cdc_progress::{MemoryStore, Progress};
+use cdc_types::{Batch, Items, NewAccount, NewTransfer};
+use std::alloc::{AllocError, Global};
+use std::process::Abort;
+use std::test::Fail;
+
+// An account of ledger 700.
+fn account(id: u128) -> NewAccount {
+    NewAccount {
+        id,
+        user_data_128: 0,
+        user_data_64: 0,
+        user_data_32: 0,
+        ledger: 700,
+        code: 10,
+        flags: 0,
+    }
+}
+
+// A transfer from account 1 to account 2.
+fn transfer(id: u128, amount: u128) -> NewTransfer {
+    NewTransfer {
+        id,
+        debit_account_id: 1,
+        credit_account_id: 2,
+        amount,
+        pending_id: 0,
+        user_data_128: 0,
+        user_data_64: 0,
+        user_data_32: 0,
+        timeout: 0,
+        ledger: 700,
+        code: 1,
+        flags: 0,
+    }
+}
+
+// Two accounts at the moment 1000.
+fn accounts(alloc: Global) -> Result<Step, AllocError> {
+    Ok(Step::Submit(Batch::Accounts {
+        now: 1000,
+        items: Items::from_vec(Vec::from_slice(alloc, &[account(1), account(2)])?),
+    }))
+}
+
+// Transfers of 5 and 7 at the moment 2000.
+fn transfers(alloc: Global) -> Result<Step, AllocError> {
+    Ok(Step::Submit(Batch::Transfers {
+        now: 2000,
+        items: Items::from_vec(Vec::from_slice(alloc, &[transfer(1, 5), transfer(2, 7)])?),
+    }))
+}
+
+// The steps that follow a pair of batches, as one table: publish, confirm, save, close, and take all.
+fn whole_course(alloc: Global) -> Result<Vec<Step>, AllocError> {
+    Vec::from_array(
+        alloc,
+        [
+            accounts(alloc)?,
+            transfers(alloc)?,
+            Step::Start,
+            Step::Publish,
+            Step::Arrive(1),
+            Step::Poll,
+            Step::Publish,
+            Step::Arrive(2),
+            Step::Answer(1),
+            Step::Poll,
+            Step::Publish,
+            Step::Arrive(3),
+            Step::Answer(2),
+            Step::Save,
+            Step::CloseLedger,
+            Step::Poll,
+            Step::Publish,
+            Step::Arrive(4),
+            Step::Answer(3),
+            Step::Send(1),
+            Step::Send(1),
+            Step::Send(1),
+            Step::Take(1),
+            Step::Take(1),
+            Step::Take(1),
+        ],
+    )
+}
+
+// The steps over an empty ledger that is closed at once.
+fn empty_course(alloc: Global) -> Result<Vec<Step>, AllocError> {
+    Vec::from_array(
+        alloc,
+        [
+            Step::CloseLedger,
+            Step::Start,
+            Step::Publish,
+            Step::Arrive(1),
+            Step::Poll,
+            Step::Publish,
+            Step::Arrive(2),
+            Step::Answer(1),
+            Step::Send(1),
+            Step::Take(1),
+        ],
+    )
+}
+
+// The same without the close.
+fn open_course(alloc: Global) -> Result<Vec<Step>, AllocError> {
+    Vec::from_array(
+        alloc,
+        [
+            Step::Start,
+            Step::Publish,
+            Step::Arrive(1),
+            Step::Poll,
+            Step::Publish,
+        ],
+    )
+}
+
+// A world with one subscriber of all events.
+fn world(alloc: Global) -> Result<World<MemoryStore>, Fail> {
+    let bindings = Vec::from_array(alloc, [Binding::parse(alloc, &["all"])?])?;
+    Ok(World::new(alloc, bindings, 1, MemoryStore::new())?)
+}
+
+// What a play is to leave.
+struct Left {
+    done: usize,
+    refusal: Option<StepError>,
+    progress: (u64, u64),
+    packets: usize,
+    confirms: usize,
+    applied: u64,
+    last: u64,
+    ended: bool,
+}
+
+// Plays steps in a new world, and compares what is left.
+fn leaves(alloc: Global, steps: &[Step], left: &Left) -> Result<bool, Fail> {
+    let mut world = world(alloc)?;
+    let played = world.play(alloc, steps);
+    let progress = world.progress()? == Some(Progress::new(left.progress.0, left.progress.1));
+    let sent = world.packets() == left.packets && world.confirms() == left.confirms;
+    if world.subscriber_count() != 1 {
+        return Ok(false);
+    }
+    let subscriber = world.subscriber(1);
+    Ok(played.done == left.done
+        && played.refusal == left.refusal
+        && progress
+        && sent
+        && subscriber.applied_count() == left.applied
+        && subscriber.last() == left.last
+        && subscriber.ended() == left.ended)
+}
+
+#[test]
+fn a_whole_course(rt: HostRuntime) -> Result<(), Fail> {
+    let alloc = rt.alloc();
+    let left = Left {
+        done: 25,
+        refusal: None,
+        progress: (1, 2001),
+        packets: 4,
+        confirms: 3,
+        applied: 2,
+        last: 2001,
+        ended: true,
+    };
+    assert!(rt; leaves(alloc, &whole_course(alloc)?, &left)?);
+    Ok(())
+}
+
+#[test]
+fn an_empty_ledger(rt: HostRuntime) -> Result<(), Fail> {
+    let alloc = rt.alloc();
+    let closed = Left {
+        done: 10,
+        refusal: None,
+        progress: (1, 0),
+        packets: 2,
+        confirms: 1,
+        applied: 0,
+        last: 0,
+        ended: true,
+    };
+    let open = Left {
+        done: 4,
+        refusal: Some(StepError::NotEnabled),
+        progress: (1, 0),
+        packets: 1,
+        confirms: 0,
+        applied: 0,
+        last: 0,
+        ended: false,
+    };
+    assert!(rt; leaves(alloc, &empty_course(alloc)?, &closed)?);
+    assert!(rt; leaves(alloc, &open_course(alloc)?, &open)?);
+    Ok(())
+}
+
+#[test]
+fn readers_of_a_seat(rt: HostRuntime) -> Result<(), Fail> {
+    let alloc = rt.alloc();
+    let mut world = world(alloc)?;
+    let steps = whole_course(alloc)?;
+    let played = world.play(alloc, &steps[..22]);
+    assert!(rt; played.done == 22 && world.subscriber_count() == 1);
+    if world.subscriber_count() == 1 {
+        assert!(rt; world.flight(1) == 3 && world.acks(1) == 0);
+    }
+    assert!(rt; world.ledger().log().len() == 2);
+    assert!(rt; matches!(world.step(alloc, &Step::Take(0)), Err(StepError::NotEnabled)));
+    assert!(rt; matches!(world.step(alloc, &Step::Crash), Err(StepError::NotEnabled)));
+    assert!(rt; matches!(world.step(alloc, &Step::Arrive(u64::MAX)), Err(StepError::NotEnabled)));
+    assert!(rt; matches!(world.step(alloc, &Step::Take(1)), Ok(Did::Took(_))));
+    if world.subscriber_count() == 1 {
+        assert!(rt; world.flight(1) == 2 && world.acks(1) == 1);
+    }
+    Ok(())
+}
