@@ -12,5 +12,6 @@ pub mod Refusals
 pub mod Report
 pub mod Scripts
 pub mod Statements
+pub mod StepFiles
 pub mod Steps
 pub mod Words

@@ -13,10 +13,13 @@ mod feeding;
 mod fields;
 mod messages;
 mod numbers;
+mod operands;
 mod options;
+mod reading;
 mod report;
 mod scripts;
 mod statements;
+mod step_files;
 #[cfg(test)]
 mod tests;
 mod words;
