@@ -13,6 +13,13 @@ pub enum Options<'a> {
     Books { file: &'a str },
     /// The messages of a script's events, of the script in this file; `-` is standard input.
     Messages { file: &'a str },
+    /// The world that the steps of the second file lead to, over the batches of the script in the first; `-` as the
+    /// script is standard input. A session waits for so many events at a time.
+    Simulate {
+        file: &'a str,
+        steps: &'a str,
+        window: usize,
+    },
     /// A text on the program itself: help, or its version.
     Explain { text: String },
 }

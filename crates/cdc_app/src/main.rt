@@ -64,6 +64,7 @@ fn run_words(rt: &HostRuntime, words: &[String]) -> Ending {
     match options(rt.alloc(), texts.as_slice()) {
         Ok(Options::Books { file }) => run_file(rt, Report::Books, file),
         Ok(Options::Messages { file }) => run_file(rt, Report::Messages, file),
+        Ok(Options::Simulate { .. }) => Ending::BadWords,
         Ok(Options::Explain { text }) => explain(rt, text.as_str()),
         Err(OptionsFault::BadWords { message }) => refuse_words(rt, message.as_str()),
         Err(OptionsFault::OutOfMemory) => give_up(rt, ProgramFault::OutOfMemory),
