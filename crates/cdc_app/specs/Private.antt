@@ -3,4 +3,5 @@ pub mod Acts
 pub mod Drafts
 pub mod Outcomes
 pub mod Queues
+pub mod Stages
 pub mod Suited

@@ -108,7 +108,9 @@ fn simulate_command<'a>(alloc: Global) -> Result<Command<'a>, AllocError> {
         .action(ArgAction::Set)
         .help("For how many events a session waits at a time: 1");
     Command::new(alloc, "simulate")
-        .about("Take a script's batches and a session's packets step by step, and print the world that the steps lead to")
+        .about(
+            "Take a script's batches and a session's packets step by step, and print the world that the steps lead to",
+        )
         .after_help(MORE)
         .arg(script_argument(alloc))?
         .arg(steps)?
@@ -157,7 +159,10 @@ fn simulation<'a>(
             steps,
             window,
         }),
-        None => Err(bad_words(alloc, "error: a window is 1\n")?),
+        None => Err(bad_words(
+            alloc,
+            "error: a window is 1\n\nFor more information, try '--help'.\n",
+        )?),
     }
 }
 
