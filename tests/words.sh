@@ -83,7 +83,7 @@ run books 'two words'
 same 'a file whose name has a space' "$its_book" "$out"
 
 # Help and the version stand on standard output.
-for words in '--help' '-h' 'help' 'books --help' 'messages --help' 'help books' 'help messages'; do
+for words in '--help' '-h' 'help' 'books --help' 'messages --help' 'simulate --help' 'help books' 'help messages' 'help simulate'; do
     run $words
     ends_well "words '$words'"
     has "words '$words': usage" 'Usage: ' "$out"
@@ -95,6 +95,7 @@ for words in '--help' 'help'; do
     run $words
     has "words '$words': books" '  books ' "$out"
     has "words '$words': messages" '  messages ' "$out"
+    has "words '$words': simulate" '  simulate ' "$out"
 done
 for words in '--version' '-V'; do
     run $words
@@ -118,6 +119,12 @@ bad_words '<FILE>' books
 bad_words '<FILE>' messages
 bad_words "'other.script'" books one.script other.script
 bad_words "'--window'" books one.script --window
+bad_words '<FILE>' simulate
+bad_words '<STEPS>' simulate one.script
+bad_words "'--fast'" simulate one.script three.steps --fast
+for window in 0 2 64 65 x ''; do
+    bad_words 'a window is 1' simulate one.script three.steps --window "$window"
+done
 run books $'\xff'
 same 'a word that is no text: status' 2 "$status"
 same 'a word that is no text: standard output' '' "$out"
@@ -200,6 +207,70 @@ if [ -w /dev/full ]; then
         has "$command to a full disk: why" 'standard output: write_fault: No space left' "$(cat errors)"
     done
 fi
+
+# Steps over a script: what they lead to, and the step that is refused.
+printf 'batch\nbatch\nstart\n' >three.steps
+its_world='batch 1: 0 0
+batch 2: 0
+steps 3 of 3
+progress 1 0
+subscriber 1 applied 0 last 0 ended no closed no
+'
+printf '%s' "$one_transfer" >input
+for words in 'one.script three.steps' '- three.steps' 'one.script three.steps --window 1' '--window=01 - ./three.steps'; do
+    run simulate $words
+    same "words 'simulate $words'" "$its_world" "$out"
+    ends_well "words 'simulate $words'"
+done
+cp three.steps ./-
+run simulate one.script -
+same 'a step file whose name is a dash' "$its_world" "$out"
+printf 'start\nstart\n' >twice.steps
+run simulate one.script twice.steps
+same 'a refused step: status' 1 "$status"
+same 'a refused step: standard output' 'steps 1 of 2
+refused 2 not_enabled
+progress 1 0
+subscriber 1 applied 0 last 0 ended no closed no
+' "$out"
+has 'a refused step: standard error' 'a step was refused: not_enabled' "$err"
+run simulate "$top/examples/two-phase.script" "$top/examples/two-phase.steps"
+shown=$(sed -n '/^steps 22 of 22$/,/^```$/p' "$top/README.md")
+same 'the example of steps' "batch 1: 0 0 0 0
+batch 2: 0 0 0
+${shown%\`\`\`}" "$out"
+ends_well 'the example of steps'
+
+# A bad step file, and one that isn't there: the script is judged first.
+bad_steps() {
+    local line=$1 fault=$2 expected=$3 place
+    printf '%b' "$4" >bad.steps
+    place=bad.steps:$line
+    [ "$line" != 0 ] || place=bad.steps
+    run simulate one.script bad.steps
+    same "steps, $fault: status" 2 "$status"
+    same "steps, $fault: standard output" "fault: steps line $line: $fault
+" "$out"
+    same "steps, $fault: lines of standard error" 1 "$(wc -l <errors)"
+    has "steps, $fault: place and name" "$place: $fault: " "$err"
+    has "steps, $fault: what was expected" "$expected" "$err"
+}
+bad_steps 2 bad_text 'printable ASCII' 'start\npoll\t\n'
+bad_steps 1 unknown_word 'send or take' 'crash\n'
+bad_steps 1 wrong_count 'have one number' 'arrive\n'
+bad_steps 1 bad_number 'a number is one or more digits from 0 to 9' 'arrive x\n'
+bad_steps 1 number_out_of_range '64 bits' 'answer 18446744073709551616\n'
+bad_steps 0 too_long '1048576' "$(head -c 1048577 /dev/zero | tr '\0' ' ')"
+run simulate one.script no-such.steps
+same 'no step file: status' 1 "$status"
+same 'no step file: standard output' 'fault: read_fault
+' "$out"
+has 'no step file: standard error' 'one.script or no-such.steps: read_fault: No such file' "$err"
+run simulate number.script no-such.steps
+same 'a bad script without a step file: status' 2 "$status"
+same 'a bad script without a step file: standard output' 'fault: script line 2: bad_number
+' "$out"
+has 'a bad script without a step file: standard error' 'number.script:2: bad_number: ' "$err"
 
 # A file name of every length up to 200 bytes.
 for ((length = 1; length <= 200; length++)); do

@@ -9,6 +9,7 @@ pub mod NumberLemmas
 pub mod Places
 pub mod PrintableLemmas
 pub mod ReadLemmas
+pub mod SimulationLemmas
 pub mod TakerLemmas
 pub mod TextLemmas
 pub mod WordLemmas

@@ -11,6 +11,9 @@ pub mod Private
 pub mod Refusals
 pub mod Report
 pub mod Scripts
+pub mod Simulated
+pub mod Simulations
 pub mod Statements
+pub mod StepFiles
 pub mod Steps
 pub mod Words

@@ -1,7 +1,7 @@
 -- What the words of the command line ask for.
-use Rattle.std.specs.Prelude.{◌≡◌, ℕ, List, codes}
+use Rattle.std.specs.Prelude.{◌≡◌, ◌≤◌, ℕ, List, codes}
 use Rattle.cdc_app.specs.declared.command_line.Options.{Options}
-use Rattle.cdc_app.specs.declared.command_line.Options.TheVariants.{Books, Messages, Explain}
+use Rattle.cdc_app.specs.declared.command_line.Options.TheVariants.{Books, Messages, Simulate, Explain}
 use Rattle.cdc_app.specs.declared.command_line.OptionsFault.{OptionsFault}
 use Rattle.cdc_app.specs.declared.command_line.OptionsFault.TheVariants.{BadWords, OutOfMemory}
 
@@ -9,7 +9,24 @@ use Rattle.cdc_app.specs.declared.command_line.OptionsFault.TheVariants.{BadWord
 abbrev pub IsBooks : List ℕ → Options → Type 0
 IsBooks name (Books file) = file.now ≡ name
 IsBooks name (Messages file) = ⊥
+IsBooks name (Simulate file steps window) = ⊥
 IsBooks name (Explain text) = ⊥
+
+-- for how many events a session may wait at a time, at most: today for one
+abbrev pub max_window : ℕ
+max_window = 1
+
+-- a session may wait for so many events at a time
+pub record IsWindow (window : ℕ) : Type 0 where
+  pub least : 1 ≤ window
+  pub greatest : window ≤ max_window
+
+-- the numbers that are asked for are within their limits
+abbrev pub IsWithinLimits : Options → Type 0
+IsWithinLimits (Books file) = Unit {0}
+IsWithinLimits (Messages file) = Unit {0}
+IsWithinLimits (Simulate file steps window) = IsWindow window
+IsWithinLimits (Explain text) = Unit {0}
 
 -- the place of a fault in the list of them
 abbrev pub options_fault_number : OptionsFault → ℕ

@@ -11,7 +11,7 @@ use Rattle.cdc_ledger.specs.Submit.{submit, history_or, after_batches}
 use Rattle.cdc_app.specs.declared.commands.Report.{Report}
 use Rattle.cdc_app.specs.declared.commands.Report.TheVariants.{Books, Messages}
 use Rattle.cdc_app.specs.declared.endings.Ending.{Ending}
-use Rattle.cdc_app.specs.declared.endings.Ending.TheVariants.{Done, Failed, BadScript, BadWords}
+use Rattle.cdc_app.specs.declared.endings.Ending.TheVariants.{Done, Failed, Refused, BadScript, BadSteps, BadWords}
 use Rattle.cdc_app.specs.declared.faults.ProgramFault.TheVariants as fault
 use Rattle.cdc_app.specs.declared.faults.ScriptFault.{ScriptFault}
 use Rattle.cdc_app.specs.declared.scripts.ClientBatch.{ClientBatch}
@@ -60,7 +60,9 @@ printed Messages script = printed_messages script
 abbrev pub status_of : Ending → ℕ
 status_of Done = 0
 status_of (Failed why) = 1
+status_of (Refused why) = 1
 status_of (BadScript at) = 2
+status_of (BadSteps at) = 2
 status_of BadWords = 2
 
 -- what is printed, and how the command ends
@@ -86,6 +88,9 @@ Writes report script old new (BadScript at) = IfSome script (λ bytes.
 Writes report script old new (Failed (fault.ReadFault why)) = Appends old new (program_fault_line (fault.ReadFault why))
 Writes report script old new (Failed fault.OutOfMemory) = Appends old new (program_fault_line fault.OutOfMemory)
 Writes report script old new (Failed (fault.WriteFault why)) = Unit {0}
+Writes report script old new (Failed (fault.Store why)) = ⊥
+Writes report script old new (Refused why) = ⊥
+Writes report script old new (BadSteps at) = ⊥
 Writes report script old new BadWords = ⊥
 
 -- a write failed

@@ -3,10 +3,14 @@ use Rattle.std.specs.Prelude.{◌≡◌, ℕ, ◌≤◌, List, length, Option, R
 use Rattle.std.specs.Io.KnownBytes.{Consumes}
 use Rattle.cdc_match.specs.declared.errors.BindError.{BindError}
 use Rattle.cdc_match.specs.declared.errors.BindError.TheVariants as bind
+use Rattle.cdc_progress.specs.declared.errors.StoreError.{StoreError}
+use Rattle.cdc_progress.specs.declared.errors.StoreError.TheVariants as store
 use Rattle.cdc_app.specs.declared.faults.FaultKind.{FaultKind}
 use Rattle.cdc_app.specs.declared.faults.FaultKind.TheVariants.{BadBinding}
 use Rattle.cdc_app.specs.declared.faults.LineError.{LineError}
 use Rattle.cdc_app.specs.declared.faults.LineError.TheVariants as line
+use Rattle.cdc_app.specs.declared.faults.ProgramFault.{ProgramFault}
+use Rattle.cdc_app.specs.declared.faults.ProgramFault.TheVariants as program
 use Rattle.cdc_app.specs.declared.faults.ScriptError.{ScriptError}
 use Rattle.cdc_app.specs.declared.faults.ScriptError.TheVariants as error
 use Rattle.cdc_app.specs.declared.faults.ScriptFault.{ScriptFault}
@@ -26,6 +30,13 @@ IsLineFault line.OutOfMemory read = Unit {0}
 abbrev pub line_error : BindError → LineError
 line_error bind.OutOfMemory = line.OutOfMemory
 line_error _ = line.Fault BadBinding
+
+-- what the store answers, as the fault of the program
+abbrev pub store_fault : StoreError → ProgramFault
+store_fault store.ReadFault = program.Store store.ReadFault
+store_fault store.WriteFault = program.Store store.WriteFault
+store_fault store.BadRecord = program.Store store.BadRecord
+store_fault store.OutOfMemory = program.OutOfMemory
 
 -- known bytes lose at most so many at their front
 abbrev pub ConsumesAtMost : ℕ → Option (List ℕ) → Option (List ℕ) → Type 0

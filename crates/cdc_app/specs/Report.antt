@@ -31,8 +31,14 @@ abbrev pub script_fault_line : ScriptFault → List ℕ
 script_fault_line at = codes "fault: script line"
     ++ (spaced at.line ++ (codes ": " ++ (kind_name at.kind ++ codes "\n")))
 
+-- the line of a bad step file
+abbrev pub steps_fault_line : ScriptFault → List ℕ
+steps_fault_line at = codes "fault: steps line"
+    ++ (spaced at.line ++ (codes ": " ++ (kind_name at.kind ++ codes "\n")))
+
 -- the line of a command that gave up
 abbrev pub program_fault_line : ProgramFault → List ℕ
 program_fault_line (fault.ReadFault why) = codes "fault: read_fault\n"
 program_fault_line (fault.WriteFault why) = codes "fault: write_fault\n"
+program_fault_line (fault.Store why) = codes "fault: store\n"
 program_fault_line fault.OutOfMemory = codes "fault: out_of_memory\n"

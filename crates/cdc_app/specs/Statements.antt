@@ -1,5 +1,5 @@
 -- What one line of a script says, after the lines above it.
-use Rattle.std.specs.Prelude.{ℕ, ◌+◌, ◌==◌, ◌||◌, nat_le, nat_lt, List, [], ◌∷◌, Option, Some, None, Result, Ok, Err, codes, unwrap_or, slice_index, if◌then◌else◌}
+use Rattle.std.specs.Prelude.{ℕ, ◌+◌, ◌==◌, ◌||◌, nat_le, nat_lt, List, [], ◌∷◌, Option, Some, None, Result, Ok, Err, codes, unwrap_or, if◌then◌else◌}
 use Rattle.std.specs.List.{list_all, take_while}
 use Rattle.std.specs.Str.{bytes_eq}
 use Rattle.cdc_types.specs.Lines.{first_line}
@@ -15,7 +15,7 @@ use Rattle.cdc_app.specs.declared.statements.Statement.TheVariants as says
 use Rattle.cdc_app.specs.Fields.{fields_of, account_of, transfer_of}
 use Rattle.cdc_app.specs.Numbers.{number_of}
 use Rattle.cdc_app.specs.Steps.{◌>>=◌}
-use Rattle.cdc_app.specs.Words.{words, is_printable}
+use Rattle.cdc_app.specs.Words.{is_printable, spoken}
 
 -- how many subscriber lines a script may have
 abbrev pub max_subscribers : ℕ
@@ -67,9 +67,9 @@ client_line rest = do
   if (number.0 == 0) || nat_lt max_client number.0 then Err BadClient
       else (ended WrongCount number.0 number.1 >>= λ n. Ok (says.Client n))
 
--- a moment alone
-abbrev pub moment_line : List (List ℕ) → Result ℕ FaultKind
-moment_line rest = do
+-- a number of 64 bits alone
+abbrev pub lone_number : List (List ℕ) → Result ℕ FaultKind
+lone_number rest = do
   number ← number_word rest
   ended WrongCount number.0 number.1
 
@@ -89,9 +89,9 @@ abbrev pub meaning : Context → List ℕ → List (List ℕ) → Result Stateme
 meaning context first rest = checked first (unwrap_or (first_line (
     (bytes_eq first (codes "subscriber"), subscriber_line context.subscribers rest) ∷
     (bytes_eq first (codes "client"), client_line rest) ∷
-    (bytes_eq first (codes "accounts"), (moment_line rest >>= λ now. Ok (says.Accounts now))) ∷
-    (bytes_eq first (codes "transfers"), (moment_line rest >>= λ now. Ok (says.Transfers now))) ∷
-    (bytes_eq first (codes "pulse"), (moment_line rest >>= λ now. Ok (says.Pulse now))) ∷
+    (bytes_eq first (codes "accounts"), (lone_number rest >>= λ now. Ok (says.Accounts now))) ∷
+    (bytes_eq first (codes "transfers"), (lone_number rest >>= λ now. Ok (says.Transfers now))) ∷
+    (bytes_eq first (codes "pulse"), (lone_number rest >>= λ now. Ok (says.Pulse now))) ∷
     (bytes_eq first (codes "account"), account_line context.open_batch rest) ∷
     (bytes_eq first (codes "transfer"), transfer_line context.open_batch rest) ∷
     [])) (Err UnknownWord))
@@ -101,9 +101,9 @@ abbrev pub words_say : Context → List (List ℕ) → Result (Option Statement)
 words_say context [] = Ok None
 words_say context (first ∷ rest) = meaning context first rest >>= λ said. Ok (Some said)
 
--- what a line says: nothing where it is blank, or begins with a number sign
+-- what a line says: nothing where it is blank or a comment
 abbrev pub line_says : Context → List ℕ → Result (Option Statement) FaultKind
-line_says context line = if slice_index line 0 == 35 then Ok None else words_say context (words line)
+line_says context line = words_say context (spoken line)
 
 -- what a statement leaves for the lines below it: a batch is open after the line that begins it and after its items
 abbrev pub after : Context → Statement → Context

@@ -11,6 +11,18 @@ pub fn advise(rt: &HostRuntime, file: &str, ending: Ending) {
     let _ = advice(rt, shown_name(file), ending);
 }
 
+/// The same of a command over a script and a step file.
+pub fn advise_on_steps(rt: &HostRuntime, file: &str, steps: &str, ending: Ending) {
+    match ending {
+        Ending::BadSteps(_) => advise(rt, steps, ending),
+        Ending::Failed(ProgramFault::ReadFault(error)) => {
+            let script = shown_name(file);
+            let _ = eprintln!(rt; "{script} or {steps}: read_fault: {error}");
+        }
+        _ => advise(rt, file, ending),
+    }
+}
+
 /// A file as it is named to a person.
 fn shown_name(file: &str) -> &str {
     if file == STANDARD_INPUT {
@@ -24,12 +36,21 @@ fn shown_name(file: &str) -> &str {
 fn advice(rt: &HostRuntime, place: &str, ending: Ending) -> io::Result<()> {
     match ending {
         Ending::Done | Ending::BadWords => Ok(()),
-        Ending::BadScript(fault) => advice_on_script(rt, place, fault),
+        Ending::BadScript(fault) => advice_on_file(rt, place, fault, expected(fault.kind)),
+        Ending::BadSteps(fault) => advice_on_file(rt, place, fault, expected_step(fault.kind)),
+        Ending::Refused(refusal) => {
+            let name = refusal.name();
+            eprintln!(rt; "relayplum: a step was refused: {name}")
+        }
         Ending::Failed(ProgramFault::ReadFault(error)) => eprintln!(rt;
             "{place}: read_fault: {error}"
         ),
         Ending::Failed(ProgramFault::WriteFault(error)) => {
             eprintln!(rt; "standard output: write_fault: {error}")
+        }
+        Ending::Failed(ProgramFault::Store(error)) => {
+            let name = error.name();
+            eprintln!(rt; "relayplum: store: {name}")
         }
         Ending::Failed(ProgramFault::OutOfMemory) => {
             eprintln!(rt; "relayplum: out_of_memory: no memory was left")
@@ -37,11 +58,15 @@ fn advice(rt: &HostRuntime, place: &str, ending: Ending) -> io::Result<()> {
     }
 }
 
-/// The place and the name of a script's fault, and what was expected there.
-fn advice_on_script(rt: &HostRuntime, place: &str, fault: ScriptFault) -> io::Result<()> {
+/// The place and the name of a file's fault, and what was expected there.
+fn advice_on_file(
+    rt: &HostRuntime,
+    place: &str,
+    fault: ScriptFault,
+    expected: &str,
+) -> io::Result<()> {
     let ScriptFault { line, kind } = fault;
     let name = kind.name();
-    let expected = expected(kind);
     if line == 0 {
         eprintln!(rt; "{place}: {name}: {expected}")
     } else {
@@ -79,5 +104,20 @@ fn expected(kind: FaultKind) -> &'static str {
         FaultKind::BadClient => "a client's number is 1 or 2",
         FaultKind::NoSubscriber => "a script has a line subscriber BINDING, as subscriber all",
         FaultKind::TooLong => "a script has 1048576 bytes at most",
+    }
+}
+
+/// What a step file has to have where it has this fault. It has the faults of words and numbers alone.
+fn expected_step(kind: FaultKind) -> &'static str {
+    match kind {
+        FaultKind::UnknownWord => {
+            "a line begins with batch, close_ledger, start, poll, publish, arrive, answer, save, send or take"
+        }
+        FaultKind::WrongCount => {
+            "arrive, answer, send and take have one number, batch, close_ledger, start, poll, publish and save have none"
+        }
+        FaultKind::NumberOutOfRange => "a number has 64 bits at most",
+        FaultKind::TooLong => "a step file has 1048576 bytes at most",
+        _ => expected(kind),
     }
 }

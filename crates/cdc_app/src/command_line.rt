@@ -10,11 +10,24 @@ use thiserror::Error;
 #[derive(Debug, Drop)]
 pub enum Options<'a> {
     /// The results of a script's batches and the book of a subscriber, of the script in this file; `-` is standard input.
-    Books { file: &'a str },
+    Books {
+        file: &'a str,
+    },
     /// The messages of a script's events, of the script in this file; `-` is standard input.
-    Messages { file: &'a str },
+    Messages {
+        file: &'a str,
+    },
+    /// The world that the steps of the second file lead to, over the batches of the script in the first; `-` as the
+    /// script is standard input. A session waits for so many events at a time.
+    Simulate {
+        file: &'a str,
+        steps: &'a str,
+        window: usize,
+    },
     /// A text on the program itself: help, or its version.
-    Explain { text: String },
+    Explain {
+        text: String,
+    },
 }
 
 /// Why words ask for nothing.

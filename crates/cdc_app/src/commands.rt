@@ -1,14 +1,15 @@
 //! The commands that read a script: `books` and `messages`. A script is read and judged, its batches are run, and the
 //! report that was asked for is printed at once.
 
-ghost use Rattle.std.specs.Prelude.{◌≡◌, ◌⊎◌, ◌+◌, IfOk, IfSome, OnOk};
+ghost use Rattle.std.specs.Prelude.{◌≡◌, ◌⊎◌, ◌+◌, IfErr, IfOk, IfSome, OnOk};
 ghost use Rattle.std.specs.Io.KnownBytes.{Appends};
 ghost use Rattle.cdc_app.specs.declared.scripts.Script.{Script as Said};
 ghost use Rattle.cdc_app.specs.Held.{HasWholeFeed, HoldsBalances};
 ghost use Rattle.cdc_match.specs.Arguments.{Arguments};
-ghost use Rattle.cdc_app.specs.Report.{program_fault_line};
+ghost use Rattle.cdc_app.specs.declared.faults.ScriptFault.{ScriptFault as Fault};
+ghost use Rattle.cdc_app.specs.Report.{program_fault_line, script_fault_line};
 ghost use Rattle.cdc_app.specs.Printed.{history_of, printed as printed_text, outcome_of, IsPrinted, Writes};
-ghost use Rattle.cdc_app.specs.Private.Outcomes.{IsNoFailure};
+ghost use Rattle.cdc_app.specs.Private.Outcomes.{IsNoFailure, IsOfScript};
 ghost use Rattle.cdc_app.specs.Refusals.{ConsumesAtMost};
 ghost use Rattle.cdc_app.specs.Scripts.{max_bytes};
 
@@ -108,6 +109,7 @@ fn run<R: Read>(alloc: Global, report: Report, reader: &mut R) -> Result<Output,
     ensures output { IfSome (R.remaining reader.old) (λ bytes. IfOk result (λ output.
         (output.text.items ≡ (outcome_of report bytes).text) × (output.ending ≡ (outcome_of report bytes).ending))) }
     ensures ending { IfOk result (λ output. IsNoFailure output.ending) }
+    ensures fault { IfErr result IsOfScript }
     ensures bounded { ConsumesAtMost (max_bytes + 1) (R.remaining reader.old) (R.remaining reader.new) }
 {
     match read_script(alloc, reader) {
@@ -118,7 +120,18 @@ fn run<R: Read>(alloc: Global, report: Report, reader: &mut R) -> Result<Output,
                 ending: Ending::Done,
             })
         }
-        Err(ScriptError::Fault(fault)) => {
+        Err(error) => bad_script(alloc, error),
+    }
+}
+
+/// What a command prints where no script was read.
+pub fn bad_script(alloc: Global, error: ScriptError) -> Result<Output, ProgramFault>
+    ensures output { IfOk result (λ output. (at : Fault) × ((error ≡ ScriptError.Fault at)
+        × ((output.ending ≡ Ending.BadScript at) × (output.text.items ≡ script_fault_line at)))) }
+    ensures fault { IfErr result IsOfScript }
+{
+    match error {
+        ScriptError::Fault(fault) => {
             let mut text = String::new(alloc);
             push_script_fault(&mut text, fault)?;
             Ok(Output {
@@ -126,8 +139,8 @@ fn run<R: Read>(alloc: Global, report: Report, reader: &mut R) -> Result<Output,
                 ending: Ending::BadScript(fault),
             })
         }
-        Err(ScriptError::ReadFault(error)) => Err(ProgramFault::ReadFault(error)),
-        Err(ScriptError::OutOfMemory) => Err(ProgramFault::OutOfMemory),
+        ScriptError::ReadFault(error) => Err(ProgramFault::ReadFault(error)),
+        ScriptError::OutOfMemory => Err(ProgramFault::OutOfMemory),
     }
 }
 

@@ -4,6 +4,7 @@ ghost use Rattle.std.specs.Prelude.{◌≡◌};
 ghost use Rattle.cdc_app.specs.Printed.{status_of};
 
 use crate::faults::{ProgramFault, ScriptFault};
+use cdc_world::StepError;
 
 /// How a command ended.
 #[derive(Clone, Copy, Debug)]
@@ -12,8 +13,12 @@ pub enum Ending {
     Done,
     /// It gave up.
     Failed(ProgramFault),
+    /// A step of a simulation was refused.
+    Refused(StepError),
     /// The script is bad.
     BadScript(ScriptFault),
+    /// The step file is bad.
+    BadSteps(ScriptFault),
     /// The words of the command line ask for nothing that there is.
     BadWords,
 }
@@ -25,8 +30,8 @@ impl Ending {
     {
         match self {
             Ending::Done => 0,
-            Ending::Failed(_) => 1,
-            Ending::BadScript(_) | Ending::BadWords => 2,
+            Ending::Failed(_) | Ending::Refused(_) => 1,
+            Ending::BadScript(_) | Ending::BadSteps(_) | Ending::BadWords => 2,
         }
     }
 }

@@ -1,15 +1,16 @@
-//! What can be wrong with a script, and with a run of the program.
+//! What can be wrong with a script or a step file, and with a run of the program.
 
 ghost use Rattle.std.specs.Prelude.{◌≡◌};
 ghost use Rattle.cdc_app.specs.Faults.{kind_number, kind_name};
 ghost use Rattle.cdc_app.specs.Report.{program_fault_line};
 
 use cdc_match::BindError;
+use cdc_progress::StoreError;
 use std::alloc::AllocError;
 use std::io;
 use thiserror::Error;
 
-/// What is wrong at a place of a script.
+/// What is wrong at a place of a script or a step file.
 #[derive(Clone, Copy, Debug, PartialEq, Eq)]
 pub enum FaultKind {
     /// A byte that is neither a printable ASCII character nor a line's end.
@@ -36,7 +37,7 @@ pub enum FaultKind {
     BadClient,
     /// The script has no subscriber.
     NoSubscriber,
-    /// The script has too many bytes.
+    /// The file has too many bytes.
     TooLong,
 }
 
@@ -112,7 +113,7 @@ impl From<BindError> for LineError {
     }
 }
 
-/// What is wrong with a script, and in which line, from 1; 0 for the script as a whole.
+/// What is wrong with a script or a step file, and in which line, from 1; 0 for the file as a whole.
 #[derive(Clone, Copy, Debug, PartialEq, Eq)]
 pub struct ScriptFault {
     /// The line.
@@ -121,10 +122,10 @@ pub struct ScriptFault {
     pub kind: FaultKind,
 }
 
-/// Why no script was read.
+/// Why no script or no step file was read.
 #[derive(Debug, Drop, Error)]
 pub enum ScriptError {
-    /// The script is bad.
+    /// The file is bad.
     #[error("line {}: {}", .0.line, .0.kind.name())]
     Fault(ScriptFault),
     /// A read failed.
@@ -154,6 +155,9 @@ pub enum ProgramFault {
     /// A write failed. Nothing is written after it.
     #[error("write_fault: {0}")]
     WriteFault(io::Error),
+    /// The store of progress failed.
+    #[error("store: {}", .0.name())]
+    Store(StoreError),
     /// No memory was left.
     #[error("out_of_memory")]
     OutOfMemory,
@@ -167,7 +171,21 @@ impl ProgramFault {
         match self {
             ProgramFault::ReadFault(_) => "fault: read_fault\n",
             ProgramFault::WriteFault(_) => "fault: write_fault\n",
+            ProgramFault::Store(_) => "fault: store\n",
             ProgramFault::OutOfMemory => "fault: out_of_memory\n",
+        }
+    }
+}
+
+impl From<StoreError> for ProgramFault {
+    ghost use Rattle.cdc_app.specs.Refusals.{store_fault};
+
+    ghost from_gives = { λ why e. e ≡ store_fault why };
+
+    fn from(error: StoreError) -> ProgramFault {
+        match error {
+            StoreError::OutOfMemory => ProgramFault::OutOfMemory,
+            _ => ProgramFault::Store(error),
         }
     }
 }

@@ -102,7 +102,7 @@ fn want_of_memory(_error: TakeError) -> AllocError {
 }
 
 /// Adds the lines of a subscriber.
-fn print_subscriber(
+pub fn print_subscriber(
     text: &mut Vec<u8>,
     subscriber: &Subscriber,
     number: u64,

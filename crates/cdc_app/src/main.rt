@@ -1,6 +1,8 @@
 //! The program: a script in, and a report of its ledger, its messages or a subscriber's book out.
 #![tactic(auto)]
 
+ghost use Rattle.cdc_app.specs.Options.{IsWindow};
+
 mod advice;
 mod batches;
 mod books;
@@ -11,21 +13,32 @@ mod endings;
 mod faults;
 mod feeding;
 mod fields;
+mod late_files;
 mod messages;
 mod numbers;
+mod operands;
 mod options;
+mod reading;
 mod report;
 mod scripts;
+mod simulate;
+mod simulation_report;
+#[cfg(test)]
+mod simulation_tests;
+mod simulations;
 mod statements;
+mod step_files;
 #[cfg(test)]
 mod tests;
 mod words;
 
-use advice::advise;
+use advice::{advise, advise_on_steps};
 use commands::{Report, books, messages, print_fault, print_text};
 use endings::Ending;
 use faults::ProgramFault;
+use late_files::LateFile;
 use options::{Options, OptionsFault, STANDARD_INPUT, options};
+use simulate::simulate_command;
 use std::alloc::AllocError;
 use std::fs::File;
 use std::io::Read;
@@ -61,6 +74,13 @@ fn run_words(rt: &HostRuntime, words: &[String]) -> Ending {
     match options(rt.alloc(), texts.as_slice()) {
         Ok(Options::Books { file }) => run_file(rt, Report::Books, file),
         Ok(Options::Messages { file }) => run_file(rt, Report::Messages, file),
+        Ok(
+            Options::Simulate {
+                file,
+                steps,
+                window,
+            },
+        ) => simulate_files(rt, file, steps, window),
         Ok(Options::Explain { text }) => explain(rt, text.as_str()),
         Err(OptionsFault::BadWords { message }) => refuse_words(rt, message.as_str()),
         Err(OptionsFault::OutOfMemory) => give_up(rt, ProgramFault::OutOfMemory),
@@ -88,6 +108,31 @@ fn run_reader<R: Read>(rt: &HostRuntime, report: Report, reader: &mut R) -> Endi
         Report::Books => books(rt.alloc(), reader, &mut writer),
         Report::Messages => messages(rt.alloc(), reader, &mut writer),
     }
+}
+
+/// Runs a simulation over two files, the first of which may be standard input, and says on standard error why it gave up.
+fn simulate_files(rt: &HostRuntime, file: &str, steps: &str, window: usize) -> Ending
+    requires { IsWindow window }
+{
+    let ending = if file == STANDARD_INPUT {
+        simulate_reader(rt, &mut rt.reader(), steps, window)
+    } else {
+        match File::open(rt, file) {
+            Ok(mut script) => simulate_reader(rt, &mut script, steps, window),
+            Err(error) => print_fault(&mut io::writer(rt), ProgramFault::ReadFault(error)),
+        }
+    };
+    advise_on_steps(rt, file, steps, ending);
+    ending
+}
+
+/// Runs a simulation over the bytes of a script and a step file, which is opened at once, but not missed before it is
+/// read.
+fn simulate_reader<R: Read>(rt: &HostRuntime, script: &mut R, steps: &str, window: usize) -> Ending
+    requires { IsWindow window }
+{
+    let mut steps = LateFile::open(rt, steps);
+    simulate_command(rt.alloc(), script, &mut steps, window, &mut io::writer(rt))
 }
 
 /// Prints what was asked about the program itself.

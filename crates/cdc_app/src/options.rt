@@ -1,15 +1,19 @@
 //! The words of the command line.
 
-ghost use Rattle.std.specs.Prelude.{◌≡◌, length, codes, IsOkAnd};
-ghost use Rattle.cdc_app.specs.Options.{IsBooks};
+ghost use Rattle.std.specs.Prelude.{◌≡◌, length, codes, IfOk, IfSome, IsOkAnd};
+ghost use Rattle.cdc_app.specs.Options.{IsBooks, IsWindow, IsWithinLimits, max_window};
 
 pub use crate::command_line::{Options, OptionsFault};
+use crate::numbers::read_number;
 use clap::error::ErrorKind;
 use clap::{Arg, ArgAction, ArgMatches, Command, Error};
-use std::alloc::Global;
+use std::alloc::{AllocError, Global};
 
 /// The name of standard input as a file.
 pub const STANDARD_INPUT: &str = "-";
+
+/// For how many events a session may wait at a time, at most.
+pub const MAX_WINDOW: usize = 1;
 
 /// What the program is for.
 const ABOUT: &str =
@@ -29,18 +33,24 @@ A script is a text of lines:
 A subscriber's binding is all or any, and up to ten pairs of a header and its value, as in
   subscriber any event_type=two_phase_posted ledger=700
 
+STEPS is a file with one step of a simulation in each line: batch, close_ledger, start, poll, publish,
+arrive K, answer K, save, send I or take I. The Kth packet or confirm ever sent arrives, and I is a subscriber.
+
 Examples:
   relayplum books examples/two-phase.script
   relayplum messages examples/first-transfer.script
+  relayplum simulate examples/two-phase.script examples/two-phase.steps
 
 Exit status:
   0  all was done
-  1  a read, a write or memory failed: the last line of standard output names the fault
-  2  the words or the script are bad: standard error says what was expected, and where";
+  1  a read, a write or memory failed: the last line of standard output names the fault;
+     or a step of a simulation was refused
+  2  the words, the script or the steps are bad: standard error says what was expected, and where";
 
 /// What the words of the program ask for, its own name not being one. Without words it is `books -`.
 pub fn options<'a>(alloc: Global, words: &'a [&'a str]) -> Result<Options<'a>, OptionsFault>
     ensures none { length words.entry.now ≡ 0 → IsOkAnd result (IsBooks (codes "-")) }
+    ensures limits { IfOk result IsWithinLimits }
 {
     if words.is_empty() {
         return Ok(Options::Books {
@@ -55,16 +65,6 @@ pub fn options<'a>(alloc: Global, words: &'a [&'a str]) -> Result<Options<'a>, O
 
 /// What clap makes of the words.
 fn read_words<'a>(alloc: Global, words: &'a [&'a str]) -> Result<ArgMatches<'a>, Error> {
-    let books = Command::new(alloc, "books")
-        .about("Print the results of a script's batches and the books of its subscribers")
-        .after_help(MORE)
-        .arg(script_argument(alloc))?;
-    let messages = Command::new(alloc, "messages")
-        .about(
-            "Print two lines for each event of a script: what its message is routed by, and its JSON body",
-        )
-        .after_help(MORE)
-        .arg(script_argument(alloc))?;
     let program = Command::new(alloc, "relayplum")
         .no_binary_name(true)
         .bin_name("relayplum")?
@@ -72,9 +72,49 @@ fn read_words<'a>(alloc: Global, words: &'a [&'a str]) -> Result<ArgMatches<'a>,
         .about(ABOUT)
         .after_help(MORE)
         .subcommand_required(true)
-        .subcommand(books)?
-        .subcommand(messages)?;
+        .subcommand(books_command(alloc)?)?
+        .subcommand(messages_command(alloc)?)?
+        .subcommand(simulate_command(alloc)?)?;
     program.try_get_matches_from(words)
+}
+
+/// The command `books`.
+fn books_command<'a>(alloc: Global) -> Result<Command<'a>, AllocError> {
+    Command::new(alloc, "books")
+        .about("Print the results of a script's batches and the books of its subscribers")
+        .after_help(MORE)
+        .arg(script_argument(alloc))
+}
+
+/// The command `messages`.
+fn messages_command<'a>(alloc: Global) -> Result<Command<'a>, AllocError> {
+    Command::new(alloc, "messages")
+        .about(
+            "Print two lines for each event of a script: what its message is routed by, and its JSON body",
+        )
+        .after_help(MORE)
+        .arg(script_argument(alloc))
+}
+
+/// The command `simulate`.
+fn simulate_command<'a>(alloc: Global) -> Result<Command<'a>, AllocError> {
+    let steps = Arg::new(alloc, "STEPS")
+        .required(true)
+        .action(ArgAction::Set)
+        .help("The file of the steps");
+    let window = Arg::new(alloc, "window")
+        .long("window")
+        .value_name("N")
+        .action(ArgAction::Set)
+        .help("For how many events a session waits at a time: 1");
+    Command::new(alloc, "simulate")
+        .about(
+            "Take a script's batches and a session's packets step by step, and print the world that the steps lead to",
+        )
+        .after_help(MORE)
+        .arg(script_argument(alloc))?
+        .arg(steps)?
+        .arg(window)
 }
 
 /// The file of a script.
@@ -85,21 +125,70 @@ fn script_argument<'a>(alloc: Global) -> Arg<'a> {
         .help("The script; - is standard input")
 }
 
-/// The command that the words name, with its file.
-fn asked_by<'a>(alloc: Global, matches: &ArgMatches<'a>) -> Result<Options<'a>, OptionsFault> {
+/// The command that the words name, with its files and its numbers.
+fn asked_by<'a>(alloc: Global, matches: &ArgMatches<'a>) -> Result<Options<'a>, OptionsFault>
+    ensures { IfOk result IsWithinLimits }
+{
     if let Some((command, arguments)) = matches.subcommand() {
         match (command, arguments.get_str("FILE")) {
             ("books", Some(file)) => return Ok(Options::Books { file }),
             ("messages", Some(file)) => return Ok(Options::Messages { file }),
+            ("simulate", Some(file)) => {
+                if let Some(steps) = arguments.get_str("STEPS") {
+                    return simulation(alloc, file, steps, arguments.get_str("window"));
+                }
+            }
             _ => {}
         }
     }
-    let message = String::from_str(alloc, "error: no command has such words\n")?;
-    Err(OptionsFault::BadWords { message })
+    Err(bad_words(alloc, "error: no command has such words\n")?)
+}
+
+/// A simulation of these files, with the window that a word says, or that of one event.
+fn simulation<'a>(
+    alloc: Global,
+    file: &'a str,
+    steps: &'a str,
+    window: Option<&str>,
+) -> Result<Options<'a>, OptionsFault>
+    ensures { IfOk result IsWithinLimits }
+{
+    match read_window(window) {
+        Some(window) => Ok(Options::Simulate {
+            file,
+            steps,
+            window,
+        }),
+        None => Err(bad_words(
+            alloc,
+            "error: a window is 1\n\nFor more information, try '--help'.\n",
+        )?),
+    }
+}
+
+/// The window that a word says; where there is none, that of one event.
+fn read_window(word: Option<&str>) -> Option<usize>
+    ensures { IfSome result IsWindow }
+{
+    let Some(word) = word else {
+        return Some(1);
+    };
+    match read_number(word.as_bytes(), u128::from(u64::MAX)) {
+        Ok(number) if 1 <= number && number <= MAX_WINDOW as u128 => Some(number as usize),
+        _ => None,
+    }
+}
+
+/// The fault of words that ask for nothing.
+fn bad_words(alloc: Global, message: &str) -> Result<OptionsFault, AllocError> {
+    let message = String::from_str(alloc, message)?;
+    Ok(OptionsFault::BadWords { message })
 }
 
 /// What clap answers where it finds no command: help or the version, where the words ask for it, or what is wrong.
-fn answer_to<'a>(alloc: Global, error: &Error) -> Result<Options<'a>, OptionsFault> {
+fn answer_to<'a>(alloc: Global, error: &Error) -> Result<Options<'a>, OptionsFault>
+    ensures { IfOk result IsWithinLimits }
+{
     if error.kind() == ErrorKind::OutOfMemory {
         return Err(OptionsFault::OutOfMemory);
     }

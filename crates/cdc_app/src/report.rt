@@ -3,7 +3,8 @@
 ghost use Rattle.std.specs.Prelude.{◌≡◌, ◌++◌, codes, Err, OnOk, string_bytes};
 ghost use Rattle.std.specs.List.{flat_map};
 ghost use Rattle.cdc_types.specs.Results.{account_number, transfer_number};
-ghost use Rattle.cdc_app.specs.Report.{spaced, answer_text, batch_line, script_fault_line};
+ghost use Rattle.cdc_app.specs.Faults.{kind_name};
+ghost use Rattle.cdc_app.specs.Report.{spaced, answer_text, batch_line, script_fault_line, steps_fault_line};
 
 use crate::faults::ScriptFault;
 use cdc_ledger::BatchError;
@@ -20,7 +21,7 @@ pub fn push_number<I: Integer>(text: &mut String, number: I) -> Result<(), Alloc
 }
 
 /// Writes a space and a number.
-fn push_spaced<I: Integer>(text: &mut String, number: I) -> Result<(), AllocError>
+pub fn push_spaced<I: Integer>(text: &mut String, number: I) -> Result<(), AllocError>
     ensures { OnOk result (string_bytes text.new ≡ string_bytes text.old ++ (codes " " ++ I.text number)) }
 {
     text.push_str(" ")?;
@@ -97,7 +98,22 @@ fn push_refusal(text: &mut String, refusal: BatchError) -> Result<(), AllocError
 pub fn push_script_fault(text: &mut String, fault: ScriptFault) -> Result<(), AllocError>
     ensures { OnOk result (string_bytes text.new ≡ string_bytes text.old ++ script_fault_line fault) }
 {
-    text.push_str("fault: script line")?;
+    push_fault(text, "fault: script line", fault)
+}
+
+/// The line of a fault of a step file.
+pub fn push_steps_fault(text: &mut String, fault: ScriptFault) -> Result<(), AllocError>
+    ensures { OnOk result (string_bytes text.new ≡ string_bytes text.old ++ steps_fault_line fault) }
+{
+    push_fault(text, "fault: steps line", fault)
+}
+
+/// The line of a fault of a file, with the words that stand before the number of its line.
+fn push_fault(text: &mut String, words: &str, fault: ScriptFault) -> Result<(), AllocError>
+    ensures { OnOk result (string_bytes text.new ≡ string_bytes text.old
+        ++ (words.now ++ (spaced fault.line ++ (codes ": " ++ (kind_name fault.kind ++ codes "\n"))))) }
+{
+    text.push_str(words)?;
     push_spaced(text, fault.line)?;
     text.push_str(": ")?;
     push_line_end(text, fault.kind.name())?;
@@ -105,7 +121,7 @@ pub fn push_script_fault(text: &mut String, fault: ScriptFault) -> Result<(), Al
 }
 
 /// The last word of a line.
-fn push_line_end(text: &mut String, word: &str) -> Result<(), AllocError>
+pub fn push_line_end(text: &mut String, word: &str) -> Result<(), AllocError>
     ensures { OnOk result (string_bytes text.new ≡ string_bytes text.old ++ (word.now ++ codes "\n")) }
 {
     text.push_str(word)?;

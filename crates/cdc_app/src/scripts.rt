@@ -1,15 +1,14 @@
 //! Scripts: the batches that clients hand in.
 
-ghost use Rattle.std.specs.Prelude.{◌≡◌, ◌+◌, ◌≤◌, [], length, Ok, IfErr, IfOk, IfSome, MatchResult};
-ghost use Rattle.std.specs.Io.KnownBytes.{Consumes, IsAtEnd};
+ghost use Rattle.std.specs.Prelude.{◌≡◌, ◌+◌, ◌≤◌, [], length, Ok, IfSome, MatchResult};
 ghost use Rattle.std.specs.Str.Lines.{lines};
 ghost use Rattle.cdc_app.specs.Private.Drafts.{script_from};
-ghost use Rattle.cdc_app.specs.Private.Outcomes.{IsNoFault};
 ghost use Rattle.cdc_app.specs.Refusals.{IsFault, ConsumesAtMost};
 ghost use Rattle.cdc_app.specs.Scripts.{max_bytes, script_of_lines, script_of};
 
 use crate::drafts::Draft;
-use crate::faults::{FaultKind, LineError, ScriptError, ScriptFault};
+use crate::faults::{FaultKind, LineError, ScriptError};
+use crate::reading::{fault_at, read_text};
 use crate::statements::read_statement;
 use crate::words::next_line;
 use cdc_match::Binding;
@@ -35,32 +34,6 @@ pub struct Script {
     pub batches: Items<ClientBatch>,
 }
 
-/// How many bytes are asked for at once.
-const PIECE: usize = 8192;
-
-/// Reads the bytes of a script, one more than it may have at most. No read follows one that failed.
-fn read_text<R: Read>(alloc: Global, reader: &mut R) -> Result<Vec<u8>, ScriptError>
-    ensures bounded { ConsumesAtMost (max_bytes + 1) (R.remaining reader.old) (R.remaining reader.new) }
-    ensures text { IfOk result (λ text. Consumes (R.remaining reader.old) (R.remaining reader.new) text.items) }
-    ensures whole { IfOk result (λ text. length text.items ≤ max_bytes → IsAtEnd (R.remaining reader.new)) }
-    ensures refused { IfErr result IsNoFault }
-{
-    let mut text = Vec::new(alloc);
-    let mut piece = [0u8; PIECE];
-    while text.len() <= Limits::SCRIPT_BYTES {
-        let room = (Limits::SCRIPT_BYTES + 1 - text.len()).min(PIECE);
-        let count = match reader.read(&mut piece[..room]) {
-            Ok(count) => count,
-            Err(error) => return Err(ScriptError::ReadFault(error)),
-        };
-        if count == 0 {
-            return Ok(text);
-        }
-        text.extend_from_slice(&piece[..count])?;
-    }
-    Ok(text)
-}
-
 /// What the lines of a text say.
 fn read_lines(alloc: Global, text: &[u8]) -> Result<Draft, ScriptError>
     requires { length text.now ≤ max_bytes }
@@ -76,7 +49,7 @@ fn read_lines(alloc: Global, text: &[u8]) -> Result<Draft, ScriptError>
         match read_statement(alloc, line, draft.context()) {
             Ok(None) => {}
             Ok(Some(statement)) => draft.add(alloc, statement)?,
-            Err(LineError::Fault(kind)) => return Err(script_error(line_number, kind)),
+            Err(LineError::Fault(kind)) => return Err(fault_at(line_number, kind)),
             Err(LineError::OutOfMemory) => return Err(ScriptError::OutOfMemory),
         }
         rest = after;
@@ -89,20 +62,13 @@ fn parse(alloc: Global, text: &[u8]) -> Result<Script, ScriptError>
     ensures { MatchResult result (λ script. script_of text.now ≡ Ok script) (λ error. IsFault error (script_of text.now)) }
 {
     if text.len() > Limits::SCRIPT_BYTES {
-        return Err(script_error(0, FaultKind::TooLong));
+        return Err(fault_at(0, FaultKind::TooLong));
     }
     let draft = read_lines(alloc, text)?;
     if draft.bindings.is_empty() {
-        return Err(script_error(0, FaultKind::NoSubscriber));
+        return Err(fault_at(0, FaultKind::NoSubscriber));
     }
     Ok(draft.finish()?)
-}
-
-/// A fault of a script as an error.
-fn script_error(line: u64, kind: FaultKind) -> ScriptError
-    ensures { result ≡ ScriptError.Fault (record { line = line; kind = kind }) }
-{
-    ScriptError::Fault(ScriptFault { line, kind })
 }
 
 /// Reads a script. It asks for at most one byte more than a script may have, and for no more after a read that failed.

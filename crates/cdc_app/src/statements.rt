@@ -5,14 +5,14 @@ ghost use Rattle.std.specs.List.{list_all, take_while};
 ghost use Rattle.std.specs.Str.{bytes_eq};
 ghost use Rattle.cdc_match.specs.Parsing.{arguments_of};
 ghost use Rattle.cdc_app.specs.Refusals.{IsLineFault};
-ghost use Rattle.cdc_app.specs.Statements.{ended, number_word, binding_line, readable, subscriber_line, client_line, moment_line, account_line, transfer_line, meaning, line_says};
+ghost use Rattle.cdc_app.specs.Statements.{binding_line, readable, subscriber_line, client_line, account_line, transfer_line, meaning, line_says};
 ghost use Rattle.cdc_app.specs.Private.Suited.{IsSuited, IsNoItem, HasBatch};
 ghost use Rattle.cdc_app.specs.Words.{words as words_of, is_printable};
 
 use crate::faults::{FaultKind, LineError};
 use crate::fields::{ItemKind, read_fields};
-use crate::numbers::read_number;
-use crate::words::{is_printable_word, next_word};
+use crate::operands::{at_end, read_lone_number, read_word_number};
+use crate::words::{first_word, is_printable_word, next_word};
 use cdc_match::Binding;
 use cdc_types::{Limits, NewAccount, NewTransfer};
 use std::alloc::{AllocError, Global};
@@ -56,10 +56,7 @@ pub fn read_statement(
         (λ error. IsLineFault error (line_says context line.now)) }
     ensures suited { IfOk result (λ said. IfSome said (IsSuited context)) }
 {
-    if let [b'#', ..] = line {
-        return Ok(None);
-    }
-    match next_word(line) {
+    match first_word(line) {
         None => Ok(None),
         Some((first, rest)) => Ok(Some(read_words(alloc, first, rest, context)?)),
     }
@@ -94,11 +91,11 @@ fn read_other_words(first: &[u8], rest: &[u8], context: Context) -> Result<State
     } else if first == b"client".as_slice() {
         read_client(rest)
     } else if first == b"accounts".as_slice() {
-        Ok(Statement::Accounts(read_moment(rest)?))
+        Ok(Statement::Accounts(read_lone_number(rest)?))
     } else if first == b"transfers".as_slice() {
-        Ok(Statement::Transfers(read_moment(rest)?))
+        Ok(Statement::Transfers(read_lone_number(rest)?))
     } else if first == b"pulse".as_slice() {
-        Ok(Statement::Pulse(read_moment(rest)?))
+        Ok(Statement::Pulse(read_lone_number(rest)?))
     } else if first == b"account".as_slice() {
         read_account(rest, context.open_batch)
     } else if first == b"transfer".as_slice() {
@@ -203,14 +200,6 @@ fn read_client(words: &[u8]) -> Result<Statement, FaultKind>
     Ok(Statement::Client(at_end(rest, FaultKind::WrongCount, number)?))
 }
 
-/// The moment of a batch, alone, in nanoseconds.
-fn read_moment(words: &[u8]) -> Result<u64, FaultKind>
-    ensures { result ≡ moment_line (words_of words.now) }
-{
-    let (moment, rest) = read_word_number(words)?;
-    at_end(rest, FaultKind::WrongCount, moment)
-}
-
 /// The account of an account line.
 fn read_account(words: &[u8], open_batch: Option<ItemKind>) -> Result<Statement, FaultKind>
     ensures says { result ≡ account_line open_batch (words_of words.now) }
@@ -236,36 +225,5 @@ fn read_transfer(words: &[u8], open_batch: Option<ItemKind>) -> Result<Statement
             Ok(Statement::Transfer(fields.transfer()))
         }
         _ => Err(FaultKind::NoOpenBatch),
-    }
-}
-
-/// The number of 64 bits that the next word writes, and the words after it.
-fn read_word_number(words: &[u8]) -> Result<(u64, &[u8]), FaultKind>
-    ensures { MatchResult result
-        (λ found. number_word (words_of words.now) ≡ Ok (found.0, words_of found.1.now))
-        (λ fault. number_word (words_of words.now) ≡ Err fault) }
-{
-    let (word, rest) = next_word(words).ok_or(FaultKind::WrongCount)?;
-    if !is_printable_word(word) {
-        return Err(FaultKind::BadText);
-    }
-    let number = read_number(word, u128::from(u64::MAX))?;
-    Ok((number as u64, rest))
-}
-
-/// What was said, where the line ends; else the fault of the word that follows.
-fn at_end<T: Copy>(words: &[u8], fault: FaultKind, said: T) -> Result<T, FaultKind>
-    ensures ended { result ≡ ended fault said (words_of words.now) }
-    ensures said { IfOk result (λ x. x ≡ said) }
-{
-    match next_word(words) {
-        None => Ok(said),
-        Some((word, _)) => {
-            if is_printable_word(word) {
-                Err(fault)
-            } else {
-                Err(FaultKind::BadText)
-            }
-        }
     }
 }

@@ -735,6 +735,7 @@ fn asked<'a>(alloc: Global, words: &'a [&'a str]) -> (&'static str, &'a str) {
     match options(alloc, words) {
         Ok(Options::Books { file }) => ("books", file),
         Ok(Options::Messages { file }) => ("messages", file),
+        Ok(Options::Simulate { file, .. }) => ("simulate", file),
         Ok(Options::Explain { .. }) => ("explain", ""),
         Err(fault) => (fault.name(), ""),
     }

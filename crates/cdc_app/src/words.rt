@@ -5,7 +5,7 @@ ghost use Rattle.std.specs.Option.{option_map};
 ghost use Rattle.std.specs.List.{slice_split};
 ghost use Rattle.std.specs.Str.Lines.{lines, strip_carriage_return};
 ghost use Rattle.cdc_app.specs.Parts.{parted};
-ghost use Rattle.cdc_app.specs.Words.{words, is_printable};
+ghost use Rattle.cdc_app.specs.Words.{words, spoken, is_printable};
 
 /// Where such a byte stands first.
 fn position_of(bytes: &[u8], wanted: u8) -> Option<usize>
@@ -67,6 +67,16 @@ pub fn next_word(line: &[u8]) -> Option<(&[u8], &[u8])>
     } else {
         Some((rest, &[]))
     }
+}
+
+/// The first word of a line that is no comment, and the rest of the line.
+pub fn first_word(line: &[u8]) -> Option<(&[u8], &[u8])>
+    ensures { MatchOption result (spoken line.now ≡ []) (λ found. spoken line.now ≡ found.0.now ∷ words found.1.now) }
+{
+    if let [b'#', ..] = line {
+        return None;
+    }
+    next_word(line)
 }
 
 /// Whether every byte of the word is a printable ASCII character.

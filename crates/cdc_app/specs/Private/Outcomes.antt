@@ -1,6 +1,8 @@
 -- Which faults and endings a step can't come to.
 use Rattle.cdc_app.specs.declared.endings.Ending.{Ending}
-use Rattle.cdc_app.specs.declared.endings.Ending.TheVariants.{Done, Failed, BadScript, BadWords}
+use Rattle.cdc_app.specs.declared.endings.Ending.TheVariants.{Done, Failed, Refused, BadScript, BadSteps, BadWords}
+use Rattle.cdc_app.specs.declared.faults.ProgramFault.{ProgramFault}
+use Rattle.cdc_app.specs.declared.faults.ProgramFault.TheVariants as program
 use Rattle.cdc_app.specs.declared.faults.ScriptError.{ScriptError}
 use Rattle.cdc_app.specs.declared.faults.ScriptError.TheVariants as error
 
@@ -14,5 +16,14 @@ IsNoFault error.OutOfMemory = Unit {0}
 abbrev pub IsNoFailure : Ending → Type 0
 IsNoFailure Done = Unit {0}
 IsNoFailure (Failed why) = ⊥
+IsNoFailure (Refused why) = ⊥
 IsNoFailure (BadScript at) = Unit {0}
+IsNoFailure (BadSteps at) = ⊥
 IsNoFailure BadWords = ⊥
+
+-- a script alone can be to blame: no store is read
+abbrev pub IsOfScript : ProgramFault → Type 0
+IsOfScript (program.ReadFault why) = Unit {0}
+IsOfScript (program.WriteFault why) = ⊥
+IsOfScript (program.Store why) = ⊥
+IsOfScript program.OutOfMemory = Unit {0}

@@ -1,7 +1,7 @@
 use Rattle.std.proofs.Common.{arith}
 use Rattle.std.proofs.lemmas.Grind.{common_steps}
 use Rattle.cdc_app.proofs.ReadLemmas.{consumes_at_most}
-use Rattle.cdc_app.proofs.scripts.read_text.Goals as goal
+use Rattle.cdc_app.proofs.reading.read_text.Goals as goal
 
 pub returns-in_err-extend_from_slice-clause-bounded : goal.returns-in_err-extend_from_slice-clause-bounded
 returns-in_err-extend_from_slice-clause-bounded g c =

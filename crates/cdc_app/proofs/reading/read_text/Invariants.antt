@@ -1,7 +1,7 @@
 use Rattle.std.proofs.Common.{◌+◌, ◌-◌, ◌≤◌, length}
 use Rattle.std.specs.Io.KnownBytes.{Consumes}
 use Rattle.cdc_app.specs.Scripts.{max_bytes}
-use Rattle.cdc_app.proofs.scripts.read_text.Given as goal
+use Rattle.cdc_app.proofs.reading.read_text.Given as goal
 
 abbrev pub invariant-loop-piece : goal.invariant-loop-piece
 invariant-loop-piece g l = record {

@@ -1,0 +1,173 @@
+-- Simulations, act by act, and the subscribers of a world, one after another.
+use Rattle.std.proofs.Common.{◌≡◌, ◌∙◌, ℕ, ◌+◌, ◌-◌, ◌<◌, List, [], ◌∷◌, ◌++◌, Some, None, true, false, length, drop, append_assoc, append-nil, refl, sym, ap, ap₂, subst, inl, inr, arith, rules}
+use Rattle.std.specs.Prelude.{Option, Ok, Err, ◌==◌, is_some, string_bytes}
+use Rattle.std.specs.List.{slice_get}
+use Rattle.std.proofs.lemmas.List.{drop_more}
+use Rattle.std.proofs.lemmas.Option.{slice_get_within, get_or_from_slice_get}
+use Rattle.cdc_subscriber.specs.Heard.{kept_of}
+use Rattle.cdc_subscriber.specs.Kept.{Kept}
+use Rattle.cdc_subscriber.specs.Lines.{subscriber_text}
+use Rattle.cdc_world.specs.declared.steps.Did.{Did}
+use Rattle.cdc_world.specs.declared.steps.Step.{Step}
+use Rattle.cdc_world.specs.declared.steps.StepError.{StepError}
+use Rattle.cdc_world.specs.Next.{Next}
+use Rattle.cdc_world.specs.Stands.{Stands}
+use Rattle.cdc_world.specs.Worlds.{Subscription, WorldState, numbered}
+use Rattle.cdc_app.specs.declared.scripts.ClientBatch.{ClientBatch}
+use Rattle.cdc_app.specs.declared.simulations.Simulation.{Simulation}
+use Rattle.cdc_app.specs.declared.step_files.Act.{Act}
+use Rattle.cdc_app.specs.Private.Stages.{IsAt}
+use Rattle.cdc_app.specs.Simulations.{ActsTo, AnswersTo, PlaysTo, Stage, asked, did_text, moved_on, subscriptions_text}
+
+-- the element at a place, and those behind it
+pub drop_found : {X : Type 0} (xs : List X) (i : ℕ) (x : X) → slice_get xs i ≡ Some x → drop i xs ≡ x ∷ drop (i + 1) xs
+drop_found xs i x h =
+    drop_more xs i x (slice_get_within xs i x h) ∙ ap (λ y. y ∷ drop (i + 1) xs) (get_or_from_slice_get xs i x x h)
+
+-- the element at a place has the number that is one greater
+pub numbered_found : {X : Type 0} (xs : List X) (i : ℕ) (x : X) → slice_get xs i ≡ Some x → numbered xs (i + 1) ≡ Some x
+numbered_found xs i x h =
+    let other : (i + 1 == 0) ≡ false = search rules in
+    let same : i + 1 - 1 ≡ i = omega arith in
+    rw (other, same) h
+
+-- one more subscriber is printed
+pub printed_more : (place : ℕ) (subscriptions : List Subscription) (s : Subscription) (kept : Kept) (old new whole : List ℕ)
+    → slice_get subscriptions place ≡ Some s → kept ≡ kept_of s.heard → new ≡ old ++ subscriber_text (place + 1) kept
+    → old ++ subscriptions_text (place + 1) (drop place subscriptions) ≡ whole
+    → new ++ subscriptions_text (place + 1 + 1) (drop (place + 1) subscriptions) ≡ whole
+printed_more place subscriptions s kept old new whole found heard added before =
+    ap (λ t. t ++ subscriptions_text (place + 1 + 1) (drop (place + 1) subscriptions)) added
+    ∙ append_assoc old (subscriber_text (place + 1) kept) _
+    ∙ ap (λ k. old ++ (subscriber_text (place + 1) k
+    ++ subscriptions_text (place + 1 + 1) (drop (place + 1) subscriptions))) heard
+    ∙ ap (λ xs. old ++ subscriptions_text (place + 1) xs) (sym (drop_found subscriptions place s found))
+    ∙ before
+
+-- no subscriber is left
+pub printed_whole : (place : ℕ) (subscriptions : List Subscription) (text whole : List ℕ) → drop place subscriptions ≡ []
+    → text ++ subscriptions_text (place + 1) (drop place subscriptions) ≡ whole → text ≡ whole
+printed_whole place subscriptions text whole none before =
+    sym (append-nil text) ∙ ap (λ xs. text ++ subscriptions_text (place + 1) xs) (sym none) ∙ before
+
+-- acts up to this place were done: the simulation is at a stage with so many, and what the acts that are left lead to
+-- from there is what all lead to from the beginning
+pub record HasCome (batches : List ClientBatch) (acts : List Act) (before : Stage) (place : ℕ) (simulation : Simulation)
+    : Type 0 where
+  pub here : Stage
+  pub at : IsAt simulation here
+  pub done : here.done ≡ place
+  pub on : (refusal : Option StepError) (end : Stage) → PlaysTo batches here (drop place acts) refusal end
+      → PlaysTo batches before acts refusal end
+
+-- at the beginning
+pub HasCome-none : (batches : List ClientBatch) (acts : List Act) (before : Stage) (simulation : Simulation)
+    → IsAt simulation before → before.done ≡ 0 → HasCome batches acts before 0 simulation
+HasCome-none batches acts before simulation at done =
+    record { here = before; at = at; done = done; on = λ refusal end plays. plays }
+
+-- an act counts
+acts_count : (before : Stage) (want : Option (Step × ℕ)) (after : Stage) → AnswersTo before want None after
+    → after.done ≡ before.done + 1
+acts_count before None after answers = absurd answers
+acts_count before (Some want) after answers = ap (λ (x : Stage). x.done) answers.2.1
+
+-- an act is done
+pub HasCome-more : (batches : List ClientBatch) (acts : List Act) (before : Stage) (place : ℕ) (old new : Simulation)
+    (a : Act) (after : Stage) → slice_get acts place ≡ Some a → (come : HasCome batches acts before place old)
+    → IsAt new after → ActsTo batches come.here a None after → HasCome batches acts before (place + 1) new
+HasCome-more batches acts before place old new a after found come at acted = record {
+  here = after;
+  at = at;
+  done = acts_count come.here (asked batches come.here.batches a) after acted ∙ ap (λ n. n + 1) come.done;
+  on = λ refusal end plays. come.on refusal end (subst (λ xs. PlaysTo batches come.here xs refusal end)
+      (sym (drop_found acts place a found)) (inr (after, (acted, plays))));
+}
+
+-- an act is refused
+pub played_to : (batches : List ClientBatch) (acts : List Act) (before : Stage) (place : ℕ) (old : Simulation)
+    (a : Act) (why : StepError) (end : Stage) → slice_get acts place ≡ Some a
+    → (come : HasCome batches acts before place old) → ActsTo batches come.here a (Some why) end
+    → PlaysTo batches before acts (Some why) end
+played_to batches acts before place old a why end found come acted =
+    come.on (Some why) end (subst (λ xs. PlaysTo batches come.here xs (Some why) end)
+    (sym (drop_found acts place a found)) (inl (why, (refl, acted))))
+
+-- a refusal leaves the count of the acts that are done
+refused_count : (before : Stage) (want : Option (Step × ℕ)) (why : StepError) (after : Stage)
+    → AnswersTo before want (Some why) after → after.done ≡ before.done
+refused_count before None why after answers = ap (λ (x : Stage). x.done) answers.1
+refused_count before (Some want) why after answers = ap (λ (x : Stage). x.done) answers.1.1
+
+pub stopped_count : (batches : List ClientBatch) (acts : List Act) (before : Stage) (place : ℕ) (old : Simulation)
+    (a : Act) (why : StepError) (end : Stage) → (come : HasCome batches acts before place old)
+    → ActsTo batches come.here a (Some why) end → end.done ≡ place
+stopped_count batches acts before place old a why end come acted =
+    refused_count come.here (asked batches come.here.batches a) why end acted ∙ come.done
+
+-- the loop ends at a refusal
+pub stopped : (batches : List ClientBatch) (acts : List Act) (before : Stage) (place : ℕ) (old new : Simulation)
+    (a : Act) (refusal : Option StepError) → slice_get acts place ≡ Some a → is_some refusal ≡ true
+    → (come : HasCome batches acts before place old)
+    → ((after : Stage) × (IsAt new after × ActsTo batches come.here a refusal after))
+    → (end : Stage) × (IsAt new end × ((end.done ≡ place) × PlaysTo batches before acts refusal end))
+stopped batches acts before place old new a None found some come acted = cc
+stopped batches acts before place old new a (Some why) found some come acted = (
+  acted.0,
+  (
+    acted.1.0,
+    (
+      stopped_count batches acts before place old a why acted.0 come acted.1.1,
+      played_to batches acts before place old a why acted.0 found come acted.1.1,
+    ),
+  ),
+)
+
+-- the loop goes on where nothing is refused
+pub went_on : (batches : List ClientBatch) (acts : List Act) (before : Stage) (place : ℕ) (old new : Simulation)
+    (a : Act) (refusal : Option StepError) → slice_get acts place ≡ Some a → is_some refusal ≡ false
+    → (come : HasCome batches acts before place old)
+    → ((after : Stage) × (IsAt new after × ActsTo batches come.here a refusal after))
+    → HasCome batches acts before (place + 1) new
+went_on batches acts before place old new a None found none come acted =
+    HasCome-more batches acts before place old new a acted.0 found come acted.1.0 acted.1.1
+went_on batches acts before place old new a (Some why) found none come acted = cc
+
+-- the step that is asked for stands in the stage as in the simulation
+asked_at : (batches : List ClientBatch) (old : Simulation) (stage : Stage) (a : Act) (want : Option (Step × ℕ))
+    → IsAt old stage → want ≡ asked batches old.batches a → want ≡ asked batches stage.batches a
+asked_at batches old stage a want at named = named ∙ ap (λ n. asked batches n a) at.batches
+
+-- a step that is done
+pub act_done : (batches : List ClientBatch) (old new : Simulation) (stage : Stage) (a : Act) (step : Step) (n : ℕ)
+    (did : Did) → IsAt old stage → Some (step, n) ≡ asked batches old.batches a
+    → ((w : WorldState) × (Stands new.world w × Next stage.world step (Ok did) w)) → new.batches ≡ n
+    → string_bytes new.lines ≡ string_bytes old.lines ++ did_text (old.batches + 1) did
+    → (after : Stage) × (IsAt new after × ActsTo batches stage a None after)
+act_done batches old new stage a step n did at named moved count lines = (
+  moved_on stage n did moved.0,
+  (
+    record {
+      world = moved.1.0;
+      batches = count;
+      lines = lines ∙ ap₂ (λ t k. t ++ did_text (k + 1) did) at.lines at.batches;
+    },
+    subst (λ want. AnswersTo stage want None (moved_on stage n did moved.0))
+        (asked_at batches old stage a (Some (step, n)) at named) (did, moved.0, (moved.1.1, refl)),
+  ),
+)
+
+-- a step that is refused
+pub act_refused : (batches : List ClientBatch) (old new : Simulation) (stage : Stage) (a : Act) (step : Step) (n : ℕ)
+    (why : StepError) → IsAt old stage → Some (step, n) ≡ asked batches old.batches a
+    → ((w : WorldState) × (Stands new.world w × Next stage.world step (Err why) w)) → new.batches ≡ old.batches
+    → string_bytes new.lines ≡ string_bytes old.lines
+    → (after : Stage) × (IsAt new after × ActsTo batches stage a (Some why) after)
+act_refused batches old new stage a step n why at named moved count lines = (
+  record stage { world = moved.0 },
+  (
+    record { world = moved.1.0; batches = count ∙ at.batches; lines = lines ∙ at.lines },
+    subst (λ want. AnswersTo stage want (Some why) (record stage { world = moved.0 }))
+        (asked_at batches old stage a (Some (step, n)) at named) (moved.0, (moved.1.1, refl)),
+  ),
+)

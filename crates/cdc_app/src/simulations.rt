@@ -1,0 +1,193 @@
+//! Simulations: a world over the batches of a script, moved by the acts of a step file.
+
+ghost use Rattle.std.specs.Prelude.{◌≡◌, ◌^◌, ◌<◌, ◌≤◌, true, IfErr, IfOk, IfSome, OnOk, length};
+ghost use Rattle.cdc_app.specs.Options.{IsWindow};
+ghost use Rattle.cdc_app.specs.Private.Stages.{IsAt, IsSimulationFault};
+ghost use Rattle.cdc_app.specs.Simulations.{ActsTo, PlaysTo, Simulates, Stage, asked, at_start, simulation_text};
+
+use crate::faults::ProgramFault;
+use crate::scripts::{ClientBatch, Script};
+use crate::simulation_report::{
+    push_did, push_progress, push_refusal, push_steps, push_subscriptions,
+};
+use crate::step_files::Act;
+use cdc_match::Binding;
+use cdc_progress::MemoryStore;
+use cdc_world::{Played, Step, StepError, World};
+use std::alloc::{AllocError, Global};
+
+/// What is printed of a simulation, and why a step was refused, if one was.
+#[derive(Drop)]
+pub struct Simulated {
+    /// The whole text.
+    pub text: Vec<u8>,
+    /// Why the step behind those that were done was refused.
+    pub refusal: Option<StepError>,
+}
+
+/// A world on its way.
+#[derive(Drop)]
+pub struct Simulation {
+    /// The world.
+    world: World<MemoryStore>,
+    /// How many of the script's batches are done.
+    batches: usize,
+    /// A line for each of them.
+    lines: String,
+}
+
+/// What is printed of a script that is taken step by step.
+pub fn simulate(
+    alloc: Global,
+    script: Script,
+    window: usize,
+    acts: &[Act],
+) -> Result<Simulated, ProgramFault>
+    requires { IsWindow window }
+    ensures prints { IfOk result (λ simulated. Simulates script window acts.now simulated.refusal simulated.text.items) }
+    ensures fault { IfErr result IsSimulationFault }
+{
+    let Script { bindings, batches } = script;
+    let mut simulation = Simulation::new(alloc, bindings.into_vec(), window)?;
+    let played = simulation.play(alloc, batches.as_slice(), acts)?;
+    let text = simulation.into_text(played, acts.len())?;
+    Ok(Simulated {
+        text,
+        refusal: played.refusal,
+    })
+}
+
+impl Simulation {
+    /// A world in which nothing has happened.
+    fn new(alloc: Global, bindings: Vec<Binding>, window: usize) -> Result<Simulation, AllocError>
+        requires { IsWindow window }
+        ensures stage { IfOk result (λ simulation. IsAt simulation (at_start bindings.items window)) }
+        ensures honest { IfOk result (λ simulation. simulation.world.honest ≡ true) }
+        ensures none { IfOk result (λ simulation. simulation.batches ≡ 0) }
+    {
+        Ok(Simulation {
+            world: World::new(alloc, bindings, window, MemoryStore::new())?,
+            batches: 0,
+            lines: String::new(alloc),
+        })
+    }
+
+    /// Plays acts up to the first that is refused.
+    fn play(
+        &mut self,
+        alloc: Global,
+        batches: &[ClientBatch],
+        acts: &[Act],
+    ) -> Result<Played, AllocError>
+        requires honest { self.old.world.honest ≡ true }
+        requires none { self.old.batches ≡ 0 }
+        ensures plays { (stage : Stage) → IsAt self.old stage → stage.done ≡ 0 → IfOk result (λ played.
+            (end : Stage) × (IsAt self.new end × ((end.done ≡ played.done)
+            × PlaysTo batches.now stage acts.now played.refusal end))) }
+        ensures honest { OnOk result (self.new.world.honest ≡ true) }
+        ensures count { IfOk result (λ played. played.done ≤ length acts.now) }
+    {
+        for (done, act) in acts.iter().enumerate() {
+            let refusal = self.play_act(alloc, batches, *act)?;
+            if refusal.is_some() {
+                return Ok(Played { done, refusal });
+            }
+        }
+        Ok(Played {
+            done: acts.len(),
+            refusal: None,
+        })
+    }
+
+    /// Plays an act, or says why it is refused.
+    fn play_act(
+        &mut self,
+        alloc: Global,
+        batches: &[ClientBatch],
+        act: Act,
+    ) -> Result<Option<StepError>, AllocError>
+        requires honest { self.old.world.honest ≡ true }
+        requires within { self.old.batches ≤ length batches.now }
+        ensures acts { (stage : Stage) → IsAt self.old stage → IfOk result (λ refusal.
+            (after : Stage) × (IsAt self.new after × ActsTo batches.now stage act refusal after)) }
+        ensures honest { OnOk result (self.new.world.honest ≡ true) }
+        ensures within { OnOk result (self.new.batches ≤ length batches.now) }
+    {
+        let Some((step, batches_done)) = asked_step(alloc, batches, self.batches, act)? else {
+            return Ok(Some(StepError::NotEnabled));
+        };
+        match self.world.step(alloc, &step) {
+            Ok(did) => {
+                push_did(&mut self.lines, self.batches as u64 + 1, did)?;
+                self.batches = batches_done;
+                Ok(None)
+            }
+            Err(refusal) => Ok(Some(refusal)),
+        }
+    }
+
+    /// What is printed of the world, once so many acts of all are played.
+    fn into_text(self, played: Played, all: usize) -> Result<Vec<u8>, ProgramFault>
+        requires honest { self.world.honest ≡ true }
+        requires few { played.done < 2 ^ 63 }
+        ensures text { (stage : Stage) → IsAt self stage → stage.done ≡ played.done
+            → IfOk result (λ text. text.items ≡ simulation_text all played.refusal stage) }
+        ensures fault { IfErr result IsSimulationFault }
+    {
+        let Simulation {
+            mut world,
+            batches: _,
+            lines: mut text,
+        } = self;
+        push_steps(&mut text, played.done, all)?;
+        push_refusal(&mut text, played)?;
+        push_progress(&mut text, world.progress()?)?;
+        let mut bytes = text.into_bytes();
+        push_subscriptions(&mut bytes, &world)?;
+        Ok(bytes)
+    }
+}
+
+/// The step that an act asks for where so many batches are done, and how many are done after it.
+fn asked_step(
+    alloc: Global,
+    batches: &[ClientBatch],
+    done: usize,
+    act: Act,
+) -> Result<Option<(Step, usize)>, AllocError>
+    requires { done ≤ length batches.now }
+    ensures step { IfOk result (λ step. step ≡ asked batches.now done act) }
+    ensures within { IfOk result (λ step. IfSome step (λ want. want.1 ≤ length batches.now)) }
+{
+    let step = match act {
+        Act::Batch => return next_submit(alloc, batches, done),
+        Act::CloseLedger => Step::CloseLedger,
+        Act::Start => Step::Start,
+        Act::Poll => Step::Poll,
+        Act::Publish => Step::Publish,
+        Act::Arrive(k) => Step::Arrive(k),
+        Act::Answer(k) => Step::Answer(k),
+        Act::Save => Step::Save,
+        Act::Send(i) => Step::Send(i),
+        Act::Take(i) => Step::Take(i),
+    };
+    Ok(Some((step, done)))
+}
+
+/// The step of the batch behind so many, if there is one, and how many are done after it.
+fn next_submit(
+    alloc: Global,
+    batches: &[ClientBatch],
+    done: usize,
+) -> Result<Option<(Step, usize)>, AllocError>
+    ensures step { IfOk result (λ step. step ≡ asked batches.now done Act.Batch) }
+    ensures within { IfOk result (λ step. IfSome step (λ want. want.1 ≤ length batches.now)) }
+{
+    match batches.get(done) {
+        None => Ok(None),
+        Some(item) => {
+            let batch = item.batch.try_copy(alloc)?;
+            Ok(Some((Step::Submit(batch), done + 1)))
+        }
+    }
+}

@@ -1,0 +1,135 @@
+//! Step files: what is done of a simulation, one action in a line.
+
+ghost use Rattle.std.specs.Prelude.{◌≡◌, ◌+◌, ◌≤◌, ◌++◌, ◌∷◌, [], length, Ok, IfSome, MatchResult, OnOk};
+ghost use Rattle.std.specs.Str.Lines.{lines};
+ghost use Rattle.cdc_app.specs.Refusals.{IsFault, ConsumesAtMost};
+ghost use Rattle.cdc_app.specs.Scripts.{max_bytes};
+ghost use Rattle.cdc_app.specs.StepFiles.{act_said, acts_from, acts_of, line_names};
+ghost use Rattle.cdc_app.specs.Words.{words as words_of};
+
+use crate::faults::{FaultKind, ScriptError};
+use crate::operands::{at_end, read_lone_number};
+use crate::reading::{fault_at, read_text};
+use crate::words::{first_word, is_printable_word, next_line};
+use cdc_types::Limits;
+use std::alloc::{AllocError, Global};
+use std::io::Read;
+
+/// One action of a simulation.
+#[derive(Clone, Copy, Debug, PartialEq, Eq)]
+pub enum Act {
+    /// The next batch of the script goes to the ledger.
+    Batch,
+    /// The ledger closes.
+    CloseLedger,
+    /// The connector starts a session.
+    Start,
+    /// The session is offered events of the ledger's log.
+    Poll,
+    /// The session sends its next packet.
+    Publish,
+    /// The packet of this number comes to the broker.
+    Arrive(u64),
+    /// The confirm of this number comes to the session.
+    Answer(u64),
+    /// The session saves its progress.
+    Save,
+    /// The broker hands out the next entry of the queue of this number.
+    Send(u64),
+    /// The subscriber of this number takes the first delivery that is on its way to it.
+    Take(u64),
+}
+
+/// What a line names; nothing where it is blank or a comment.
+fn read_act(line: &[u8]) -> Result<Option<Act>, FaultKind>
+    ensures { result ≡ line_names line.now }
+{
+    match first_word(line) {
+        None => Ok(None),
+        Some((first, rest)) => Ok(Some(act_of_words(first, rest)?)),
+    }
+}
+
+/// What the words of a line name.
+fn act_of_words(first: &[u8], rest: &[u8]) -> Result<Act, FaultKind>
+    ensures { result ≡ act_said first.now (words_of rest.now) }
+{
+    if !is_printable_word(first) {
+        Err(FaultKind::BadText)
+    } else if first == b"batch".as_slice() {
+        at_end(rest, FaultKind::WrongCount, Act::Batch)
+    } else if first == b"close_ledger".as_slice() {
+        at_end(rest, FaultKind::WrongCount, Act::CloseLedger)
+    } else if first == b"start".as_slice() {
+        at_end(rest, FaultKind::WrongCount, Act::Start)
+    } else if first == b"poll".as_slice() {
+        at_end(rest, FaultKind::WrongCount, Act::Poll)
+    } else if first == b"publish".as_slice() {
+        at_end(rest, FaultKind::WrongCount, Act::Publish)
+    } else if first == b"save".as_slice() {
+        at_end(rest, FaultKind::WrongCount, Act::Save)
+    } else if first == b"arrive".as_slice() {
+        Ok(Act::Arrive(read_lone_number(rest)?))
+    } else if first == b"answer".as_slice() {
+        Ok(Act::Answer(read_lone_number(rest)?))
+    } else if first == b"send".as_slice() {
+        Ok(Act::Send(read_lone_number(rest)?))
+    } else if first == b"take".as_slice() {
+        Ok(Act::Take(read_lone_number(rest)?))
+    } else {
+        Err(FaultKind::UnknownWord)
+    }
+}
+
+/// What the lines of a text name.
+fn read_acts(alloc: Global, text: &[u8]) -> Result<Vec<Act>, ScriptError>
+    requires { length text.now ≤ max_bytes }
+    ensures { MatchResult result
+        (λ acts. acts_from 1 (lines text.now) ≡ Ok acts.items)
+        (λ error. IsFault error (acts_from 1 (lines text.now))) }
+{
+    let mut acts = Vec::new(alloc);
+    let mut rest = text;
+    let mut line_number: u64 = 0;
+    while let Some((line, after)) = next_line(rest) {
+        line_number += 1;
+        match read_act(line) {
+            Ok(None) => {}
+            Ok(Some(act)) => add_act(&mut acts, act)?,
+            Err(kind) => return Err(fault_at(line_number, kind)),
+        }
+        rest = after;
+    }
+    Ok(acts)
+}
+
+/// Puts an act behind those before it.
+fn add_act(acts: &mut Vec<Act>, act: Act) -> Result<(), AllocError>
+    ensures { OnOk result (acts.new.items ≡ acts.old.items ++ act ∷ []) }
+{
+    acts.push(act)?;
+    Ok(())
+}
+
+/// Reads a step file. It asks for at most one byte more than a step file may have, and for no more after a read that
+/// failed.
+pub fn read_steps<R: Read>(alloc: Global, reader: &mut R) -> Result<Vec<Act>, ScriptError>
+    ensures read { IfSome (R.remaining reader.old) (λ bytes.
+        MatchResult result (λ acts. acts_of bytes ≡ Ok acts.items) (λ error. IsFault error (acts_of bytes))) }
+    ensures bounded { ConsumesAtMost (max_bytes + 1) (R.remaining reader.old) (R.remaining reader.new) }
+{
+    match read_text(alloc, reader) {
+        Ok(text) => parse(alloc, &text),
+        Err(error) => Err(error),
+    }
+}
+
+/// The acts that a text names.
+fn parse(alloc: Global, text: &[u8]) -> Result<Vec<Act>, ScriptError>
+    ensures { MatchResult result (λ acts. acts_of text.now ≡ Ok acts.items) (λ error. IsFault error (acts_of text.now)) }
+{
+    if text.len() > Limits::SCRIPT_BYTES {
+        return Err(fault_at(0, FaultKind::TooLong));
+    }
+    read_acts(alloc, text)
+}
