@@ -38,7 +38,7 @@ pub record IsCourse (kept : Kept) (session : Option Course) : Type 0 where
 
 course_found : (kept : Kept) (session : Option Course) → SessionStands (Some kept) session → IsCourse kept session
 course_found kept None stands = absurd stands
-course_found kept (Some course) stands = record { course = course; is = refl; stands = stands; }
+course_found kept (Some course) stands = record { course = course; is = refl; stands = stands }
 
 course_of : (p : Parts) (w : WorldState) (kept : Kept) → Stands p w → p.session ≡ Some kept → IsCourse kept w.session
 course_of p w kept st is =
@@ -71,8 +71,7 @@ pub poll_done : (p : Parts) (kept kept' : Kept) → p.session ≡ Some kept → 
 poll_done p kept kept' is offers honest w st =
     let at = course_of p w kept st is in
     let found = offered_found p.history kept kept' at.course (wanted at.course) (offers at.course at.stands) in
-    let poll = found.0 in
-    (
+    let poll = found.0 in (
       polled w at.course poll,
       (
         record {
@@ -80,8 +79,8 @@ poll_done p kept kept' is offers honest w st =
           held = st.held;
           window = st.window;
           session = subst (λ (h : History). StandsFor kept' (with_offer (take poll.limit (events_after poll.after
-          (events h)))
-          (none_follow h poll) at.course)) st.history found.1.1;
+              (events h)))
+              (none_follow h poll) at.course)) st.history found.1.1;
           packets = st.packets;
           confirms = st.confirms;
           connection = st.connection;
@@ -92,7 +91,7 @@ poll_done p kept kept' is offers honest w st =
           seats = st.seats;
         },
         ap (λ (s : Option Course). s >>= (λ course. wanted course >>= (λ poll. done (polled w course poll)))) at.is
-        ∙ ap (λ (f : Option Poll). f >>= (λ poll. done (polled w at.course poll))) found.1.0,
+            ∙ ap (λ (f : Option Poll). f >>= (λ poll. done (polled w at.course poll))) found.1.0,
       ),
     )
 
@@ -112,8 +111,7 @@ publish_done p kept kept' packets' is sends honest w st =
     let at = course_of p w kept st is in
     let found = sent_found kept kept' p.packets packets' at.course (next_packet at.course)
     (sends at.course at.stands) in
-    let packet = found.0 in
-    (
+    let packet = found.0 in (
       sending w at.course packet,
       (
         record {
@@ -131,8 +129,8 @@ publish_done p kept kept' packets' is sends honest w st =
           seats = st.seats;
         },
         ap (λ (s : Option Course). s >>= (λ course. next_packet course >>= (λ packet. done
-        (sending w course packet)))) at.is
-        ∙ ap (λ (f : Option Packet). f >>= (λ packet. done (sending w at.course packet))) found.1.0,
+            (sending w course packet)))) at.is
+            ∙ ap (λ (f : Option Packet). f >>= (λ packet. done (sending w at.course packet))) found.1.0,
       ),
     )
 
@@ -147,8 +145,7 @@ answer_done p kept kept' k confirm counted is here next answer stands honest w s
     let comes : (k == w.answers + 1) ≡ true = subst (λ (n : ℕ). (k == n + 1) ≡ true) st.answers next in
     let there : numbered w.confirms k ≡ Some confirm =
     numbered_next w.confirms w.answers k comes
-    ∙ (ap₂ (λ (cs : List Confirm) (n : ℕ). slice_get cs n) (sym st.confirms) (sym st.answers) ∙ here) in
-    (
+    ∙ (ap₂ (λ (cs : List Confirm) (n : ℕ). slice_get cs n) (sym st.confirms) (sym st.answers) ∙ here) in (
       record w { session = Some (confirmed at.course confirm.session confirm.answer); answers = w.answers + 1 },
       (
         record {
@@ -166,12 +163,15 @@ answer_done p kept kept' k confirm counted is here next answer stands honest w s
           seats = st.seats;
         },
         ap (λ (s : Option Course). s >>= (λ course.
-        (if k == w.answers + 1 then numbered w.confirms k else None) >>= answered w course)) at.is
-        ∙ (ap₂ (λ (b : Bool) (f : Option Confirm). (if b then f else None) >>= answered w at.course) comes there
-        ∙ ap (λ (b : Bool). Ok (Counted b, record w {
-          session = Some (confirmed at.course confirm.session confirm.answer);
-          answers = w.answers + 1;
-        })) (sym (answer at.course at.stands))),
+            (if k == w.answers + 1 then numbered w.confirms k else None) >>= answered w course)) at.is
+            ∙ (ap₂ (λ (b : Bool) (f : Option Confirm). (if b then f else None) >>= answered w at.course) comes there
+            ∙ ap (λ (b : Bool). Ok (
+              Counted b,
+              record w {
+                session = Some (confirmed at.course confirm.session confirm.answer);
+                answers = w.answers + 1;
+              },
+            )) (sym (answer at.course at.stands))),
       ),
     )
 
@@ -204,8 +204,7 @@ pub save_done : (p : Parts) (kept : Kept) (held : Option Saved) (honest : Bool) 
     → ((course : Course) → StandsFor kept course → held ≡ Some (progress_of course))
     → Moves p Save (Ok Done) (record p { held = held; honest = honest })
 save_done p kept held honest' is saved honest w st =
-    let at = course_of p w kept st is in
-    (
+    let at = course_of p w kept st is in (
       record w { held = Some (progress_of at.course) },
       (
         with_held p w held honest' (Some (progress_of at.course)) st (saved at.course at.stands),
@@ -270,8 +269,7 @@ pub start_done : (p : Parts) (kept : Kept) (held : Option Saved) (honest : Bool)
     → Moves p Start (Ok Done) (record p { held = held; honest = honest; session = Some kept })
 start_done p kept held honest' down has honest w st =
     let begins : begun w.held ≡ Some has.saved = ap begun (sym st.held) ∙ ap begun (sym (has.given honest))
-    ∙ has.begins in
-    (
+    ∙ has.begins in (
       record w { held = Some has.saved; session = Some (new_course has.saved w.window) },
       (
         record {
@@ -315,19 +313,17 @@ start_failed p held honest' (start.Store store.WriteFault) failed failed' down m
       )
     ]
 start_failed p held honest' start.SessionsExhausted failed failed' down may honest w st =
-    let same = may.1 honest ∙ st.held in
-    (
+    let same = may.1 honest ∙ st.held in (
       w,
       (
         with_held p w held honest' w.held st same,
         (starts_next w None (no_course p w st down) (ap begun (sym same) ∙ may.0), refl),
       ),
     )
-start_failed p held honest' start.OutOfMemory failed failed' down may honest w st =
-    (
-      w,
-      (
-        with_held p w held honest' w.held st (may honest ∙ st.held),
-        (refl, (start_tried w (no_course p w st down), refl)),
-      ),
-    )
+start_failed p held honest' start.OutOfMemory failed failed' down may honest w st = (
+  w,
+  (
+    with_held p w held honest' w.held st (may honest ∙ st.held),
+    (refl, (start_tried w (no_course p w st down), refl)),
+  ),
+)

@@ -39,7 +39,7 @@ place_above i count =
 place_cases : (i count place : ℕ) (b : Bool) → nat_lt (suc i - 1) count ≡ b
     → (if b then Some (suc i - 1) else None) ≡ Some place → IsPlace (suc i) count place
 place_cases i count place true below found =
-    record { above = omega arith; here = cc; inside = grind arith; }
+    record { above = omega arith; here = cc; inside = grind arith }
 place_cases i count place false below found = cc
 
 pub place_is : (i count place : ℕ) → place_in i count ≡ Some place → IsPlace i count place

@@ -16,7 +16,7 @@ pub record HasDone (p p' : Parts) (steps : List Step) (done : ℕ) : Type 0 wher
 
 -- none yet
 pub HasDone-none : (p : Parts) (steps : List Step) → HasDone p p steps 0
-HasDone-none p steps = record { honest = refl; leads = λ honest w st. (w, (st, refl)); }
+HasDone-none p steps = record { honest = refl; leads = λ honest w st. (w, (st, refl)) }
 
 -- one more step
 DoesAll_push : (w between w' : WorldState) (steps : List Step) (step : Step) (did : Did) → DoesAll w steps between
@@ -32,18 +32,17 @@ pub HasDone-more : (p p' p'' : Parts) (steps : List Step) (done : ℕ) (step : S
 HasDone-more p p' p'' steps done step did inside here has moves honest' = record {
   honest = honest' ∙ has.honest;
   leads = λ honest w st.
-  let before = has.leads honest w st in
-  let after = moves (has.honest ∙ honest) before.0 before.1.0 in
-  let more : take (done + 1) steps ≡ take done steps ++ step ∷ [] =
-  take_more steps done step inside ∙ ap (λ (s : Step). take done steps ++ s ∷ []) (sym here) in
-  (
-    after.0,
-    (
-      after.1.0,
-      subst (λ (ss : List Step). DoesAll w ss after.0) (sym more)
-      (DoesAll_push w before.0 after.0 (take done steps) step did before.1.1 after.1.1),
-    ),
-  );
+      let before = has.leads honest w st in
+      let after = moves (has.honest ∙ honest) before.0 before.1.0 in
+      let more : take (done + 1) steps ≡ take done steps ++ step ∷ [] =
+      take_more steps done step inside ∙ ap (λ (s : Step). take done steps ++ s ∷ []) (sym here) in (
+        after.0,
+        (
+          after.1.0,
+          subst (λ (ss : List Step). DoesAll w ss after.0) (sym more)
+              (DoesAll_push w before.0 after.0 (take done steps) step did before.1.1 after.1.1),
+        ),
+      );
 }
 
 -- the step at a place and those behind it
@@ -61,8 +60,7 @@ pub Plays-stopped : (p p' p'' : Parts) (steps : List Step) (done : ℕ) (step : 
 Plays-stopped p p' p'' steps done step why inside here has moves honest w st =
     let before = has.leads honest w st in
     let after = moves (has.honest ∙ honest) before.0 before.1.0 in
-    let rest = drop_here steps done step inside here in
-    (
+    let rest = drop_here steps done step inside here in (
       after.0,
       (
         after.1.0,
@@ -83,8 +81,7 @@ drop_whole (x ∷ xs) = drop_whole xs
 pub Plays-all : (p p' : Parts) (steps : List Step) → HasDone p p' steps (length steps)
     → Plays p steps (length steps) None p'
 Plays-all p p' steps has honest w st =
-    let before = has.leads honest w st in
-    (
+    let before = has.leads honest w st in (
       before.0,
       (
         before.1.0,

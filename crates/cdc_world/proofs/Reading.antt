@@ -97,8 +97,7 @@ events_rise t [] entries same rise = tt
 events_rise t (e ∷ es) [] same rise = cc
 events_rise t (e ∷ es) (x ∷ entries) same rise =
     let here : e.timestamp ≡ x.timestamp = cc in
-    let rest : map (λ e. e.timestamp) es ≡ map (λ e. e.timestamp) entries = cc in
-    (
+    let rest : map (λ e. e.timestamp) es ≡ map (λ e. e.timestamp) entries = cc in (
       omega (arith, rise.0),
       events_rise e.timestamp es entries rest (subst (λ (n : ℕ). sound.RiseFrom n entries) (sym here) rise.1),
     )
@@ -112,11 +111,11 @@ IsReply-read h poll legal =
     record {
       count = omega (arith, length-take poll.limit (events_after poll.after (events h)));
       rising = take_rise poll.after poll.limit (events_after poll.after (events h))
-      (later_rise poll.after poll.after 0 (events h) rise (omega arith));
+          (later_rise poll.after poll.after 0 (events h) rise (omega arith));
       fits = all_fit (take poll.limit (events_after poll.after (events h)))
-      (fit_take poll.limit (events_after poll.after (events h))
-      (fit_after poll.after (events h)
-      (events_fit h.last (events h) h.entries (timestamps-events h) holds.past holds.within)));
+          (fit_take poll.limit (events_after poll.after (events h))
+          (fit_after poll.after (events h)
+          (events_fit h.last (events h) h.entries (timestamps-events h) holds.past holds.within)));
     }
 
 -- the last timestamp isn't below the moment before

@@ -153,8 +153,12 @@ arrive_taken : (p : Parts) (packet : Packet) (k : ℕ) → slice_get p.packets p
     → (k == p.arrivals + 1) ≡ true
     → takes_packet p.broker packet ≡ true
     → Moves p (Arrive k) (Ok (Arrived true))
-    (record p { broker = after_packet p.broker packet; confirms = p.confirms ++ confirms_of packet; arrivals =
-    p.arrivals + 1 })
+    (record p {
+      broker = after_packet p.broker packet;
+      confirms = p.confirms ++ confirms_of packet;
+      arrivals =
+          p.arrivals + 1;
+    })
 arrive_taken p packet k here next takes honest w st = (
   record (taking_in w packet true) { arrivals = w.arrivals + 1 },
   (
@@ -166,17 +170,17 @@ arrive_taken p packet k here next takes honest w st = (
       packets = st.packets;
       confirms = ap (λ (cs : List Confirm). cs ++ confirms_of packet) st.confirms;
       connection = connection_after p.broker packet ∙ ap (λ (n : ℕ). session_after n packet) st.connection
-      ∙ sym (current_session-push w.accepted packet);
+          ∙ sym (current_session-push w.accepted packet);
       expected = expected_is p.broker packet ∙ ap (λ (e : Option ℕ). expected_after e packet) st.expected
-      ∙ sym (expected_tag-push w.accepted packet);
+          ∙ sym (expected_tag-push w.accepted packet);
       queues = queues_are p.broker w.accepted packet w.subscriptions st.queues;
       arrivals = ap (λ (n : ℕ). n + 1) st.arrivals;
       answers = st.answers;
       seats = st.seats;
     },
     arrives w k packet true (subst (λ (n : ℕ). (k == n + 1) ≡ true) st.arrivals next)
-    (ap₂ (λ (ps : List Packet) (n : ℕ). slice_get ps n) (sym st.packets) (sym st.arrivals) ∙ here)
-    (sym (takes_is p w packet st) ∙ takes),
+        (ap₂ (λ (ps : List Packet) (n : ℕ). slice_get ps n) (sym st.packets) (sym st.arrivals) ∙ here)
+        (sym (takes_is p w packet st) ∙ takes),
   ),
 )
 
@@ -202,8 +206,8 @@ arrive_passed p packet k here next takes honest w st = (
       seats = st.seats;
     },
     arrives w k packet false (subst (λ (n : ℕ). (k == n + 1) ≡ true) st.arrivals next)
-    (ap₂ (λ (ps : List Packet) (n : ℕ). slice_get ps n) (sym st.packets) (sym st.arrivals) ∙ here)
-    (sym (takes_is p w packet st) ∙ takes),
+        (ap₂ (λ (ps : List Packet) (n : ℕ). slice_get ps n) (sym st.packets) (sym st.arrivals) ∙ here)
+        (sym (takes_is p w packet st) ∙ takes),
   ),
 )
 
@@ -269,12 +273,22 @@ seat_with s s' k f a =
 takes_next : (w : WorldState) (i : ℕ) (s : Subscription) (delivery : Delivery) (rest : List Delivery)
     → numbered w.subscriptions i ≡ Some s
     → s.flight ≡ delivery ∷ rest → next_by offered w (Take i)
-    ≡ Ok (Took (answer_to (kept_of s.heard) delivery.item), record w { subscriptions = with_numbered i
-    (with_taking delivery rest s) w.subscriptions })
+    ≡ Ok (
+      Took (answer_to (kept_of s.heard) delivery.item),
+      record w {
+        subscriptions = with_numbered i
+            (with_taking delivery rest s) w.subscriptions;
+      },
+    )
 takes_next w i s delivery rest here first =
-    let after : Subscription → Delivery × List Delivery → Outcome = λ s first. Ok (Took (answer_to
-    (kept_of s.heard) first.0.item), record w { subscriptions = with_numbered i
-    (with_taking first.0 first.1 s) w.subscriptions }) in
+    let after : Subscription → Delivery × List Delivery → Outcome = λ s first. Ok (
+      Took (answer_to
+          (kept_of s.heard) first.0.item),
+      record w {
+        subscriptions = with_numbered i
+            (with_taking first.0 first.1 s) w.subscriptions;
+      },
+    ) in
     ap (λ (found : Option Subscription). found >>= (λ s. first_flight s.flight >>= after s)) here
     ∙ ap (λ (flight : List Delivery). first_flight flight >>= after s) first
 
@@ -295,8 +309,7 @@ take_done p i s s' seats' taking above here takes set honest w st =
     let acks : s.acks ≡ sub.acks = ap (λ (t : SeatState). t.acks) (sym of.seat) in
     let same : s' ≡ seat_of sub' = seat_with s' (seat_of sub') (has.hears sub.heard kept) has.flight
     (has.acks ∙ ap (λ (xs : List ℕ). xs ++ delivery.position ∷ []) acks) in
-    let inside = get_or_from_slice_get w.subscriptions (i - 1) sub sub of.there in
-    (
+    let inside = get_or_from_slice_get w.subscriptions (i - 1) sub sub of.there in (
       record w { subscriptions = with_numbered i sub' w.subscriptions },
       (
         record {
@@ -309,14 +322,14 @@ take_done p i s s' seats' taking above here takes set honest w st =
           connection = st.connection;
           expected = st.expected;
           queues = st.queues ∙ sym (map-set_same (queue_for (taken_items w)) w.subscriptions (i - 1) sub' sub
-          (ap (queue_for (taken_items w)) (sym inside)));
+              (ap (queue_for (taken_items w)) (sym inside)));
           arrivals = st.arrivals;
           answers = st.answers;
           seats = set ∙ ap (slice_set p.seats (i - 1)) same ∙ seats_after p w (i - 1) sub' st;
         },
         takes_next w i sub delivery rest of.numbered_so flight
-        ∙ ap (λ (t : Taking). Ok (Took t, record w { subscriptions = with_numbered i sub' w.subscriptions }))
-        (ap (λ (k : Kept). answer_to k delivery.item) (sym kept) ∙ sym has.answered),
+            ∙ ap (λ (t : Taking). Ok (Took t, record w { subscriptions = with_numbered i sub' w.subscriptions }))
+            (ap (λ (k : Kept). answer_to k delivery.item) (sym kept) ∙ sym has.answered),
       ),
     )
 
@@ -348,9 +361,14 @@ untaken_none p i s above here none honest w st =
     let of = seat_is p w i s st above here in
     let sub = of.subscription in
     let empty : sub.flight ≡ [] = ap (λ (t : SeatState). t.flight) of.seat ∙ none in
-    let after : Subscription → Delivery × List Delivery → Outcome = λ s first. Ok (Took (answer_to
-    (kept_of s.heard) first.0.item), record w { subscriptions = with_numbered i
-    (with_taking first.0 first.1 s) w.subscriptions }) in
+    let after : Subscription → Delivery × List Delivery → Outcome = λ s first. Ok (
+      Took (answer_to
+          (kept_of s.heard) first.0.item),
+      record w {
+        subscriptions = with_numbered i
+            (with_taking first.0 first.1 s) w.subscriptions;
+      },
+    ) in
     unable p w (Take i) st
     (ap (λ (found : Option Subscription). found >>= (λ s. first_flight s.flight >>= after s)) of.numbered_so
     ∙ ap (λ (flight : List Delivery). first_flight flight >>= after sub) empty)
@@ -369,7 +387,7 @@ untaken : (p : Parts) (i : ℕ) (s s' : SeatState) (flight : List Delivery) (why
 untaken p i s s' [] why above here is takes = (
   takes.1,
   subst (λ (e : StepError). Moves p (Take i) (Err e) p) (err_same (Err why) why NotEnabled refl takes.0)
-  (untaken_none p i s above here is),
+      (untaken_none p i s above here is),
 )
 untaken p i s s' (delivery ∷ rest) why above here is takes = (
   takes.1,
@@ -417,11 +435,15 @@ queues_sent p w i s delivery st there =
 -- a step of a queue is what it does with what it hands out next
 sends_next : (w : WorldState) (i : ℕ) (s : Subscription) (found : Option Delivery) → numbered w.subscriptions i ≡ Some s
     → next_delivery w s ≡ found → next_by offered w (Send i)
-    ≡ (found >>= (λ delivery. done (record w { subscriptions = with_numbered i
-    (with_sending delivery s) w.subscriptions })))
+    ≡ (found >>= (λ delivery. done (record w {
+      subscriptions = with_numbered i
+          (with_sending delivery s) w.subscriptions;
+    })))
 sends_next w i s found here next =
-    let after : Subscription → Delivery → Outcome = λ s delivery. done (record w { subscriptions = with_numbered i
-    (with_sending delivery s) w.subscriptions }) in
+    let after : Subscription → Delivery → Outcome = λ s delivery. done (record w {
+      subscriptions = with_numbered i
+          (with_sending delivery s) w.subscriptions;
+    }) in
     ap (λ (found : Option Subscription). found >>= (λ s. next_delivery w s >>= after s)) here
     ∙ ap (λ (found : Option Delivery). found >>= after s) next
 
@@ -447,8 +469,7 @@ send_done p i s s' b' seats' above here hands set honest w st =
     let same : s' ≡ seat_of sub' = found.1.1.1 ∙ ap (λ
     (t : SeatState). record t { flight = t.flight ++ delivery ∷ [] }) (sym of.seat) in
     let next : next_delivery w sub ≡ Some delivery = sym (deliveries_same p w i sub st of.there) ∙ found.1.0 in
-    let broker = found.1.1.0 in
-    (
+    let broker = found.1.1.0 in (
       record w { subscriptions = with_numbered i sub' w.subscriptions },
       (
         record {
@@ -494,7 +515,7 @@ unsent p i s s' b' None why above here is hands = (
   (
     hands.1.1,
     subst (λ (e : StepError). Moves p (Send i) (Err e) p) (err_same (Err why) why NotEnabled refl hands.0)
-    (unsent_none p i s above here is),
+        (unsent_none p i s above here is),
   ),
 )
 unsent p i s s' b' (Some delivery) why above here is hands = (
@@ -614,19 +635,19 @@ pub new_stands : (p : Parts) (bindings : List Arguments) (count window : ℕ) (h
     → Stands p (new_world bindings window held)
 new_stands p bindings count window held history broker is_held is_window session packets confirms arrivals answers
     seats counted = record {
-  history = history;
-  held = is_held;
-  window = is_window;
-  session = subst (λ (s : Option SessionKept). SessionStands s None) (sym session) tt;
-  packets = packets;
-  confirms = confirms;
-  connection = ap (λ (b : BrokerState). b.connection) broker;
-  expected = ap (λ (b : BrokerState). b.expected) broker;
-  queues = ap (λ (b : BrokerState). map view_of b.queues) broker ∙ new_queues bindings;
-  arrivals = arrivals;
-  answers = answers;
-  seats = seats ∙ (ap (λ (n : ℕ). replicate n empty_seat) counted ∙ new_seats bindings);
-}
+      history = history;
+      held = is_held;
+      window = is_window;
+      session = subst (λ (s : Option SessionKept). SessionStands s None) (sym session) tt;
+      packets = packets;
+      confirms = confirms;
+      connection = ap (λ (b : BrokerState). b.connection) broker;
+      expected = ap (λ (b : BrokerState). b.expected) broker;
+      queues = ap (λ (b : BrokerState). map view_of b.queues) broker ∙ new_queues bindings;
+      arrivals = arrivals;
+      answers = answers;
+      seats = seats ∙ (ap (λ (n : ℕ). replicate n empty_seat) counted ∙ new_seats bindings);
+    }
 
 -- a subscriber that took the first of the deliveries
 pub taken_is : (s s' : SeatState) (delivery : Delivery) (flight : List Delivery) (taking : Taking)

@@ -7,7 +7,7 @@ invariant_of-result g c = (
   c.requires,
   (
     new_counts c.args.bindings.items c.len.result c.in_ok-seats.seats.items c.in_ok-new.field-0
-  (c.len.ensures ∙ c.args.bindings.ok.0) c.in_ok-seats.ensures c.in_ok-new.ensures.state,
+        (c.len.ensures ∙ c.args.bindings.ok.0) c.in_ok-seats.ensures c.in_ok-new.ensures.state,
     (omega arith, omega arith),
   ),
 )
