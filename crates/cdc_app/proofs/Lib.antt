@@ -10,6 +10,7 @@ pub mod Places
 pub mod PrintableLemmas
 pub mod ReadLemmas
 pub mod SimulationLemmas
+pub mod SimulationReached
 pub mod TakerLemmas
 pub mod TextLemmas
 pub mod WordLemmas

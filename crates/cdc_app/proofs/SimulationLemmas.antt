@@ -32,7 +32,8 @@ numbered_found xs i x h =
     rw (other, same) h
 
 -- one more subscriber is printed
-pub printed_more : (place : ℕ) (subscriptions : List Subscription) (s : Subscription) (kept : Kept) (old new whole : List ℕ)
+pub printed_more : (place : ℕ) (subscriptions : List Subscription) (s : Subscription) (kept : Kept)
+    (old new whole : List ℕ)
     → slice_get subscriptions place ≡ Some s → kept ≡ kept_of s.heard → new ≡ old ++ subscriber_text (place + 1) kept
     → old ++ subscriptions_text (place + 1) (drop place subscriptions) ≡ whole
     → new ++ subscriptions_text (place + 1 + 1) (drop (place + 1) subscriptions) ≡ whole
@@ -45,7 +46,8 @@ printed_more place subscriptions s kept old new whole found heard added before =
     ∙ before
 
 -- no subscriber is left
-pub printed_whole : (place : ℕ) (subscriptions : List Subscription) (text whole : List ℕ) → drop place subscriptions ≡ []
+pub printed_whole : (place : ℕ) (subscriptions : List Subscription) (text whole : List ℕ)
+    → drop place subscriptions ≡ []
     → text ++ subscriptions_text (place + 1) (drop place subscriptions) ≡ whole → text ≡ whole
 printed_whole place subscriptions text whole none before =
     sym (append-nil text) ∙ ap (λ xs. text ++ subscriptions_text (place + 1) xs) (sym none) ∙ before

@@ -12,6 +12,7 @@ use Rattle.cdc_world.specs.declared.steps.Step.TheVariants as step
 use Rattle.cdc_world.specs.declared.steps.StepError.{StepError}
 use Rattle.cdc_world.specs.declared.steps.StepError.TheVariants.{NotEnabled}
 use Rattle.cdc_world.specs.Errors.{step_error_name}
+use Rattle.cdc_world.specs.Headline.{IsFaithful}
 use Rattle.cdc_world.specs.Next.{Next}
 use Rattle.cdc_world.specs.Worlds.{Subscription, WorldState, new_world}
 use Rattle.cdc_app.specs.declared.scripts.ClientBatch.{ClientBatch}
@@ -109,9 +110,11 @@ simulation_text all refusal end =
     end.lines ++ (steps_line end.done all ++ (refusal_line end.done refusal
     ++ (progress_line end.world.held ++ subscriptions_text 1 end.world.subscriptions)))
 
--- a simulation of this script by these acts prints this: the lines of a world that they lead to
+-- a simulation of this script by these acts prints this: the lines of a world that they lead to, each of whose
+-- subscribers is faithful
 pub record Simulates (script : Script) (window : ℕ) (acts : List Act) (refusal : Option StepError) (printed : List ℕ)
     : Type 0 where
   pub end : Stage
   pub plays : PlaysTo script.batches (at_start script.bindings window) acts refusal end
   pub prints : printed ≡ simulation_text (length acts) refusal end
+  pub faithful : All (λ s. IsFaithful end.world s) end.world.subscriptions

@@ -18,5 +18,5 @@ pub returns : goal.returns
 returns c = λ w stands.
     let all : length w.subscriptions ≤ c.loop-place.place =
     omega (arith, c.subscriber_count-place-end.ensures.subscriptions w stands) in
-    printed_whole c.loop-place.place w.subscriptions c.loop-place.text.items _ (drop_all c.loop-place.place w.subscriptions all)
-    (c.loop-place.invariant w stands)
+    printed_whole c.loop-place.place w.subscriptions c.loop-place.text.items _
+    (drop_all c.loop-place.place w.subscriptions all) (c.loop-place.invariant w stands)

@@ -6,7 +6,8 @@ use Rattle.cdc_app.proofs.simulations.Simulation.play.Goals as goal
 pub returns-then-is_some-clause-plays : goal.returns-then-is_some-clause-plays
 returns-then-is_some-clause-plays c = λ stage at zero.
     let come = c.loop-done.invariant.come stage at zero in
-    stopped c.args.batches.now c.args.acts.now stage c.loop-done.done _ _ _ _ (slice_get-get_or c.args.acts.now c.loop-done.done _ c.loop-done-test.true)
+    stopped c.args.batches.now c.args.acts.now stage c.loop-done.done _ _ _ _
+    (slice_get-get_or c.args.acts.now c.loop-done.done _ c.loop-done-test.true)
     (sym c.is_some.ensures ∙ c.if-is_some.true) come (c.in_ok-refusal.ensures.acts come.here come.at)
 
 pub loop-done-preserved : goal.loop-done-preserved
@@ -15,6 +16,7 @@ loop-done-preserved c = record {
   within = c.in_ok-refusal.ensures.within;
   come = λ stage at zero.
       let come = c.loop-done.invariant.come stage at zero in
-      went_on c.args.batches.now c.args.acts.now stage c.loop-done.done _ _ _ _ (slice_get-get_or c.args.acts.now c.loop-done.done _ c.loop-done-test.true)
+      went_on c.args.batches.now c.args.acts.now stage c.loop-done.done _ _ _ _
+      (slice_get-get_or c.args.acts.now c.loop-done.done _ c.loop-done-test.true)
       (sym c.is_some.ensures ∙ c.if-is_some.false) come (c.in_ok-refusal.ensures.acts come.here come.at);
 }

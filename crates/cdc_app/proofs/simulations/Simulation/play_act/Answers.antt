@@ -10,5 +10,6 @@ returns-in-Ok-clause-acts c = λ stage at.
 
 pub returns-clause-acts : goal.returns-clause-acts
 returns-clause-acts c = λ stage at.
-    act_refused c.args.batches.now c.args.self.now _ stage c.args.act c.in-Some.step c.in-Some.batches_done c.in-Err.refusal
-    at (sym c.in-Some.is ∙ c.in_ok-step.ensures.step) (c.in-Err.ensures.next c.requires.honest stage.world at.world) refl refl
+    act_refused c.args.batches.now c.args.self.now _ stage c.args.act c.in-Some.step c.in-Some.batches_done
+    c.in-Err.refusal at (sym c.in-Some.is ∙ c.in_ok-step.ensures.step)
+    (c.in-Err.ensures.next c.requires.honest stage.world at.world) refl refl
