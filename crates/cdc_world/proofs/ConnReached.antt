@@ -211,11 +211,11 @@ HasOrder-same w w' order same = subst HasOrder (sym same) order
 
 HasOrder-failed : (offers : Offered) (w w' : WorldState) (step : Step) (why : StoreError) → HasOrder w
     → IsTried (next_by offers w step) → AfterFailure w step why w' → HasOrder w'
-HasOrder-failed offers w w' step store.ReadFault order tried after = HasOrder-same w w' order after
-HasOrder-failed offers w w' step store.WriteFault order tried (inl same) = HasOrder-same w w' order same
-HasOrder-failed offers w w' step store.WriteFault order tried (inr (saved, is, after)) =
+HasOrder-failed offers w w' step store.ReadFault order tried after = HasOrder-same w w' order after.1
+HasOrder-failed offers w w' step store.WriteFault order tried (saved, is, inl same) = HasOrder-same w w' order same
+HasOrder-failed offers w w' step store.WriteFault order tried (saved, is, inr after) =
     subst HasOrder (sym after) (HasOrder-written offers w step saved order tried is)
-HasOrder-failed offers w w' step store.BadRecord order tried after = HasOrder-same w w' order after
+HasOrder-failed offers w w' step store.BadRecord order tried after = absurd after
 HasOrder-failed offers w w' step store.OutOfMemory order tried after = absurd after
 
 -- ---- all steps

@@ -176,9 +176,9 @@ answer_done p kept kept' k confirm counted is here next answer stands honest w s
     )
 
 -- what is kept where the store holds something else
-with_held : (p : Parts) (w : WorldState) (held : Option Saved) (honest : Bool) (held' : Option Saved) → Stands p w
-    → held ≡ held' → Stands (record p { held = held; honest = honest }) (record w { held = held' })
-with_held p w held honest held' st same = record {
+with_held : (p : Parts) (w : WorldState) (held : Option Saved) (honest : Bool) (failed' : ℕ) (held' : Option Saved) → Stands p w
+    → held ≡ held' → Stands (record p { held = held; honest = honest; failed = failed' }) (record w { held = held' })
+with_held p w held honest failed' held' st same = record {
   history = st.history;
   held = same;
   window = st.window;
@@ -200,14 +200,15 @@ saves_next w course is =
     ap (λ (s : Option Course). s >>= (λ course. done (record w { held = Some (progress_of course) }))) is
 
 -- the session saves
-pub save_done : (p : Parts) (kept : Kept) (held : Option Saved) (honest : Bool) → p.session ≡ Some kept
+pub save_done : (p : Parts) (kept : Kept) (held : Option Saved) (honest : Bool) (failed' : ℕ) → p.session ≡ Some kept
     → ((course : Course) → StandsFor kept course → held ≡ Some (progress_of course))
-    → Moves p Save (Ok Done) (record p { held = held; honest = honest })
-save_done p kept held honest' is saved honest w st =
-    let at = course_of p w kept st is in (
+    → Moves p Save (Ok Done) (record p { held = held; honest = honest; failed = failed' })
+save_done p kept held honest' failed' is saved honest w st =
+    let at = course_of p w kept st is in
+    (
       record w { held = Some (progress_of at.course) },
       (
-        with_held p w held honest' (Some (progress_of at.course)) st (saved at.course at.stands),
+        with_held p w held honest' failed' (Some (progress_of at.course)) st (saved at.course at.stands),
         saves_next w at.course at.is,
       ),
     )
@@ -220,31 +221,31 @@ pub save_failed : (p : Parts) (kept : Kept) (held : Option Saved) (honest : Bool
     (failed failed' : ℕ) → p.session ≡ Some kept
     → ((course : Course) → StandsFor kept course → (held ≡ p.held) ⊎ (held ≡ Some (progress_of course)))
     → (why ≡ store.OutOfMemory → held ≡ p.held) → MayRefuseSave failed failed' why
-    → Moves p Save (Err (store_refusal why)) (record p { held = held; honest = honest })
+    → Moves p Save (Err (store_refusal why)) (record p { held = held; honest = honest; failed = failed' })
 save_failed p kept held honest' store.ReadFault failed failed' is either lacking may honest w st = absurd may
 save_failed p kept held honest' store.BadRecord failed failed' is either lacking may honest w st = absurd may
 save_failed p kept held honest' store.OutOfMemory failed failed' is either lacking may honest w st =
     let at = course_of p w kept st is in
-    (w, (with_held p w held honest' w.held st (lacking refl ∙ st.held), (refl, (save_tried w at.course at.is, refl))))
+    (w, (with_held p w held honest' failed' w.held st (lacking refl ∙ st.held), (refl, (save_tried w at.course at.is, refl))))
 save_failed p kept held honest' store.WriteFault failed failed' is either lacking may honest w st =
     let at = course_of p w kept st is in
     elim (either at.course at.stands) [
       | inl same ↦ (
         w,
         (
-          with_held p w held honest' w.held st (same ∙ st.held),
-          (refl, (save_tried w at.course at.is, inl refl)),
+          with_held p w held honest' failed' w.held st (same ∙ st.held),
+          (refl, (save_tried w at.course at.is, (progress_of at.course, ap (λ (s : Option Course). option_map progress_of s) at.is, inl refl))),
         ),
       )
       | inr new ↦ (
         record w { held = Some (progress_of at.course) },
         (
-          with_held p w held honest' (Some (progress_of at.course)) st new,
+          with_held p w held honest' failed' (Some (progress_of at.course)) st new,
           (
             refl,
             (
               save_tried w at.course at.is,
-              inr (progress_of at.course, ap (λ (s : Option Course). option_map progress_of s) at.is, refl),
+              (progress_of at.course, ap (λ (s : Option Course). option_map progress_of s) at.is, inr refl),
             ),
           ),
         ),
@@ -264,10 +265,10 @@ start_tried : (w : WorldState) → w.session ≡ None → IsTried (next_by offer
 start_tried w down =
     subst IsTried (sym (starts_next w (begun w.held) down refl)) (started_tried w (begun w.held))
 
-pub start_done : (p : Parts) (kept : Kept) (held : Option Saved) (honest : Bool) → p.session ≡ None
+pub start_done : (p : Parts) (kept : Kept) (held : Option Saved) (honest : Bool) (failed' : ℕ) → p.session ≡ None
     → HasStarted p.honest p.held held p.window kept
-    → Moves p Start (Ok Done) (record p { held = held; honest = honest; session = Some kept })
-start_done p kept held honest' down has honest w st =
+    → Moves p Start (Ok Done) (record p { held = held; honest = honest; failed = failed'; session = Some kept })
+start_done p kept held honest' failed' down has honest w st =
     let begins : begun w.held ≡ Some has.saved = ap begun (sym st.held) ∙ ap begun (sym (has.given honest))
     ∙ has.begins in (
       record w { held = Some has.saved; session = Some (new_course has.saved w.window) },
@@ -294,21 +295,27 @@ start_done p kept held honest' down has honest w st =
 pub start_failed : (p : Parts) (held : Option Saved) (honest : Bool) (why : StartError) (failed failed' : ℕ)
     → p.session ≡ None
     → MayRefuseStart p.honest p.held held failed failed' why
-    → Moves p Start (Err (start_refusal why)) (record p { held = held; honest = honest })
+    → Moves p Start (Err (start_refusal why)) (record p { held = held; honest = honest; failed = failed' })
 start_failed p held honest' (start.Store store.ReadFault) failed failed' down may honest w st =
-    (w, (with_held p w held honest' w.held st (may.0 ∙ st.held), (refl, (start_tried w (no_course p w st down), refl))))
+    (
+      w,
+      (
+        with_held p w held honest' failed' w.held st (may.0 ∙ st.held),
+        (refl, (start_tried w (no_course p w st down), (refl, refl))),
+      ),
+    )
 start_failed p held honest' (start.Store store.BadRecord) failed failed' down may honest w st = absurd (may.1 honest)
 start_failed p held honest' (start.Store store.OutOfMemory) failed failed' down may honest w st = absurd may
 start_failed p held honest' (start.Store store.WriteFault) failed failed' down may honest w st =
     let half = may.0 honest in
     let tried = start_tried w (no_course p w st down) in
     elim half.held [
-      | inl same ↦ (w, (with_held p w held honest' w.held st (same ∙ st.held), (refl, (tried, inl refl))))
+      | inl same ↦ (w, (with_held p w held honest' failed' w.held st (same ∙ st.held), (refl, (tried, (half.saved, ap begun (sym st.held) ∙ half.begins, inl refl)))))
       | inr new ↦ (
         record w { held = Some half.saved },
         (
-          with_held p w held honest' (Some half.saved) st new,
-          (refl, (tried, inr (half.saved, ap begun (sym st.held) ∙ half.begins, refl))),
+          with_held p w held honest' failed' (Some half.saved) st new,
+          (refl, (tried, (half.saved, ap begun (sym st.held) ∙ half.begins, inr refl))),
         ),
       )
     ]
@@ -316,14 +323,15 @@ start_failed p held honest' start.SessionsExhausted failed failed' down may hone
     let same = may.1 honest ∙ st.held in (
       w,
       (
-        with_held p w held honest' w.held st same,
+        with_held p w held honest' failed' w.held st same,
         (starts_next w None (no_course p w st down) (ap begun (sym same) ∙ may.0), refl),
       ),
     )
-start_failed p held honest' start.OutOfMemory failed failed' down may honest w st = (
-  w,
-  (
-    with_held p w held honest' w.held st (may honest ∙ st.held),
-    (refl, (start_tried w (no_course p w st down), refl)),
-  ),
-)
+start_failed p held honest' start.OutOfMemory failed failed' down may honest w st =
+    (
+      w,
+      (
+        with_held p w held honest' failed' w.held st (may honest ∙ st.held),
+        (refl, (start_tried w (no_course p w st down), refl)),
+      ),
+    )

@@ -218,13 +218,14 @@ next_leaves P offers w s (Err NotEnabled) w' next before held holds = subst P (s
 next_leaves P offers w s (Err (Refused why)) w' next before held holds = subst P (sym next.1) before
 next_leaves P offers w s (Err SessionsExhausted) w' next before held holds = subst P (sym next.1) before
 next_leaves P offers w s (Err OutOfMemory) w' next before held holds = subst P (sym next.1.1) before
-next_leaves P offers w s (Err (Store store.ReadFault)) w' next before held holds = subst P (sym next.1.1) before
-next_leaves P offers w s (Err (Store store.WriteFault)) w' next before held holds =
-    elim next.1.1 [
+next_leaves P offers w s (Err (Store store.ReadFault)) w' (uses, (tried, (loads, same))) before held holds =
+    subst P (sym same) before
+next_leaves P offers w s (Err (Store store.WriteFault)) w' (uses, (tried, (saved, is, either))) before held holds =
+    elim either [
       | inl same ↦ subst P (sym same) before
-      | inr saved ↦ subst P (sym saved.2) (held saved.0)
+      | inr new ↦ subst P (sym new) (held saved)
     ]
-next_leaves P offers w s (Err (Store store.BadRecord)) w' next before held holds = subst P (sym next.1.1) before
+next_leaves P offers w s (Err (Store store.BadRecord)) w' next before held holds = absurd next.1.1
 next_leaves P offers w s (Err (Store store.OutOfMemory)) w' next before held holds = absurd next.1.1
 
 AreQueued-next : (offers : Offered) (w : WorldState) (s : Step) (answer : Result Did StepError) (w' : WorldState)

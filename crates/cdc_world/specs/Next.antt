@@ -269,12 +269,18 @@ IsTried (Ok after) = Unit {0}
 IsTried (Err SessionsExhausted) = Unit {0}
 IsTried (Err _) = ⊥
 
--- the world after a store failed: as it was, or, where a save failed, with the new record held
+-- the step reads the store
+abbrev pub loads : Step → Bool
+loads Start = true
+loads _ = false
+
+-- the world after a store failed: as it was, where it failed to load; as it was or with the new record held, where it
+-- failed to save one; an honest store holds nothing else than a record
 abbrev pub AfterFailure : WorldState → Step → StoreError → WorldState → Type 0
-AfterFailure w step store.ReadFault w' = w' ≡ w
+AfterFailure w step store.ReadFault w' = IsTrue (loads step) × (w' ≡ w)
 AfterFailure w step store.WriteFault w' =
-    (w' ≡ w) ⊎ ((saved : Saved) × (saves w step ≡ Some saved) × (w' ≡ record w { held = Some saved }))
-AfterFailure w step store.BadRecord w' = w' ≡ w
+    (saved : Saved) × (saves w step ≡ Some saved) × ((w' ≡ w) ⊎ (w' ≡ record w { held = Some saved }))
+AfterFailure w step store.BadRecord w' = ⊥
 AfterFailure w step store.OutOfMemory w' = ⊥
 
 -- a step may be answered so, and leave this world: as `next_by` says, or the store failed, or memory ran out, which

@@ -10,6 +10,9 @@ use Rattle.cdc_message.specs.declared.items.Item.{Item}
 use Rattle.cdc_message.specs.declared.packets.Confirm.{Confirm}
 use Rattle.cdc_message.specs.declared.packets.Packet.{Packet}
 use Rattle.cdc_progress.specs.Records.{Saved}
+use Rattle.cdc_progress.specs.Stores.{IsCounted}
+use Rattle.cdc_progress.specs.declared.errors.StoreError.TheVariants as store
+use Rattle.cdc_world.specs.declared.steps.StepError.TheVariants.{NotEnabled, Refused, Store, SessionsExhausted, OutOfMemory}
 use Rattle.cdc_publisher.specs.Courses.{Course}
 use Rattle.cdc_publisher.specs.Kept.{Kept as SessionKept}
 use Rattle.cdc_publisher.specs.Stands.{StandsFor}
@@ -30,14 +33,14 @@ pub record SeatState : Type 0 where
   pub acks : List ℕ
 
 -- what a world keeps: the ledger's history; the broker; what the store holds, and whether it is honest; for how many
--- events a session waits; what the session keeps, if there is one; the packets and the confirms that were sent; how
--- many
+-- events a session waits; what the session keeps, if there is one; the packets and the confirms that were sent; how many
 -- of each have come; and the subscribers
 pub record Parts : Type 0 where
   pub history : History
   pub broker : BrokerState
   pub held : Option Saved
   pub honest : Bool
+  pub failed : ℕ
   pub window : ℕ
   pub session : Option SessionKept
   pub packets : List Packet
@@ -124,3 +127,22 @@ abbrev pub Plays : Parts → List Step → ℕ → Option StepError → Parts �
 Plays p steps done refusal p' =
     IsTrue p.honest → (w : WorldState) → Stands p w
     → ((w' : WorldState) × (Stands p' w' × PlaysTo w steps done refusal w'))
+
+-- a step that is refused for the store's sake is one in which the store counted a failure
+abbrev pub IsStoreCounted : ℕ → ℕ → StepError → Type 0
+IsStoreCounted before after (Store store.ReadFault) = IsCounted before after
+IsStoreCounted before after (Store store.WriteFault) = IsCounted before after
+IsStoreCounted before after (Store store.BadRecord) = Unit {0}
+IsStoreCounted before after (Store store.OutOfMemory) = ⊥
+IsStoreCounted before after NotEnabled = Unit {0}
+IsStoreCounted before after (Refused why) = Unit {0}
+IsStoreCounted before after SessionsExhausted = Unit {0}
+IsStoreCounted before after OutOfMemory = Unit {0}
+
+-- a step isn't refused for the store's sake
+abbrev pub IsNotOfStore : StepError → Type 0
+IsNotOfStore (Store why) = ⊥
+IsNotOfStore NotEnabled = Unit {0}
+IsNotOfStore (Refused why) = Unit {0}
+IsNotOfStore SessionsExhausted = Unit {0}
+IsNotOfStore OutOfMemory = Unit {0}

@@ -1,12 +1,13 @@
 //! What the connector's session does with the ledger's events, and with what the broker says.
 
-ghost use Rattle.std.specs.Prelude.{◌≡◌, ◌≤◌, IfOk, length, take};
+ghost use Rattle.std.specs.Prelude.{◌≡◌, ◌≤◌, IfErr, IfOk, length, take};
 ghost use Rattle.cdc_ledger.specs.Events.{events as events_of};
 ghost use Rattle.cdc_log.specs.Log.{events_after};
 ghost use Rattle.cdc_publisher.specs.Courses.{Course};
 ghost use Rattle.cdc_publisher.specs.Offers.{IsReply};
 ghost use Rattle.cdc_publisher.specs.Stands.{StandsFor};
 ghost use Rattle.cdc_world.specs.Next.{confirmed, counts, none_follow as none_follows};
+ghost use Rattle.cdc_world.specs.Stands.{IsNotOfStore};
 ghost use Rattle.cdc_world.specs.Turns.{Offers, Sends};
 
 use crate::steps::StepError;
@@ -19,7 +20,8 @@ use std::alloc::{AllocError, Global};
 
 /// The session is offered the events that it wants of the ledger's log.
 pub(crate) fn poll(alloc: Global, ledger: &Ledger, session: &mut Session) -> Result<(), StepError>
-    ensures { Offers ledger.now session.old result session.new }
+    ensures offers { Offers ledger.now session.old result session.new }
+    ensures refusals { IfErr result IsNotOfStore }
 {
     let poll = session.wants().ok_or(StepError::NotEnabled)?;
     let events = read(alloc, ledger, poll)?;
@@ -58,6 +60,7 @@ pub(crate) fn publish(
 ) -> Result<(), StepError>
     ensures sends { Sends session.old packets.old.items result session.new packets.new.items }
     ensures grows { length packets.old.items ≤ length packets.new.items }
+    ensures refusals { IfErr result IsNotOfStore }
 {
     if !session.has_packet() {
         return Err(StepError::NotEnabled);

@@ -1,12 +1,13 @@
 //! The world itself.
 
-ghost use Rattle.std.specs.Prelude.{◌≡◌, ◌+◌, ◌<◌, ◌≤◌, ◌==◌, ℕ, List, Some, IfOk, IfSome, IfNone, IsTrue, OnOk, length};
+ghost use Rattle.std.specs.Prelude.{◌≡◌, ◌+◌, ◌<◌, ◌≤◌, ◌==◌, ℕ, List, Some, IfOk, IfSome, IfNone, IfErr, IsTrue, OnOk, Err, length};
 ghost use Rattle.cdc_progress.specs.Records.{Saved};
+ghost use Rattle.cdc_progress.specs.Stores.{MayRefuseLoad};
 ghost use Rattle.cdc_subscriber.specs.Heard.{kept_of};
 ghost use Rattle.cdc_world.specs.Headline.{IsFaithful};
 ghost use Rattle.cdc_world.specs.Next.{IsReached};
 ghost use Rattle.cdc_world.specs.Queued.{kept_from};
-ghost use Rattle.cdc_world.specs.Stands.{Moves, Plays, Stands};
+ghost use Rattle.cdc_world.specs.Stands.{IsStoreCounted, Moves, Plays, Stands};
 ghost use Rattle.cdc_world.specs.Turns.{place_in};
 ghost use Rattle.cdc_world.specs.Worlds.{Subscription, WorldState, new_world, numbered};
 
@@ -66,6 +67,7 @@ impl<S: ProgressStore> Model for World<S> {
       broker = world.broker;
       held = S.held world.store;
       honest = S.is_honest world.store;
+      failed = S.failed world.store;
       window = world.window;
       session = world.session;
       packets = world.packets.items;
@@ -114,6 +116,7 @@ impl<S: ProgressStore> World<S> {
     /// record.
     pub fn step(&mut self, alloc: Global, step: &Step) -> Result<Did, StepError>
         ensures next { Moves self.old step.now result self.new }
+        ensures counted { IfErr result (IsStoreCounted self.old.failed self.new.failed) }
         ensures honest { self.new.honest ≡ self.old.honest }
     {
         match step {
@@ -186,7 +189,9 @@ impl<S: ProgressStore> World<S> {
     pub fn progress(&mut self) -> Result<Option<Progress>, StoreError>
         ensures held { IsTrue self.old.honest → (w : WorldState) → Stands self.old w
             → IfOk result (λ held. held ≡ w.held) }
-        ensures kept { IsTrue self.old.honest → self.new ≡ self.old }
+        ensures kept { IsTrue self.old.honest → self.new ≡ record self.old { failed = self.new.failed } }
+        ensures counted { IfErr result (MayRefuseLoad self.old.failed self.new.failed) }
+        ensures record { IsTrue self.old.honest → ¬ (result ≡ Err StoreError.BadRecord) }
         ensures honest { self.new.honest ≡ self.old.honest }
     {
         self.store.load()
@@ -229,6 +234,7 @@ impl<S: ProgressStore> World<S> {
     /// The ledger takes a batch.
     fn submit(&mut self, alloc: Global, batch: &Batch) -> Result<Did, StepError>
         ensures next { Moves self.old (Step.Submit batch.now) result self.new }
+        ensures counted { IfErr result (IsStoreCounted self.old.failed self.new.failed) }
         ensures honest { self.new.honest ≡ self.old.honest }
     {
         Ok(Did::Submitted(self.ledger.submit(alloc, batch)?))
@@ -237,6 +243,7 @@ impl<S: ProgressStore> World<S> {
     /// The ledger closes.
     fn close_ledger(&mut self) -> Result<Did, StepError>
         ensures next { Moves self.old Step.CloseLedger result self.new }
+        ensures counted { IfErr result (IsStoreCounted self.old.failed self.new.failed) }
         ensures honest { self.new.honest ≡ self.old.honest }
     {
         self.ledger.close();
@@ -246,6 +253,7 @@ impl<S: ProgressStore> World<S> {
     /// The connector starts a session, where it is down.
     fn start(&mut self, alloc: Global) -> Result<Did, StepError>
         ensures next { Moves self.old Step.Start result self.new }
+        ensures counted { IfErr result (IsStoreCounted self.old.failed self.new.failed) }
         ensures honest { self.new.honest ≡ self.old.honest }
     {
         if self.session.is_some() {
@@ -258,6 +266,7 @@ impl<S: ProgressStore> World<S> {
     /// The session is offered the events that it wants.
     fn poll(&mut self, alloc: Global) -> Result<Did, StepError>
         ensures next { Moves self.old Step.Poll result self.new }
+        ensures counted { IfErr result (IsStoreCounted self.old.failed self.new.failed) }
         ensures honest { self.new.honest ≡ self.old.honest }
     {
         let Some(session) = &mut self.session else {
@@ -270,6 +279,7 @@ impl<S: ProgressStore> World<S> {
     /// The session sends its next packet.
     fn publish(&mut self, alloc: Global) -> Result<Did, StepError>
         ensures next { Moves self.old Step.Publish result self.new }
+        ensures counted { IfErr result (IsStoreCounted self.old.failed self.new.failed) }
         ensures honest { self.new.honest ≡ self.old.honest }
     {
         let Some(session) = &mut self.session else {
@@ -282,6 +292,7 @@ impl<S: ProgressStore> World<S> {
     /// The next packet to come, if it has this number, comes to the broker.
     fn arrive(&mut self, alloc: Global, k: u64) -> Result<Did, StepError>
         ensures next { Moves self.old (Step.Arrive k) result self.new }
+        ensures counted { IfErr result (IsStoreCounted self.old.failed self.new.failed) }
         ensures honest { self.new.honest ≡ self.old.honest }
     {
         if !is_next(self.arrivals, k) {
@@ -298,6 +309,7 @@ impl<S: ProgressStore> World<S> {
     /// The next confirm to come, if it has this number, comes to the session.
     fn answer(&mut self, k: u64) -> Result<Did, StepError>
         ensures next { Moves self.old (Step.Answer k) result self.new }
+        ensures counted { IfErr result (IsStoreCounted self.old.failed self.new.failed) }
         ensures honest { self.new.honest ≡ self.old.honest }
     {
         let Some(session) = &mut self.session else {
@@ -317,6 +329,7 @@ impl<S: ProgressStore> World<S> {
     /// The session saves its progress.
     fn save(&mut self) -> Result<Did, StepError>
         ensures next { Moves self.old Step.Save result self.new }
+        ensures counted { IfErr result (IsStoreCounted self.old.failed self.new.failed) }
         ensures honest { self.new.honest ≡ self.old.honest }
     {
         let Some(session) = &self.session else {
@@ -329,6 +342,7 @@ impl<S: ProgressStore> World<S> {
     /// The queue of a subscriber hands out its next delivery.
     fn send(&mut self, alloc: Global, i: u64) -> Result<Did, StepError>
         ensures next { Moves self.old (Step.Send i) result self.new }
+        ensures counted { IfErr result (IsStoreCounted self.old.failed self.new.failed) }
         ensures honest { self.new.honest ≡ self.old.honest }
     {
         let place = place_of(i, self.seats.len()).ok_or(StepError::NotEnabled)?;
@@ -339,6 +353,7 @@ impl<S: ProgressStore> World<S> {
     /// A subscriber takes the first delivery that is on its way to it.
     fn take(&mut self, alloc: Global, i: u64) -> Result<Did, StepError>
         ensures next { Moves self.old (Step.Take i) result self.new }
+        ensures counted { IfErr result (IsStoreCounted self.old.failed self.new.failed) }
         ensures honest { self.new.honest ≡ self.old.honest }
     {
         let place = place_of(i, self.seats.len()).ok_or(StepError::NotEnabled)?;

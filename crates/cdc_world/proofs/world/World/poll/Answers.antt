@@ -8,4 +8,4 @@ use Rattle.cdc_world.proofs.world.World.poll.Goals as goal
 pub returns-clause-next : goal.returns-clause-next
 returns-clause-next g c =
     at_entry Poll (Ok Done) c.self.view_is
-    (poll_done _ c.in-Some.session c.poll.new.session c.in-Some.is c.in_ok-poll.ensures)
+    (poll_done _ c.in-Some.session c.poll.new.session c.in-Some.is c.in_ok-poll.ensures.offers)

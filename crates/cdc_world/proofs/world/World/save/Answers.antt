@@ -16,4 +16,4 @@ returns-in_err-save-clause-next g c =
 pub returns-clause-next : goal.returns-clause-next
 returns-clause-next g c =
     at_entry Save (Ok Done) c.self.view_is
-    (save_done _ c.in-Some.session _ _ c.in-Some.is c.in_ok-save.ensures.saved)
+    (save_done _ c.in-Some.session _ _ _ c.in-Some.is c.in_ok-save.ensures.saved)

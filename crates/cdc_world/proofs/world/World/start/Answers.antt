@@ -17,5 +17,5 @@ returns-in_err-start-clause-next g c =
 pub returns-clause-next : goal.returns-clause-next
 returns-clause-next g c =
     at_entry Start (Ok Done) c.self.view_is
-    (start_done _ c.in_ok-start.field-0 _ _ (none_of _ (sym c.is_some.ensures
+    (start_done _ c.in_ok-start.field-0 _ _ _ (none_of _ (sym c.is_some.ensures
     ∙ c.if-is_some.false)) c.in_ok-start.ensures.ok)
