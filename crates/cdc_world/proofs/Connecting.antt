@@ -1,5 +1,5 @@
 -- What is kept after each step of the connector, and the state that it stands for.
-use Rattle.std.proofs.Common.{◌≡◌, ℕ, ◌+◌, ◌==◌, Bool, true, false, IsTrue, List, [], ◌∷◌, ◌++◌, Option, Some, None, Result, Ok, Err, refl, sym, ap, ap₂, ◌∙◌, subst, take, inl, inr}
+use Rattle.std.proofs.Common.{◌≡◌, ℕ, ◌+◌, ◌==◌, Bool, true, false, List, [], ◌∷◌, ◌++◌, Option, Some, None, Ok, Err, refl, sym, ap, ap₂, ◌∙◌, subst, take, inl, inr}
 use Rattle.std.specs.Prelude.{◌⊎◌, is_some, option_map, if◌then◌else◌}
 use Rattle.std.specs.List.{slice_get}
 use Rattle.cdc_ledger.specs.Events.{events}
@@ -14,16 +14,13 @@ use Rattle.cdc_progress.specs.declared.errors.StoreError.TheVariants as store
 use Rattle.cdc_publisher.specs.Courses.{Course, begun, new_course, next_packet, progress_of, wanted, with_offer, with_sent}
 use Rattle.cdc_publisher.specs.Kept.{Kept}
 use Rattle.cdc_publisher.specs.Stands.{StandsFor}
-use Rattle.cdc_publisher.specs.Starts.{HasStarted, IsHalfSaved, MayRefuseStart}
+use Rattle.cdc_publisher.specs.Starts.{HasStarted, MayRefuseStart}
 use Rattle.cdc_publisher.specs.declared.errors.StartError.{StartError}
 use Rattle.cdc_publisher.specs.declared.errors.StartError.TheVariants as start
 use Rattle.cdc_publisher.specs.declared.session.Poll.{Poll}
 use Rattle.cdc_world.specs.declared.steps.Did.TheVariants.{Counted, Done}
-use Rattle.cdc_world.specs.declared.steps.Step.{Step}
 use Rattle.cdc_world.specs.declared.steps.Step.TheVariants.{Start, Poll as PollStep, Publish as PublishStep, Answer, Save}
-use Rattle.cdc_world.specs.declared.steps.StepError.{StepError}
-use Rattle.cdc_world.specs.declared.steps.StepError.TheVariants.{NotEnabled, Store, SessionsExhausted, OutOfMemory}
-use Rattle.cdc_world.specs.Next.{IsTried, Next, Outcome, ◌>>=◌, answered, confirmed, counts, done, next_by, none_follow, offered, polled, sending, started, starting}
+use Rattle.cdc_world.specs.Next.{IsTried, ◌>>=◌, answered, confirmed, counts, done, next_by, none_follow, offered, polled, sending, started, starting}
 use Rattle.cdc_world.specs.Refusals.{start_refusal, store_refusal}
 use Rattle.cdc_world.specs.Stands.{Moves, Parts, SessionStands, Stands}
 use Rattle.cdc_world.specs.Turns.{Offers, OffersAt, Sends, SendsAt}

@@ -1,9 +1,8 @@
 -- Elements by their numbers, and what stands at them.
-use Rattle.std.proofs.Common.{◌≡◌, ℕ, ◌+◌, ◌-◌, ◌<◌, ◌≤◌, ◌==◌, Bool, true, false, List, [], ◌∷◌, Some, None, Option, zero, suc, refl, sym, ap, ◌∙◌, length, map, get_or, arith, subst}
+use Rattle.std.proofs.Common.{◌≡◌, ℕ, ◌+◌, ◌-◌, ◌<◌, ◌==◌, Bool, true, false, List, [], ◌∷◌, Some, None, zero, suc, refl, sym, ap, ◌∙◌, length, map, get_or, arith}
 use Rattle.std.specs.Prelude.{nat_lt, option_map, if◌then◌else◌}
 use Rattle.std.specs.List.{slice_get}
-use Rattle.std.proofs.lemmas.List.{length-map}
-use Rattle.std.proofs.lemmas.Option.{slice_get-map, slice_get_past, slice_get_read}
+use Rattle.std.proofs.lemmas.Option.{slice_get-map, slice_get_read}
 use Rattle.cdc_world.specs.declared.seats.Seat.{Seat}
 use Rattle.cdc_world.specs.Turns.{place_in, seat_state}
 use Rattle.cdc_world.specs.Worlds.{numbered}

@@ -1,11 +1,11 @@
 -- Steps that are all done, one more at a time, and where they stop.
-use Rattle.std.proofs.Common.{◌≡◌, ℕ, ◌+◌, ◌<◌, ◌≤◌, IsTrue, List, [], ◌∷◌, ◌++◌, Some, None, Ok, Err, Result, zero, suc, refl, sym, ap, ◌∙◌, subst, length, take, drop, get_or, arith, drop-cons}
+use Rattle.std.proofs.Common.{◌≡◌, ℕ, ◌+◌, ◌<◌, IsTrue, List, [], ◌∷◌, ◌++◌, Some, None, Ok, Err, zero, suc, refl, sym, ap, ◌∙◌, subst, length, take, drop, get_or, arith}
 use Rattle.std.proofs.lemmas.List.{take_more}
 use Rattle.cdc_world.specs.declared.steps.Did.{Did}
 use Rattle.cdc_world.specs.declared.steps.Step.{Step}
 use Rattle.cdc_world.specs.declared.steps.StepError.{StepError}
 use Rattle.cdc_world.specs.Next.{Next}
-use Rattle.cdc_world.specs.Stands.{DoesAll, Moves, Parts, Plays, PlaysTo, Stands, StopsAt}
+use Rattle.cdc_world.specs.Stands.{DoesAll, Moves, Parts, Plays, Stands, StopsAt}
 use Rattle.cdc_world.specs.Worlds.{WorldState}
 
 -- so many of these steps are done

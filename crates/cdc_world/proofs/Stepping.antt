@@ -1,13 +1,12 @@
 -- What is kept after each step, and the state that it stands for.
-use Rattle.std.proofs.Common.{◌≡◌, ◌≢◌, ℕ, ◌+◌, ◌-◌, ◌<◌, ◌≤◌, ◌==◌, ◌&&◌, Bool, true, false, IsTrue, List, [], ◌∷◌, ◌++◌, Option, Some, None, Result, Ok, Err, zero, suc, refl, sym, ap, ap₂, ◌∙◌, subst, map, length, take, drop, get_or, replicate, inl, inr, arith}
-use Rattle.std.specs.Prelude.{◌⊎◌, MatchResult, is_ok, nat_lt, option_map, slice_set, unwrap_or, if◌then◌else◌}
+use Rattle.std.proofs.Common.{◌≡◌, ℕ, ◌+◌, ◌-◌, ◌<◌, ◌≤◌, ◌==◌, ◌&&◌, Bool, true, false, IsTrue, List, [], ◌∷◌, ◌++◌, Option, Some, None, Result, Ok, Err, refl, sym, ap, ap₂, ◌∙◌, subst, map, length, drop, get_or, replicate, inl, inr, arith}
+use Rattle.std.specs.Prelude.{MatchResult, is_ok, nat_lt, option_map, slice_set, unwrap_or, if◌then◌else◌}
 use Rattle.std.specs.List.{slice_get}
 use Rattle.std.specs.Result.{IsErrAnd}
-use Rattle.std.specs.declared.alloc.AllocError.{AllocError}
 use Rattle.std.proofs.Math.Seq.{map-set_same}
 use Rattle.std.proofs.lemmas.List.{length-map, length-replicate, map-set, set-get_or}
-use Rattle.std.proofs.lemmas.Option.{get_or_from_slice_get, slice_get-map, slice_get_past, slice_get_within}
-use Rattle.cdc_broker.specs.Broker.{BrokerState, connected, empty_broker, nobody, published, queue_of, with_queue}
+use Rattle.std.proofs.lemmas.Option.{get_or_from_slice_get, slice_get-map}
+use Rattle.cdc_broker.specs.Broker.{BrokerState, empty_broker, nobody, queue_of, with_queue}
 use Rattle.cdc_broker.specs.Queues.{QueueState, empty_queue, moved_on, next_delivery as next_of_queue}
 use Rattle.cdc_ledger.specs.History.{History, empty_history}
 use Rattle.cdc_match.specs.Arguments.{Arguments}
@@ -18,10 +17,7 @@ use Rattle.cdc_message.specs.declared.packets.Confirm.{Confirm}
 use Rattle.cdc_message.specs.declared.packets.Packet.{Packet}
 use Rattle.cdc_message.specs.declared.packets.Packet.TheVariants.{Connect, Publish}
 use Rattle.cdc_progress.specs.Records.{Saved}
-use Rattle.cdc_publisher.specs.Courses.{Course, begun, new_course, next_packet, progress_of, wanted, with_offer, with_sent}
 use Rattle.cdc_publisher.specs.Kept.{Kept as SessionKept}
-use Rattle.cdc_publisher.specs.Stands.{StandsFor}
-use Rattle.cdc_publisher.specs.declared.session.Poll.{Poll}
 use Rattle.cdc_subscriber.specs.Answers.{TakesItem, answer_to}
 use Rattle.cdc_subscriber.specs.declared.errors.TakeError.{TakeError}
 use Rattle.cdc_subscriber.specs.Heard.{Heard, kept_of, next}
@@ -30,17 +26,17 @@ use Rattle.cdc_subscriber.specs.declared.subscriber.Taking.{Taking}
 use Rattle.cdc_types.specs.declared.batches.Batch.{Batch}
 use Rattle.cdc_types.specs.declared.batches.BatchResults.{BatchResults}
 use Rattle.cdc_world.specs.declared.steps.Did.{Did}
-use Rattle.cdc_world.specs.declared.steps.Did.TheVariants.{Submitted, Arrived, Counted, Took, Done}
+use Rattle.cdc_world.specs.declared.steps.Did.TheVariants.{Submitted, Arrived, Took, Done}
 use Rattle.cdc_world.specs.declared.steps.Step.{Step}
-use Rattle.cdc_world.specs.declared.steps.Step.TheVariants.{Submit, CloseLedger, Start, Poll as PollStep, Publish as PublishStep, Arrive, Answer, Save, Send, Take}
+use Rattle.cdc_world.specs.declared.steps.Step.TheVariants.{Submit, CloseLedger, Arrive, Send, Take}
 use Rattle.cdc_world.specs.declared.steps.StepError.{StepError}
 use Rattle.cdc_world.specs.declared.steps.StepError.TheVariants.{NotEnabled, OutOfMemory}
 use Rattle.cdc_world.specs.Next.{Next, Outcome, ◌>>=◌, IsTried, confirms_of, arrived, done, first_flight, next_by, next_delivery, offered, submitted, takes_memory, taking_in, with_sending, with_taking}
-use Rattle.cdc_world.specs.Packets.{current_session, expected_tag, expected_after, is_tag, is_taken, items_of, session_after}
+use Rattle.cdc_world.specs.Packets.{expected_after, is_tag, is_taken, items_of, session_after}
 use Rattle.cdc_world.specs.Stands.{Moves, Parts, QueueView, SeatState, SessionStands, Stands, queue_for, seat_of, view_of}
 use Rattle.cdc_world.specs.Turns.{ComesTo, HandsAt, HasTaken, TakesAt, after_packet, empty_seat, place_in, seat_state, takes_packet}
 use Rattle.cdc_world.specs.declared.seats.Seat.{Seat}
-use Rattle.cdc_world.specs.Worlds.{Subscription, WorldState, new_subscription, new_world, numbered, queue_in, taken_items, with_numbered}
+use Rattle.cdc_world.specs.Worlds.{Subscription, WorldState, new_subscription, new_world, numbered, taken_items, with_numbered}
 use Rattle.cdc_world.proofs.Places.{IsPlace, numbered_next, numbered_place, place_is, seat_here, slice_get_made}
 use Rattle.cdc_world.proofs.Queueing.{current_session-push, expected_tag-push, items_of-connected, items_of-published, queues_after}
 

@@ -1,5 +1,5 @@
 -- What a subscriber may rely on, whatever steps were taken.
-use Rattle.std.specs.Prelude.{◌≡◌, ℕ, true, List, Option, unwrap_or}
+use Rattle.std.specs.Prelude.{◌≡◌, ℕ, true, List, unwrap_or}
 use Rattle.cdc_ledger.specs.Balances.{as_of}
 use Rattle.cdc_ledger.specs.Events.{events}
 use Rattle.cdc_ledger.specs.History.{History}

@@ -1,7 +1,6 @@
 -- What a step answers, and the world after it.
-use Rattle.std.specs.Prelude.{◌≡◌, ◌≢◌, ◌⊎◌, ℕ, ◌+◌, ◌-◌, ◌==◌, ◌&&◌, ◌||◌, max, nat_le, Bool, true, false, IsTrue, Option, Some, None, Result, Ok, Err, List, [], ◌∷◌, ◌++◌, length, take, slice_get, if◌then◌else◌}
-use Rattle.std.specs.Option.{ok_or, option_map}
-use Rattle.std.specs.Result.{IsOk}
+use Rattle.std.specs.Prelude.{◌≡◌, ◌⊎◌, ℕ, ◌+◌, ◌-◌, ◌==◌, ◌&&◌, ◌||◌, max, nat_le, Bool, true, false, IsTrue, Option, Some, None, Result, Ok, Err, List, [], ◌∷◌, ◌++◌, length, take, slice_get, if◌then◌else◌}
+use Rattle.std.specs.Option.{option_map}
 use Rattle.cdc_ledger.specs.declared.errors.BatchError.{BatchError}
 use Rattle.cdc_ledger.specs.Events.{events}
 use Rattle.cdc_ledger.specs.History.{History}
@@ -20,10 +19,8 @@ use Rattle.cdc_progress.specs.Records.{Saved}
 use Rattle.cdc_publisher.specs.Courses.{Course, begun, new_course, next_packet, progress_of, takes_confirm, wanted, with_confirm, with_offer, with_sent}
 use Rattle.cdc_publisher.specs.declared.session.Poll.{Poll}
 use Rattle.cdc_subscriber.specs.Answers.{answer_to}
-use Rattle.cdc_subscriber.specs.Heard.{Heard, kept_of, next}
-use Rattle.cdc_types.specs.declared.batches.Batch.{Batch}
+use Rattle.cdc_subscriber.specs.Heard.{kept_of, next}
 use Rattle.cdc_types.specs.declared.batches.BatchResults.{BatchResults}
-use Rattle.cdc_types.specs.declared.events.Event.{Event}
 use Rattle.cdc_world.specs.declared.steps.Did.{Did}
 use Rattle.cdc_world.specs.declared.steps.Did.TheVariants.{Submitted, Arrived, Counted, Took, Done}
 use Rattle.cdc_world.specs.declared.steps.Step.{Step}

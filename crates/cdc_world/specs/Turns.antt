@@ -20,7 +20,7 @@ use Rattle.cdc_subscriber.specs.declared.subscriber.Taking.{Taking}
 use Rattle.cdc_world.specs.declared.seats.Seat.{Seat}
 use Rattle.cdc_world.specs.declared.steps.StepError.{StepError}
 use Rattle.cdc_world.specs.declared.steps.StepError.TheVariants.{NotEnabled, OutOfMemory}
-use Rattle.cdc_world.specs.Next.{confirms_of, counts, confirmed, none_follow}
+use Rattle.cdc_world.specs.Next.{confirms_of, none_follow}
 use Rattle.cdc_world.specs.Packets.{is_tag}
 use Rattle.cdc_world.specs.Stands.{SeatState}
 

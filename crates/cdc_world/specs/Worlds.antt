@@ -1,6 +1,5 @@
 -- The world: all that the actors have done, as far as anything to come can depend on it.
-use Rattle.std.specs.Prelude.{ℕ, ◌-◌, ◌==◌, Option, Some, None, List, [], map, slice_get, slice_set, if◌then◌else◌}
-use Rattle.cdc_broker.specs.Queues.{QueueState}
+use Rattle.std.specs.Prelude.{ℕ, ◌-◌, ◌==◌, Option, None, List, [], map, slice_get, slice_set, if◌then◌else◌}
 use Rattle.cdc_ledger.specs.History.{History, empty_history}
 use Rattle.cdc_match.specs.Arguments.{Arguments}
 use Rattle.cdc_match.specs.Queue.{queue}

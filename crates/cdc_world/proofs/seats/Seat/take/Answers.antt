@@ -1,7 +1,6 @@
-use Rattle.std.proofs.Common.{refl, subst, ◌∙◌, ap, ◌++◌, ◌∷◌, [], sym, List, ℕ, Ok, Result, OnOk, arith, ◌<◌, length, ◌≡◌}
+use Rattle.std.proofs.Common.{refl, subst, ◌∙◌, ap, ◌++◌, ◌∷◌, [], List, ℕ, Ok, Result, OnOk, arith, ◌<◌, length, ◌≡◌}
 use Rattle.cdc_world.specs.Turns.{seat_state}
 use Rattle.cdc_world.proofs.Stepping.{answered_is, mapped_ok, taken_is}
-use Rattle.cdc_subscriber.specs.Kept.{Kept}
 use Rattle.cdc_subscriber.specs.declared.subscriber.Taking.{Taking}
 use Rattle.cdc_subscriber.specs.declared.errors.TakeError.{TakeError}
 use Rattle.cdc_subscriber.specs.Heard.{kept_of, next}

@@ -1,5 +1,4 @@
 use Rattle.std.proofs.Common.{Ok, sym, ◌∙◌}
-use Rattle.cdc_publisher.specs.declared.errors.StartError.{StartError}
 use Rattle.cdc_world.specs.declared.steps.Did.TheVariants.{Done}
 use Rattle.cdc_world.specs.declared.steps.Step.TheVariants.{Start}
 use Rattle.cdc_world.specs.Refusals.{start_refusal}
