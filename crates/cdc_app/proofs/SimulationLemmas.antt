@@ -4,6 +4,7 @@ use Rattle.std.specs.Prelude.{Option, Ok, Err, ◌==◌, is_some, string_bytes}
 use Rattle.std.specs.List.{slice_get}
 use Rattle.std.proofs.lemmas.List.{drop_more}
 use Rattle.std.proofs.lemmas.Option.{slice_get_within, get_or_from_slice_get}
+use Rattle.cdc_progress.specs.Records.{Saved}
 use Rattle.cdc_subscriber.specs.Heard.{kept_of}
 use Rattle.cdc_subscriber.specs.Kept.{Kept}
 use Rattle.cdc_subscriber.specs.Lines.{subscriber_text}
@@ -17,7 +18,8 @@ use Rattle.cdc_app.specs.declared.scripts.ClientBatch.{ClientBatch}
 use Rattle.cdc_app.specs.declared.simulations.Simulation.{Simulation}
 use Rattle.cdc_app.specs.declared.step_files.Act.{Act}
 use Rattle.cdc_app.specs.Private.Stages.{IsAt}
-use Rattle.cdc_app.specs.Simulations.{ActsTo, AnswersTo, PlaysTo, Stage, asked, did_text, moved_on, subscriptions_text}
+use Rattle.cdc_app.specs.Simulations.{ActsTo, AnswersTo, PlaysTo, Stage, asked, did_text, moved_on, progress_line, refusal_line, simulation_text, steps_line, subscriptions_text}
+use Rattle.cdc_app.proofs.TextLemmas.{pieces}
 
 -- the element at a place, and those behind it
 pub drop_found : {X : Type 0} (xs : List X) (i : ℕ) (x : X) → slice_get xs i ≡ Some x → drop i xs ≡ x ∷ drop (i + 1) xs
@@ -173,3 +175,24 @@ act_refused batches old new stage a step n why at named moved count lines = (
         (asked_at batches old stage a (Some (step, n)) at named) (moved.0, (moved.1.1, refl)),
   ),
 )
+
+-- the text of a world, piece by piece
+pub world_text : (simulation : Simulation) (stage : Stage) (done all : ℕ) (refusal : Option StepError)
+    (held : Option Saved) (with_steps with_refusal with_progress bytes text : List ℕ) → IsAt simulation stage
+    → stage.done ≡ done → with_steps ≡ string_bytes simulation.lines ++ steps_line done all
+    → with_refusal ≡ with_steps ++ refusal_line done refusal → held ≡ stage.world.held
+    → with_progress ≡ with_refusal ++ progress_line held → bytes ≡ with_progress
+    → text ≡ bytes ++ subscriptions_text 1 stage.world.subscriptions → text ≡ simulation_text all refusal stage
+world_text simulation stage done all refusal held with_steps with_refusal with_progress bytes text at count a b same c d e
+    =
+    let subscribers = subscriptions_text 1 stage.world.subscriptions in
+    let progress = progress_line stage.world.held in
+    let refused = refusal_line stage.done refusal in
+    let steps = steps_line stage.done all in
+    let first : with_steps ≡ stage.lines ++ steps = a ∙ ap₂ (λ t n. t ++ steps_line n all) at.lines (sym count) in
+    let second : with_refusal ≡ with_steps ++ refused = b ∙ ap (λ n. with_steps ++ refusal_line n refusal) (sym count) in
+    let third : with_progress ≡ with_refusal ++ progress = c ∙ ap (λ p. with_refusal ++ progress_line p) same in
+    let last : text ≡ with_progress ++ subscribers = e ∙ ap (λ t. t ++ subscribers) d in
+    pieces stage.lines with_steps text steps (refused ++ (progress ++ subscribers)) first
+    (pieces with_steps with_refusal text refused (progress ++ subscribers) second
+    (pieces with_refusal with_progress text progress subscribers third last))
