@@ -11,6 +11,7 @@ pub mod ConnSubmits
 pub mod Connecting
 pub mod ConnReached
 mod Examples
+pub mod Leading
 pub mod Places
 pub mod Playing
 pub mod Queueing

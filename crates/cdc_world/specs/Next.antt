@@ -280,8 +280,8 @@ AfterFailure w step store.WriteFault w' =
 AfterFailure w step store.BadRecord w' = ⊥
 AfterFailure w step store.OutOfMemory w' = ⊥
 
--- a step may be answered so, and leave this world: as `next_by` says, or the store failed, or memory ran out, which
--- leaves the world as it was
+-- a step may be answered so, and leave this world: as `next_by` says; or the store, which is honest, failed; or memory
+-- ran out, which leaves the world as it was
 abbrev pub NextBy : Offered → WorldState → Step → Result Did StepError → WorldState → Type 0
 NextBy offers w step (Ok did) w' = next_by offers w step ≡ Ok (did, w')
 NextBy offers w step (Err NotEnabled) w' = (next_by offers w step ≡ Err NotEnabled) × (w' ≡ w)
@@ -308,7 +308,7 @@ abbrev pub IsAtStart : Option Saved → Type 0
 IsAtStart None = Unit {0}
 IsAtStart (Some saved) = saved.timestamp ≡ 0
 
--- steps lead to this world from one in which nothing has happened, over a store without progress
+-- steps lead to this world from one in which nothing has happened, over a store that holds nothing or the timestamp 0
 pub record IsReachedBy (offers : Offered) (w : WorldState) : Type 0 where
   pub bindings : List Arguments
   pub window : ℕ

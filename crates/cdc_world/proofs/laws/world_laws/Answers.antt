@@ -1,3 +1,4 @@
+use Rattle.cdc_world.proofs.Leading.{IsReached-new, IsReached-next, IsReached-played}
 use Rattle.cdc_world.proofs.Reached.{faithful-reached_by}
 use Rattle.cdc_world.proofs.SubClosed.{AllStay-next}
 use Rattle.cdc_world.proofs.laws.world_laws.Goals as goal
@@ -7,3 +8,12 @@ returns-clause-faithful c = λ offers w reached i s found. faithful-reached_by o
 
 pub returns-clause-fixed : goal.returns-clause-fixed
 returns-clause-fixed c = AllStay-next
+
+pub returns-clause-begins : goal.returns-clause-begins
+returns-clause-begins c = IsReached-new
+
+pub returns-clause-goes_on : goal.returns-clause-goes_on
+returns-clause-goes_on c = IsReached-next
+
+pub returns-clause-plays : goal.returns-clause-plays
+returns-clause-plays c = IsReached-played
