@@ -1,12 +1,11 @@
 -- What a subscriber keeps of all that is published: it has applied its whole feed, and heard the end.
-use Rattle.std.proofs.Common.{◌≡◌, ℕ, ◌+◌, ◌-◌, ◌<◌, ◌≤◌, ◌^◌, zero, suc, Bool, true, false, List, [], ◌∷◌, ◌++◌, refl, sym, ap, ap₂, ◌∙◌, subst, map, length, get_or, append_assoc, append-nil, arith}
+use Rattle.std.proofs.Common.{◌≡◌, ℕ, ◌+◌, ◌-◌, ◌<◌, ◌≤◌, ◌^◌, zero, suc, Bool, true, false, List, [], ◌∷◌, ◌++◌, refl, sym, ap, ap₂, ◌∙◌, map, length, append_assoc, append-nil, arith}
 use Rattle.std.specs.Prelude.{All, AllPairs, ◌||◌, filter, fold, min, if◌then◌else◌}
 use Rattle.std.specs.List.{AllByRecursion, list_any}
 use Rattle.std.proofs.lemmas.List.{length-map}
 use Rattle.std.proofs.lemmas.List.Elements.{filter-append}
 use Rattle.std.proofs.lemmas.List.Folds.{list_any-append}
 use Rattle.std.proofs.lemmas.List.Sums.{fold-append}
-use Rattle.cdc_types.specs.declared.batches.Batch.{Batch}
 use Rattle.cdc_types.specs.declared.events.Entry.{Entry}
 use Rattle.cdc_types.specs.declared.events.Event.{Event}
 use Rattle.cdc_types.specs.Timestamps.{last_timestamp}
@@ -25,7 +24,7 @@ use Rattle.cdc_message.specs.Items.{TimestampsRise, events_of, rises}
 use Rattle.cdc_message.proofs.LineLaws.{events_of-map, rises-rising}
 use Rattle.cdc_message.proofs.RisesLaws.{events_of-push_end}
 use Rattle.cdc_subscriber.specs.Book.{accounts_of, book_of}
-use Rattle.cdc_subscriber.specs.Heard.{Heard, applied_of, has_ended, is_end, kept_of, next, nothing}
+use Rattle.cdc_subscriber.specs.Heard.{Heard, is_end, kept_of, next, nothing}
 use Rattle.cdc_subscriber.specs.Kept.{Kept}
 use Rattle.cdc_app.specs.declared.scripts.Script.{Script}
 use Rattle.cdc_app.specs.Feeds.{fed, hearing, line_of}

@@ -1,6 +1,6 @@
 -- Queues of a broker that are filled, one item after another, and taken, one delivery after another.
-use Rattle.std.proofs.Common.{◌≡◌, ℕ, ◌+◌, ◌-◌, ◌<◌, ◌≤◌, Bool, true, false, List, [], ◌∷◌, ◌++◌, Option, Some, None, refl, sym, ap, ap₂, ◌∙◌, subst, map, length, take, get_or, append-nil, arith}
-use Rattle.std.specs.Prelude.{nat_lt, slice_get, slice_set, option_map, if◌then◌else◌, IsTrue, ◌↔◌}
+use Rattle.std.proofs.Common.{◌≡◌, ℕ, ◌+◌, ◌-◌, ◌<◌, ◌≤◌, Bool, true, false, List, [], ◌∷◌, ◌++◌, Option, Some, None, refl, sym, ap, ap₂, ◌∙◌, map, length, take, append-nil, arith}
+use Rattle.std.specs.Prelude.{slice_get, slice_set, option_map, if◌then◌else◌, IsTrue, ◌↔◌}
 use Rattle.std.proofs.lemmas.Bool.{lt-ltb, false≢true}
 use Rattle.std.proofs.lemmas.List.{set-get_or, get_or-set_same, set-set, take_all, map_push}
 use Rattle.std.proofs.lemmas.List.Sums.{fold-append}
@@ -8,12 +8,12 @@ use Rattle.std.proofs.lemmas.Option.{unwrap_or-slice_get}
 use Rattle.cdc_broker.specs.Broker.{BrokerState, connected, empty_broker, published, queue_of, with_queue, tag_after, max_64, nobody}
 use Rattle.cdc_broker.specs.Queues.{QueueState, empty_queue, moved_on, next_delivery, queued, with_item}
 use Rattle.cdc_match.specs.Arguments.{Arguments}
-use Rattle.cdc_match.specs.Queue.{queue, takes_item}
+use Rattle.cdc_match.specs.Queue.{takes_item}
 use Rattle.cdc_message.specs.declared.items.Delivery.{Delivery}
 use Rattle.cdc_message.specs.declared.items.Item.{Item}
 use Rattle.cdc_message.specs.declared.items.Item.TheVariants.{Event as OfEvent, EndMark}
 use Rattle.cdc_types.specs.declared.events.Event.{Event}
-use Rattle.cdc_subscriber.specs.Heard.{Heard, nothing, next, kept_of}
+use Rattle.cdc_subscriber.specs.Heard.{nothing, next, kept_of}
 use Rattle.cdc_subscriber.specs.Kept.{Kept}
 use Rattle.cdc_app.specs.Feeds.{hearing}
 use Rattle.cdc_app.specs.Private.Queues.{TakesNext, filled, filled_queues, with_delivery}

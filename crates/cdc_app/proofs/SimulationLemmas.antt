@@ -1,5 +1,5 @@
 -- Simulations, act by act, and the subscribers of a world, one after another.
-use Rattle.std.proofs.Common.{◌≡◌, ◌∙◌, ℕ, ◌+◌, ◌-◌, ◌<◌, List, [], ◌∷◌, ◌++◌, Some, None, true, false, length, drop, append_assoc, append-nil, refl, sym, ap, ap₂, subst, inl, inr, arith, rules}
+use Rattle.std.proofs.Common.{◌≡◌, ◌∙◌, ℕ, ◌+◌, ◌-◌, List, [], ◌∷◌, ◌++◌, Some, None, true, false, drop, append_assoc, append-nil, refl, sym, ap, ap₂, subst, inl, inr, arith, rules}
 use Rattle.std.specs.Prelude.{Option, Ok, Err, ◌==◌, is_some, string_bytes}
 use Rattle.std.specs.List.{slice_get}
 use Rattle.std.proofs.lemmas.List.{drop_more}
@@ -12,7 +12,7 @@ use Rattle.cdc_world.specs.declared.steps.Did.{Did}
 use Rattle.cdc_world.specs.declared.steps.Step.{Step}
 use Rattle.cdc_world.specs.declared.steps.StepError.{StepError}
 use Rattle.cdc_world.specs.Next.{Next}
-use Rattle.cdc_world.specs.Stands.{Stands}
+use Rattle.cdc_world.specs.Stands.{Parts, Stands}
 use Rattle.cdc_world.specs.Worlds.{Subscription, WorldState, numbered}
 use Rattle.cdc_app.specs.declared.scripts.ClientBatch.{ClientBatch}
 use Rattle.cdc_app.specs.declared.simulations.Simulation.{Simulation}
@@ -183,16 +183,34 @@ pub world_text : (simulation : Simulation) (stage : Stage) (done all : ℕ) (ref
     → with_refusal ≡ with_steps ++ refusal_line done refusal → held ≡ stage.world.held
     → with_progress ≡ with_refusal ++ progress_line held → bytes ≡ with_progress
     → text ≡ bytes ++ subscriptions_text 1 stage.world.subscriptions → text ≡ simulation_text all refusal stage
-world_text simulation stage done all refusal held with_steps with_refusal with_progress bytes text at count a b same c d e
-    =
+world_text simulation stage done all refusal held with_steps with_refusal with_progress bytes text at count a b same c d
+    e =
     let subscribers = subscriptions_text 1 stage.world.subscriptions in
     let progress = progress_line stage.world.held in
     let refused = refusal_line stage.done refusal in
     let steps = steps_line stage.done all in
     let first : with_steps ≡ stage.lines ++ steps = a ∙ ap₂ (λ t n. t ++ steps_line n all) at.lines (sym count) in
-    let second : with_refusal ≡ with_steps ++ refused = b ∙ ap (λ n. with_steps ++ refusal_line n refusal) (sym count) in
+    let second : with_refusal ≡ with_steps ++ refused =
+    b ∙ ap (λ n. with_steps ++ refusal_line n refusal) (sym count) in
     let third : with_progress ≡ with_refusal ++ progress = c ∙ ap (λ p. with_refusal ++ progress_line p) same in
     let last : text ≡ with_progress ++ subscribers = e ∙ ap (λ t. t ++ subscribers) d in
     pieces stage.lines with_steps text steps (refused ++ (progress ++ subscribers)) first
     (pieces with_steps with_refusal text refused (progress ++ subscribers) second
     (pieces with_refusal with_progress text progress subscribers third last))
+
+-- what is kept stands for the same world, however often the store has failed
+pub stands_counted : (p : Parts) (w : WorldState) (failed : ℕ) → Stands p w → Stands (record p { failed = failed }) w
+stands_counted p w failed st = record {
+  history = st.history;
+  held = st.held;
+  window = st.window;
+  session = st.session;
+  packets = st.packets;
+  confirms = st.confirms;
+  connection = st.connection;
+  expected = st.expected;
+  queues = st.queues;
+  arrivals = st.arrivals;
+  answers = st.answers;
+  seats = st.seats;
+}

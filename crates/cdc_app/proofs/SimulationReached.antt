@@ -1,5 +1,5 @@
 -- The world that a simulation comes to is one that steps lead to, so each of its subscribers is faithful.
-use Rattle.std.proofs.Common.{◌≡◌, ℕ, ◌+◌, ◌<◌, List, [], ◌∷◌, Some, None, Ok, Err, length, get_or, ap, sym, subst, inl, inr, refl}
+use Rattle.std.proofs.Common.{◌≡◌, ℕ, ◌+◌, List, [], ◌∷◌, Some, None, Ok, Err, length, get_or, ap, subst, inl, inr}
 use Rattle.std.specs.Prelude.{Option, All}
 use Rattle.std.proofs.lemmas.Option.{slice_get-get_or}
 use Rattle.cdc_match.specs.Arguments.{Arguments}
@@ -7,7 +7,7 @@ use Rattle.cdc_world.specs.declared.steps.Step.{Step}
 use Rattle.cdc_world.specs.declared.steps.StepError.{StepError}
 use Rattle.cdc_world.specs.Headline.{IsFaithful}
 use Rattle.cdc_world.specs.Next.{IsReached, LeadsBy, offered}
-use Rattle.cdc_world.specs.Worlds.{Subscription, WorldState}
+use Rattle.cdc_world.specs.Worlds.{WorldState}
 use Rattle.cdc_world.proofs.Reached.{faithful-reached}
 use Rattle.cdc_app.specs.declared.scripts.ClientBatch.{ClientBatch}
 use Rattle.cdc_app.specs.declared.scripts.Script.{Script}

@@ -3,7 +3,7 @@ use Rattle.std.proofs.Common.{◌≡◌, ℕ, ◌+◌, ◌-◌, ◌<◌, List, [
 use Rattle.std.specs.Prelude.{All, slice_set}
 use Rattle.std.proofs.lemmas.List.{drop_more, drop-set-lt, take_more, length-set, length-take-le}
 use Rattle.std.proofs.lemmas.Option.{unwrap_or-slice_get}
-use Rattle.cdc_broker.specs.Broker.{BrokerState, queue_of, with_queue, nobody}
+use Rattle.cdc_broker.specs.Broker.{BrokerState, queue_of, nobody}
 use Rattle.cdc_broker.specs.Queues.{QueueState, empty_queue}
 use Rattle.cdc_subscriber.specs.Heard.{kept_of}
 use Rattle.cdc_subscriber.specs.Kept.{Kept}

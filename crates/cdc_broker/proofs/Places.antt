@@ -1,7 +1,7 @@
 -- Lists that agree up to a place, and queues that are prepared.
 use Rattle.std.proofs.Common.{◌≡◌, ℕ, ◌+◌, sym, ap, ◌∙◌, List, map, take, get_or, arith, Result, Ok, Err}
 use Rattle.std.specs.Prelude.{slice_set, OnErr}
-use Rattle.std.proofs.lemmas.List.{take-take, take-set}
+use Rattle.std.proofs.lemmas.List.{take-take}
 use Rattle.std.proofs.Math.Seq.{map-set_same}
 use Rattle.cdc_broker.specs.declared.queue.Queue.{Queue}
 use Rattle.cdc_broker.specs.Kept.{queue_state}

@@ -5,7 +5,6 @@ use Rattle.cdc_match.specs.declared.pairs.Mode.TheVariants as mode
 use Rattle.cdc_match.specs.Arguments.{Arguments}
 use Rattle.cdc_match.specs.Queue.{queue}
 use Rattle.cdc_message.specs.declared.items.Item.{Item}
-use Rattle.cdc_broker.specs.declared.broker.Refusal.{Refusal}
 use Rattle.cdc_broker.specs.declared.broker.Refusal.TheVariants.{WrongConnection, WrongTag}
 use Rattle.cdc_broker.specs.declared.broker.Taken.{Taken}
 use Rattle.cdc_broker.specs.declared.broker.Taken.TheVariants.{Accepted, Ignored}

@@ -173,8 +173,9 @@ answer_done p kept kept' k confirm counted is here next answer stands honest w s
     )
 
 -- what is kept where the store holds something else
-with_held : (p : Parts) (w : WorldState) (held : Option Saved) (honest : Bool) (failed' : ℕ) (held' : Option Saved) → Stands p w
-    → held ≡ held' → Stands (record p { held = held; honest = honest; failed = failed' }) (record w { held = held' })
+with_held : (p : Parts) (w : WorldState) (held : Option Saved) (honest : Bool) (failed' : ℕ) (held' : Option Saved)
+    → Stands p w → held ≡ held'
+    → Stands (record p { held = held; honest = honest; failed = failed' }) (record w { held = held' })
 with_held p w held honest failed' held' st same = record {
   history = st.history;
   held = same;
@@ -201,8 +202,7 @@ pub save_done : (p : Parts) (kept : Kept) (held : Option Saved) (honest : Bool) 
     → ((course : Course) → StandsFor kept course → held ≡ Some (progress_of course))
     → Moves p Save (Ok Done) (record p { held = held; honest = honest; failed = failed' })
 save_done p kept held honest' failed' is saved honest w st =
-    let at = course_of p w kept st is in
-    (
+    let at = course_of p w kept st is in (
       record w { held = Some (progress_of at.course) },
       (
         with_held p w held honest' failed' (Some (progress_of at.course)) st (saved at.course at.stands),
@@ -222,8 +222,13 @@ pub save_failed : (p : Parts) (kept : Kept) (held : Option Saved) (honest : Bool
 save_failed p kept held honest' store.ReadFault failed failed' is either lacking may honest w st = absurd may
 save_failed p kept held honest' store.BadRecord failed failed' is either lacking may honest w st = absurd may
 save_failed p kept held honest' store.OutOfMemory failed failed' is either lacking may honest w st =
-    let at = course_of p w kept st is in
-    (w, (with_held p w held honest' failed' w.held st (lacking refl ∙ st.held), (refl, (save_tried w at.course at.is, refl))))
+    let at = course_of p w kept st is in (
+      w,
+      (
+        with_held p w held honest' failed' w.held st (lacking refl ∙ st.held),
+        (refl, (save_tried w at.course at.is, refl)),
+      ),
+    )
 save_failed p kept held honest' store.WriteFault failed failed' is either lacking may honest w st =
     let at = course_of p w kept st is in
     elim (either at.course at.stands) [
@@ -231,7 +236,13 @@ save_failed p kept held honest' store.WriteFault failed failed' is either lackin
         w,
         (
           with_held p w held honest' failed' w.held st (same ∙ st.held),
-          (refl, (save_tried w at.course at.is, (progress_of at.course, ap (λ (s : Option Course). option_map progress_of s) at.is, inl refl))),
+          (
+            refl,
+            (
+              save_tried w at.course at.is,
+              (progress_of at.course, ap (λ (s : Option Course). option_map progress_of s) at.is, inl refl),
+            ),
+          ),
         ),
       )
       | inr new ↦ (
@@ -293,21 +304,26 @@ pub start_failed : (p : Parts) (held : Option Saved) (honest : Bool) (why : Star
     → p.session ≡ None
     → MayRefuseStart p.honest p.held held failed failed' why
     → Moves p Start (Err (start_refusal why)) (record p { held = held; honest = honest; failed = failed' })
-start_failed p held honest' (start.Store store.ReadFault) failed failed' down may honest w st =
-    (
-      w,
-      (
-        with_held p w held honest' failed' w.held st (may.0 ∙ st.held),
-        (refl, (start_tried w (no_course p w st down), (refl, refl))),
-      ),
-    )
+start_failed p held honest' (start.Store store.ReadFault) failed failed' down may honest w st = (
+  w,
+  (
+    with_held p w held honest' failed' w.held st (may.0 ∙ st.held),
+    (refl, (start_tried w (no_course p w st down), (refl, refl))),
+  ),
+)
 start_failed p held honest' (start.Store store.BadRecord) failed failed' down may honest w st = absurd (may.1 honest)
 start_failed p held honest' (start.Store store.OutOfMemory) failed failed' down may honest w st = absurd may
 start_failed p held honest' (start.Store store.WriteFault) failed failed' down may honest w st =
     let half = may.0 honest in
     let tried = start_tried w (no_course p w st down) in
     elim half.held [
-      | inl same ↦ (w, (with_held p w held honest' failed' w.held st (same ∙ st.held), (refl, (tried, (half.saved, ap begun (sym st.held) ∙ half.begins, inl refl)))))
+      | inl same ↦ (
+        w,
+        (
+          with_held p w held honest' failed' w.held st (same ∙ st.held),
+          (refl, (tried, (half.saved, ap begun (sym st.held) ∙ half.begins, inl refl))),
+        ),
+      )
       | inr new ↦ (
         record w { held = Some half.saved },
         (
@@ -324,11 +340,10 @@ start_failed p held honest' start.SessionsExhausted failed failed' down may hone
         (starts_next w None (no_course p w st down) (ap begun (sym same) ∙ may.0), refl),
       ),
     )
-start_failed p held honest' start.OutOfMemory failed failed' down may honest w st =
-    (
-      w,
-      (
-        with_held p w held honest' failed' w.held st (may honest ∙ st.held),
-        (refl, (start_tried w (no_course p w st down), refl)),
-      ),
-    )
+start_failed p held honest' start.OutOfMemory failed failed' down may honest w st = (
+  w,
+  (
+    with_held p w held honest' failed' w.held st (may honest ∙ st.held),
+    (refl, (start_tried w (no_course p w st down), refl)),
+  ),
+)

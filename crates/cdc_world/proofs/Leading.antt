@@ -1,5 +1,5 @@
 -- A world that steps lead to stays one as it goes on.
-use Rattle.std.proofs.Common.{◌≡◌, ℕ, List, [], ◌∷◌, ◌++◌, drop, refl, subst, sym, take}
+use Rattle.std.proofs.Common.{ℕ, List, [], ◌∷◌, ◌++◌, drop, refl, subst, sym, take}
 use Rattle.std.specs.Prelude.{None, Ok, Option, Err, Result, Some}
 use Rattle.cdc_match.specs.Arguments.{Arguments}
 use Rattle.cdc_progress.specs.Records.{Saved}
@@ -17,8 +17,9 @@ IsReached-new offers bindings window held start =
     record { bindings = bindings; window = window; held = held; steps = []; at_start = start; leads = refl }
 
 -- one more step at the end
-LeadsBy-push : (offers : Offered) (w v w' : WorldState) (steps : List Step) (step : Step) (answer : Result Did StepError)
-    → LeadsBy offers w steps v → NextBy offers v step answer w' → LeadsBy offers w (steps ++ step ∷ []) w'
+LeadsBy-push : (offers : Offered) (w v w' : WorldState) (steps : List Step) (step : Step)
+    (answer : Result Did StepError) → LeadsBy offers w steps v → NextBy offers v step answer w'
+    → LeadsBy offers w (steps ++ step ∷ []) w'
 LeadsBy-push offers w v w' [] step answer leads next =
     (answer, w', subst (λ (x : WorldState). NextBy offers x step answer w') leads next, refl)
 LeadsBy-push offers w v w' (s ∷ steps) step answer (first, between, here, rest) next =

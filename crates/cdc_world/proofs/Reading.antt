@@ -180,7 +180,8 @@ read_all h after n rise =
     let rising = later_rise after after 0 es rise (omega arith) in
     let up = read_rises after (take n later) (take_rise after n later rising) in
     max_le after (last_timestamp es) (last_timestamp_from after (take n later)) up
-    ∙ (ap (λ (m : ℕ). nat_le m (last_timestamp_from after (take n later))) (sym (last_after after 0 es rise (omega arith)))
+    ∙ (ap (λ (m : ℕ). nat_le m (last_timestamp_from after (take n later)))
+    (sym (last_after after 0 es rise (omega arith)))
     ∙ take_whole after n later rising)
 
 -- what holds of what there is, holds of it

@@ -11,8 +11,8 @@ use Rattle.cdc_world.specs.Queued.{AllStay}
 use Rattle.cdc_world.specs.Stands.{PlaysTo}
 use Rattle.cdc_world.specs.Worlds.{Subscription, WorldState, new_world, numbered}
 
--- every subscriber is faithful in every world that steps lead to: crashes, packets and confirms that come late, again or
--- never, deliveries that are repeated or broken off, and closes among them, where they are offered
+-- every subscriber is faithful in every world that steps lead to: crashes, packets and confirms that come late, again
+-- or never, deliveries that are repeated or broken off, and closes among them, where they are offered
 abbrev pub SubscribersAreFaithful : Type 0
 SubscribersAreFaithful = (offers : Offered) (w : WorldState) → IsReachedBy offers w
     → (i : ℕ) (s : Subscription) → numbered w.subscriptions i ≡ Some s → IsFaithful w s

@@ -32,9 +32,9 @@ pub record SeatState : Type 0 where
   pub flight : List Delivery
   pub acks : List ℕ
 
--- what a world keeps: the ledger's history; the broker; what the store holds, and whether it is honest; for how many
--- events a session waits; what the session keeps, if there is one; the packets and the confirms that were sent; how many
--- of each have come; and the subscribers
+-- what a world keeps: the ledger's history; the broker; what the store holds, whether it is honest, and how often it
+-- has failed; for how many events a session waits; what the session keeps, if there is one; packets and confirms that
+-- were sent; how many of each have come; and the subscribers
 pub record Parts : Type 0 where
   pub history : History
   pub broker : BrokerState

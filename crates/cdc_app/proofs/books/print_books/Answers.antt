@@ -1,8 +1,7 @@
-use Rattle.std.proofs.Common.{◌≡◌, ◌++◌, ◌<◌, ◌^◌, ◌∙◌, ap, ap₂, sym, subst, List, ℕ, length, arith}
-use Rattle.std.specs.declared.vec.Vec.{Vec}
+use Rattle.std.proofs.Common.{◌≡◌, ◌++◌, ◌<◌, ◌^◌, ◌∙◌, ap, ap₂, sym, subst, List, ℕ, length}
 use Rattle.cdc_types.specs.declared.events.Event.{Event}
 use Rattle.cdc_ledger.specs.Events.{events}
-use Rattle.cdc_ledger.specs.History.{History, empty_history}
+use Rattle.cdc_ledger.specs.History.{empty_history}
 use Rattle.cdc_match.specs.Arguments.{Arguments}
 use Rattle.cdc_app.specs.Feeds.{line_of, subscribers_text}
 use Rattle.cdc_app.specs.Printed.{batch_lines, history_of}

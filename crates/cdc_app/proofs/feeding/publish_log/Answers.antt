@@ -1,5 +1,4 @@
-use Rattle.std.proofs.Common.{◌≡◌, ◌+◌, ◌<◌, ◌≤◌, ◌∙◌, ap, sym, Some, length, arith}
-use Rattle.std.specs.List.{slice_get}
+use Rattle.std.proofs.Common.{◌+◌, ◌<◌, ◌≤◌, ◌∙◌, ap, sym, length, arith}
 use Rattle.cdc_broker.specs.Broker.{published, max_64}
 use Rattle.cdc_message.specs.declared.items.Item.TheVariants.{Event as OfEvent}
 use Rattle.cdc_types.specs.declared.events.Event.{Event}

@@ -1,5 +1,4 @@
-use Rattle.std.proofs.Common.{◌≡◌, ap, sym, subst, ◌∙◌, List}
-use Rattle.cdc_ledger.specs.Events.{events}
+use Rattle.std.proofs.Common.{◌≡◌, ap, sym, subst, ◌∙◌}
 use Rattle.cdc_log.specs.Log.{RiseFrom}
 use Rattle.cdc_types.specs.Timestamps.{last_timestamp, last_timestamp_from}
 use Rattle.cdc_world.proofs.Reading.{last_read_none, last_read_some, none_follow_is}

@@ -1,5 +1,5 @@
 use Rattle.std.proofs.lemmas.Grind.{common_steps}
-use Rattle.std.proofs.Common.{arith, ◌∙◌}
+use Rattle.std.proofs.Common.{arith}
 use Rattle.cdc_broker.proofs.Made.{empty_push, Holds-empty}
 use Rattle.cdc_broker.proofs.broker.Broker.new.Goals as goal
 

@@ -1,4 +1,4 @@
-use Rattle.std.proofs.Common.{◌≡◌, ◌∙◌, List, [], ◌∷◌, ◌++◌, ap, sym, subst, map, length}
+use Rattle.std.proofs.Common.{◌≡◌, ◌∙◌, List, [], ◌∷◌, ◌++◌, ap, sym, subst, map}
 use Rattle.std.specs.Prelude.{All}
 use Rattle.std.specs.Vec.{with_items}
 use Rattle.std.proofs.lemmas.List.{with_items_is}
@@ -6,7 +6,7 @@ use Rattle.std.proofs.lemmas.Result.{err_from_is_err_and}
 use Rattle.cdc_message.specs.declared.items.Item.{Item}
 use Rattle.cdc_broker.specs.Broker.{BrokerState, published}
 use Rattle.cdc_broker.specs.Kept.{queue_state}
-use Rattle.cdc_broker.specs.Queues.{QueueState, queued}
+use Rattle.cdc_broker.specs.Queues.{queued}
 use Rattle.cdc_broker.proofs.Accepted.{Holds, HasAccepted-published, HasAccepted-queues, accepted_after-err}
 use Rattle.cdc_broker.proofs.broker.Broker.publish.Goals as goal
 
