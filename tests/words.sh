@@ -301,6 +301,33 @@ shown=$(sed -n '/^batch 1: 0 0 0 0$/,/^```$/p' "$top/README.md")
 same 'the example of two phases: its books' "$out" "${shown%\`\`\`}"
 ends_well 'the example of two phases: its books'
 
+# A large simulation: 10,000 transfers, each of which is published, confirmed and taken, in 60,014 steps.
+{
+    printf '%s\n' 'subscriber all' 'accounts 1000' 'account id=1 ledger=700 code=10' 'account id=2 ledger=700 code=10'
+    for batch in {0..9}; do
+        echo "transfers $((2000 + batch))"
+        for i in {1..1000}; do
+            echo "transfer id=$((batch * 1000 + i)) debit_account_id=1 credit_account_id=2 amount=1 ledger=700 code=1"
+        done
+    done
+} >large.script
+{
+    for _ in {0..10}; do echo batch; done
+    printf '%s\n' start publish 'arrive 1'
+    for i in {1..10000}; do
+        printf '%s\n' poll publish "arrive $((i + 1))" "answer $i" 'send 1' 'take 1'
+    done
+} >large.steps
+its_end='steps 60014 of 60014
+progress 1 0
+subscriber 1 applied 10000 last 11999 ended no closed no
+account 1 0 10000 0 0
+account 2 0 0 0 10000'
+run simulate large.script large.steps
+found=$(tail -n 5 output)
+same 'a large simulation' "$its_end" "$found"
+ends_well 'a large simulation'
+
 # Bodies are JSON texts to an outside reader too.
 if command -v python3 >/dev/null; then
     for events in "one.script 1" "$top/examples/two-phase.script 7"; do
