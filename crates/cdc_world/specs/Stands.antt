@@ -128,16 +128,18 @@ Plays p steps done refusal p' =
     IsTrue p.honest → (w : WorldState) → Stands p w
     → ((w' : WorldState) × (Stands p' w' × PlaysTo w steps done refusal w'))
 
--- a step that is refused for the store's sake is one in which the store counted a failure
-abbrev pub IsStoreCounted : ℕ → ℕ → StepError → Type 0
-IsStoreCounted before after (Store store.ReadFault) = IsCounted before after
-IsStoreCounted before after (Store store.WriteFault) = IsCounted before after
-IsStoreCounted before after (Store store.BadRecord) = Unit {0}
-IsStoreCounted before after (Store store.OutOfMemory) = ⊥
-IsStoreCounted before after NotEnabled = Unit {0}
-IsStoreCounted before after (Refused why) = Unit {0}
-IsStoreCounted before after SessionsExhausted = Unit {0}
-IsStoreCounted before after OutOfMemory = Unit {0}
+-- a step that is answered so leaves the store's count of failures as it is, unless it is refused for a read or a write
+-- that failed, which counts
+abbrev pub IsStoreCounted : ℕ → ℕ → Result Did StepError → Type 0
+IsStoreCounted before after (Ok did) = after ≡ before
+IsStoreCounted before after (Err (Store store.ReadFault)) = IsCounted before after
+IsStoreCounted before after (Err (Store store.WriteFault)) = IsCounted before after
+IsStoreCounted before after (Err (Store store.BadRecord)) = after ≡ before
+IsStoreCounted before after (Err (Store store.OutOfMemory)) = ⊥
+IsStoreCounted before after (Err NotEnabled) = after ≡ before
+IsStoreCounted before after (Err (Refused why)) = after ≡ before
+IsStoreCounted before after (Err SessionsExhausted) = after ≡ before
+IsStoreCounted before after (Err OutOfMemory) = after ≡ before
 
 -- a step isn't refused for the store's sake
 abbrev pub IsNotOfStore : StepError → Type 0
