@@ -112,8 +112,8 @@ impl<S: ProgressStore + Drop> World<S> {
 }
 
 impl<S: ProgressStore> World<S> {
-    /// Takes one step. A step that is refused changes nothing, except that a store that fails to save may hold the new
-    /// record.
+    /// Takes one step. A step that is refused changes nothing, except that a store that fails counts it, and that one that
+    /// fails to save may hold the new record.
     pub fn step(&mut self, alloc: Global, step: &Step) -> Result<Did, StepError>
         ensures next { Moves self.old step.now result self.new }
         ensures counted { IsStoreCounted self.old.failed self.new.failed result }
