@@ -1,6 +1,6 @@
 //! The session itself.
 
-ghost use Rattle.std.specs.Prelude.{◌≡◌, ◌⊎◌, ◌<◌, ◌≤◌, ◌^◌, Some, Err, IfOk, IfErr, OnOk, OnErr, is_some, option_map};
+ghost use Rattle.std.specs.Prelude.{◌≡◌, ◌⊎◌, ◌<◌, ◌^◌, Some, Err, IfOk, IfErr, OnOk, OnErr, is_some, option_map};
 ghost use Rattle.cdc_progress.specs.Stores.{MayRefuseSave};
 ghost use Rattle.cdc_publisher.specs.Courses.{Course, begun, confirmed_timestamp, is_done, next_packet, progress_of, takes_confirm, wanted, with_confirm, with_offer, with_sent};
 ghost use Rattle.cdc_publisher.specs.Kept.{poll_of};
@@ -96,10 +96,10 @@ impl Session {
         window: usize,
     ) -> Result<Session, StartError>
         requires { window ≡ 1 }
-        ensures ok { IfOk result (HasStarted (S.is_honest store.old) (S.held store.old) (S.held store.new) window) }
+        ensures ok { IfOk result (HasStarted (S.is_honest store.old) (S.held store.old) (S.held store.new)
+            (S.failed store.old) (S.failed store.new) window) }
         ensures err { IfErr result (MayRefuseStart (S.is_honest store.old) (S.held store.old) (S.held store.new)
             (S.failed store.old) (S.failed store.new)) }
-        ensures failures { S.failed store.old ≤ S.failed store.new }
         ensures honest { S.is_honest store.new ≡ S.is_honest store.old }
     {
         let saved = begin(store.load()?).ok_or(StartError::SessionsExhausted)?;
@@ -211,7 +211,7 @@ impl Session {
             → OnErr result ((S.held store.new ≡ S.held store.old) ⊎ (S.held store.new ≡ Some (progress_of course))) }
         ensures without_memory { result ≡ Err StoreError.OutOfMemory → S.held store.new ≡ S.held store.old }
         ensures refusals { IfErr result (MayRefuseSave (S.failed store.old) (S.failed store.new)) }
-        ensures failures { S.failed store.old ≤ S.failed store.new }
+        ensures uncounted { OnOk result (S.failed store.new ≡ S.failed store.old) }
         ensures honest { S.is_honest store.new ≡ S.is_honest store.old }
     {
         store.save(Progress::new(self.number, self.confirmed()))

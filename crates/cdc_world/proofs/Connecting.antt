@@ -274,10 +274,10 @@ start_tried w down =
     subst IsTried (sym (starts_next w (begun w.held) down refl)) (started_tried w (begun w.held))
 
 pub start_done : (p : Parts) (kept : Kept) (held : Option Saved) (honest : Bool) (failed' : ℕ) → p.session ≡ None
-    → HasStarted p.honest p.held held p.window kept
+    → HasStarted p.honest p.held held p.failed failed' p.window kept
     → Moves p Start (Ok Done) (record p { held = held; honest = honest; failed = failed'; session = Some kept })
 start_done p kept held honest' failed' down has honest w st =
-    let begins : begun w.held ≡ Some has.saved = ap begun (sym st.held) ∙ ap begun (sym (has.given honest))
+    let begins : begun w.held ≡ Some has.saved = ap begun (sym st.held) ∙ ap begun (sym (has.given (honest refl)))
     ∙ has.begins in (
       record w { held = Some has.saved; session = Some (new_course has.saved w.window) },
       (
@@ -311,39 +311,42 @@ start_failed p held honest' (start.Store store.ReadFault) failed failed' down ma
     (refl, (start_tried w (no_course p w st down), (refl, refl))),
   ),
 )
-start_failed p held honest' (start.Store store.BadRecord) failed failed' down may honest w st = absurd (may.1 honest)
+start_failed p held honest' (start.Store store.BadRecord) failed failed' down may honest w st =
+    absurd (may.1.1 (honest refl))
 start_failed p held honest' (start.Store store.OutOfMemory) failed failed' down may honest w st = absurd may
 start_failed p held honest' (start.Store store.WriteFault) failed failed' down may honest w st =
-    let half = may.0 honest in
+    let half = may.0 in
+    let begins : begun w.held ≡ Some half.saved = ap begun (sym st.held) ∙ ap begun (sym (half.given (honest refl)))
+    ∙ half.begins in
     let tried = start_tried w (no_course p w st down) in
     elim half.held [
       | inl same ↦ (
         w,
         (
-          with_held p w held honest' failed' w.held st (same ∙ st.held),
-          (refl, (tried, (half.saved, ap begun (sym st.held) ∙ half.begins, inl refl))),
+          with_held p w held honest' failed' w.held st (same ∙ (half.given (honest refl) ∙ st.held)),
+          (refl, (tried, (half.saved, begins, inl refl))),
         ),
       )
       | inr new ↦ (
         record w { held = Some half.saved },
         (
           with_held p w held honest' failed' (Some half.saved) st new,
-          (refl, (tried, (half.saved, ap begun (sym st.held) ∙ half.begins, inr refl))),
+          (refl, (tried, (half.saved, begins, inr refl))),
         ),
       )
     ]
 start_failed p held honest' start.SessionsExhausted failed failed' down may honest w st =
-    let same = may.1 honest ∙ st.held in (
+    let same = may.1.1 (honest refl) ∙ st.held in (
       w,
       (
         with_held p w held honest' failed' w.held st same,
-        (starts_next w None (no_course p w st down) (ap begun (sym same) ∙ may.0), refl),
+        (starts_next w None (no_course p w st down) (ap begun (sym same) ∙ may.1.0), refl),
       ),
     )
 start_failed p held honest' start.OutOfMemory failed failed' down may honest w st = (
   w,
   (
-    with_held p w held honest' failed' w.held st (may honest ∙ st.held),
+    with_held p w held honest' failed' w.held st (may.1 (honest refl) ∙ st.held),
     (refl, (start_tried w (no_course p w st down), refl)),
   ),
 )

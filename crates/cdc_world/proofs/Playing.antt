@@ -1,22 +1,29 @@
 -- Steps that are all done, one more at a time, and where they stop.
 use Rattle.std.proofs.Common.{◌≡◌, ℕ, ◌+◌, ◌<◌, IsTrue, List, [], ◌∷◌, ◌++◌, Some, None, Ok, Err, zero, suc, refl, sym, ap, ◌∙◌, subst, length, take, drop, get_or, arith}
+use Rattle.std.specs.List.{list_any}
 use Rattle.std.proofs.lemmas.List.{take_more}
+use Rattle.std.proofs.lemmas.List.Folds.{list_any_at}
 use Rattle.cdc_world.specs.declared.steps.Did.{Did}
 use Rattle.cdc_world.specs.declared.steps.Step.{Step}
 use Rattle.cdc_world.specs.declared.steps.StepError.{StepError}
-use Rattle.cdc_world.specs.Next.{Next}
+use Rattle.cdc_world.specs.Next.{Next, loads}
 use Rattle.cdc_world.specs.Stands.{DoesAll, Moves, Parts, Plays, Stands, StopsAt}
 use Rattle.cdc_world.specs.Worlds.{WorldState}
 
 -- so many of these steps are done
 pub record HasDone (p p' : Parts) (steps : List Step) (done : ℕ) : Type 0 where
   pub honest : p'.honest ≡ p.honest
-  pub leads : IsTrue p.honest → (w : WorldState) → Stands p w
+  pub leads : (IsTrue (list_any loads steps) → IsTrue p.honest) → (w : WorldState) → Stands p w
       → ((w' : WorldState) × (Stands p' w' × DoesAll w (take done steps) w'))
 
 -- none yet
 pub HasDone-none : (p : Parts) (steps : List Step) → HasDone p p steps 0
 HasDone-none p steps = record { honest = refl; leads = λ honest w st. (w, (st, refl)) }
+
+-- a step of a play that loads is one of the play's steps that load
+loads_one : (steps : List Step) (done : ℕ) (step : Step) → done < length steps → step ≡ get_or steps done step
+    → IsTrue (loads step) → IsTrue (list_any loads steps)
+loads_one steps done step inside here reads = list_any_at loads steps done step inside (ap loads (sym here) ∙ reads)
 
 -- one more step
 DoesAll_push : (w between w' : WorldState) (steps : List Step) (step : Step) (did : Did) → DoesAll w steps between
@@ -33,7 +40,8 @@ HasDone-more p p' p'' steps done step did inside here has moves honest' = record
   honest = honest' ∙ has.honest;
   leads = λ honest w st.
       let before = has.leads honest w st in
-      let after = moves (has.honest ∙ honest) before.0 before.1.0 in
+      let after = moves (λ reads. has.honest ∙ honest (loads_one steps done step inside here reads))
+      before.0 before.1.0 in
       let more : take (done + 1) steps ≡ take done steps ++ step ∷ [] =
       take_more steps done step inside ∙ ap (λ (s : Step). take done steps ++ s ∷ []) (sym here) in (
         after.0,
@@ -59,7 +67,8 @@ pub Plays-stopped : (p p' p'' : Parts) (steps : List Step) (done : ℕ) (step : 
     → Plays p steps done (Some why) p''
 Plays-stopped p p' p'' steps done step why inside here has moves honest w st =
     let before = has.leads honest w st in
-    let after = moves (has.honest ∙ honest) before.0 before.1.0 in
+    let after = moves (λ reads. has.honest ∙ honest (loads_one steps done step inside here reads))
+    before.0 before.1.0 in
     let rest = drop_here steps done step inside here in (
       after.0,
       (

@@ -272,7 +272,7 @@ loads Start = true
 loads _ = false
 
 -- the world after a store failed: as it was, where it failed to load; as it was or with the new record held, where it
--- failed to save one; an honest store holds nothing else than a record
+-- failed to save one; a step that loads has an honest store, which holds nothing else than a record
 abbrev pub AfterFailure : WorldState → Step → StoreError → WorldState → Type 0
 AfterFailure w step store.ReadFault w' = IsTrue (loads step) × (w' ≡ w)
 AfterFailure w step store.WriteFault w' =
@@ -280,8 +280,8 @@ AfterFailure w step store.WriteFault w' =
 AfterFailure w step store.BadRecord w' = ⊥
 AfterFailure w step store.OutOfMemory w' = ⊥
 
--- a step may be answered so, and leave this world: as `next_by` says; or the store, which is honest, failed; or memory
--- ran out, which leaves the world as it was
+-- a step may be answered so, and leave this world: as `next_by` says; or the store failed, an honest one where the step
+-- loads; or memory ran out, which leaves the world as it was
 abbrev pub NextBy : Offered → WorldState → Step → Result Did StepError → WorldState → Type 0
 NextBy offers w step (Ok did) w' = next_by offers w step ≡ Ok (did, w')
 NextBy offers w step (Err NotEnabled) w' = (next_by offers w step ≡ Err NotEnabled) × (w' ≡ w)

@@ -1,5 +1,6 @@
 -- What a world keeps, and the states of the actors that this stands for.
 use Rattle.std.specs.Prelude.{◌≡◌, ◌≤◌, ℕ, Bool, IsTrue, Option, Some, None, Result, Ok, Err, List, [], ◌∷◌, map, length, take, drop}
+use Rattle.std.specs.List.{list_any}
 use Rattle.cdc_broker.specs.Broker.{BrokerState}
 use Rattle.cdc_broker.specs.Queues.{QueueState}
 use Rattle.cdc_ledger.specs.History.{History}
@@ -21,7 +22,7 @@ use Rattle.cdc_subscriber.specs.Kept.{Kept}
 use Rattle.cdc_world.specs.declared.steps.Did.{Did}
 use Rattle.cdc_world.specs.declared.steps.Step.{Step}
 use Rattle.cdc_world.specs.declared.steps.StepError.{StepError}
-use Rattle.cdc_world.specs.Next.{Next}
+use Rattle.cdc_world.specs.Next.{Next, loads}
 use Rattle.cdc_world.specs.Packets.{current_session, expected_tag}
 use Rattle.cdc_world.specs.Worlds.{Subscription, WorldState, taken_items}
 
@@ -95,11 +96,12 @@ pub record Stands (p : Parts) (w : WorldState) : Type 0 where
   pub answers : p.answers ≡ w.answers
   pub seats : p.seats ≡ map seat_of w.subscriptions
 
--- what is kept goes on like this by a step that is answered so: over an honest store, whatever state it stood for, it
--- stands for one that the step may leave
+-- what is kept goes on like this by a step that is answered so: whatever state it stood for, it stands for one that the
+-- step may leave; of a step that loads this is said over an honest store
 abbrev pub Moves : Parts → Step → Result Did StepError → Parts → Type 0
 Moves p step answer p' =
-    IsTrue p.honest → (w : WorldState) → Stands p w → ((w' : WorldState) × (Stands p' w' × Next w step answer w'))
+    (IsTrue (loads step) → IsTrue p.honest) → (w : WorldState) → Stands p w
+    → ((w' : WorldState) × (Stands p' w' × Next w step answer w'))
 
 -- steps that are all done lead from one state to another
 abbrev pub DoesAll : WorldState → List Step → WorldState → Type 0
@@ -122,22 +124,24 @@ pub record PlaysTo (w : WorldState) (steps : List Step) (done : ℕ) (refusal : 
   pub does : DoesAll w (take done steps) before
   pub stops : StopsAt before (drop done steps) refusal w'
 
--- what is kept goes on like this by a play
+-- what is kept goes on like this by a play; where one of its steps loads, this is said over an honest store
 abbrev pub Plays : Parts → List Step → ℕ → Option StepError → Parts → Type 0
 Plays p steps done refusal p' =
-    IsTrue p.honest → (w : WorldState) → Stands p w
+    (IsTrue (list_any loads steps) → IsTrue p.honest) → (w : WorldState) → Stands p w
     → ((w' : WorldState) × (Stands p' w' × PlaysTo w steps done refusal w'))
 
--- a step that is refused for the store's sake is one in which the store counted a failure
-abbrev pub IsStoreCounted : ℕ → ℕ → StepError → Type 0
-IsStoreCounted before after (Store store.ReadFault) = IsCounted before after
-IsStoreCounted before after (Store store.WriteFault) = IsCounted before after
-IsStoreCounted before after (Store store.BadRecord) = Unit {0}
-IsStoreCounted before after (Store store.OutOfMemory) = ⊥
-IsStoreCounted before after NotEnabled = Unit {0}
-IsStoreCounted before after (Refused why) = Unit {0}
-IsStoreCounted before after SessionsExhausted = Unit {0}
-IsStoreCounted before after OutOfMemory = Unit {0}
+-- a step that is answered so leaves the store's count of failures as it is, unless it is refused for a read or a write
+-- that failed, which counts
+abbrev pub IsStoreCounted : ℕ → ℕ → Result Did StepError → Type 0
+IsStoreCounted before after (Ok did) = after ≡ before
+IsStoreCounted before after (Err (Store store.ReadFault)) = IsCounted before after
+IsStoreCounted before after (Err (Store store.WriteFault)) = IsCounted before after
+IsStoreCounted before after (Err (Store store.BadRecord)) = after ≡ before
+IsStoreCounted before after (Err (Store store.OutOfMemory)) = ⊥
+IsStoreCounted before after (Err NotEnabled) = after ≡ before
+IsStoreCounted before after (Err (Refused why)) = after ≡ before
+IsStoreCounted before after (Err SessionsExhausted) = after ≡ before
+IsStoreCounted before after (Err OutOfMemory) = after ≡ before
 
 -- a step isn't refused for the store's sake
 abbrev pub IsNotOfStore : StepError → Type 0

@@ -112,11 +112,11 @@ impl<S: ProgressStore + Drop> World<S> {
 }
 
 impl<S: ProgressStore> World<S> {
-    /// Takes one step. A step that is refused changes nothing, except that a store that fails to save may hold the new
-    /// record.
+    /// Takes one step. A step that is refused changes nothing, except that a store that fails counts it, and that one that
+    /// fails to save may hold the new record.
     pub fn step(&mut self, alloc: Global, step: &Step) -> Result<Did, StepError>
         ensures next { Moves self.old step.now result self.new }
-        ensures counted { IfErr result (IsStoreCounted self.old.failed self.new.failed) }
+        ensures counted { IsStoreCounted self.old.failed self.new.failed result }
         ensures honest { self.new.honest ≡ self.old.honest }
     {
         match step {
@@ -191,6 +191,7 @@ impl<S: ProgressStore> World<S> {
             → IfOk result (λ held. held ≡ w.held) }
         ensures kept { IsTrue self.old.honest → self.new ≡ record self.old { failed = self.new.failed } }
         ensures counted { IfErr result (MayRefuseLoad self.old.failed self.new.failed) }
+        ensures uncounted { OnOk result (self.new.failed ≡ self.old.failed) }
         ensures record { IsTrue self.old.honest → ¬ (result ≡ Err StoreError.BadRecord) }
         ensures honest { self.new.honest ≡ self.old.honest }
     {
@@ -234,7 +235,7 @@ impl<S: ProgressStore> World<S> {
     /// The ledger takes a batch.
     fn submit(&mut self, alloc: Global, batch: &Batch) -> Result<Did, StepError>
         ensures next { Moves self.old (Step.Submit batch.now) result self.new }
-        ensures counted { IfErr result (IsStoreCounted self.old.failed self.new.failed) }
+        ensures counted { IsStoreCounted self.old.failed self.new.failed result }
         ensures honest { self.new.honest ≡ self.old.honest }
     {
         Ok(Did::Submitted(self.ledger.submit(alloc, batch)?))
@@ -243,7 +244,7 @@ impl<S: ProgressStore> World<S> {
     /// The ledger closes.
     fn close_ledger(&mut self) -> Result<Did, StepError>
         ensures next { Moves self.old Step.CloseLedger result self.new }
-        ensures counted { IfErr result (IsStoreCounted self.old.failed self.new.failed) }
+        ensures counted { IsStoreCounted self.old.failed self.new.failed result }
         ensures honest { self.new.honest ≡ self.old.honest }
     {
         self.ledger.close();
@@ -253,7 +254,7 @@ impl<S: ProgressStore> World<S> {
     /// The connector starts a session, where it is down.
     fn start(&mut self, alloc: Global) -> Result<Did, StepError>
         ensures next { Moves self.old Step.Start result self.new }
-        ensures counted { IfErr result (IsStoreCounted self.old.failed self.new.failed) }
+        ensures counted { IsStoreCounted self.old.failed self.new.failed result }
         ensures honest { self.new.honest ≡ self.old.honest }
     {
         if self.session.is_some() {
@@ -266,7 +267,7 @@ impl<S: ProgressStore> World<S> {
     /// The session is offered the events that it wants.
     fn poll(&mut self, alloc: Global) -> Result<Did, StepError>
         ensures next { Moves self.old Step.Poll result self.new }
-        ensures counted { IfErr result (IsStoreCounted self.old.failed self.new.failed) }
+        ensures counted { IsStoreCounted self.old.failed self.new.failed result }
         ensures honest { self.new.honest ≡ self.old.honest }
     {
         let Some(session) = &mut self.session else {
@@ -279,7 +280,7 @@ impl<S: ProgressStore> World<S> {
     /// The session sends its next packet.
     fn publish(&mut self, alloc: Global) -> Result<Did, StepError>
         ensures next { Moves self.old Step.Publish result self.new }
-        ensures counted { IfErr result (IsStoreCounted self.old.failed self.new.failed) }
+        ensures counted { IsStoreCounted self.old.failed self.new.failed result }
         ensures honest { self.new.honest ≡ self.old.honest }
     {
         let Some(session) = &mut self.session else {
@@ -292,7 +293,7 @@ impl<S: ProgressStore> World<S> {
     /// The next packet to come, if it has this number, comes to the broker.
     fn arrive(&mut self, alloc: Global, k: u64) -> Result<Did, StepError>
         ensures next { Moves self.old (Step.Arrive k) result self.new }
-        ensures counted { IfErr result (IsStoreCounted self.old.failed self.new.failed) }
+        ensures counted { IsStoreCounted self.old.failed self.new.failed result }
         ensures honest { self.new.honest ≡ self.old.honest }
     {
         if !is_next(self.arrivals, k) {
@@ -309,7 +310,7 @@ impl<S: ProgressStore> World<S> {
     /// The next confirm to come, if it has this number, comes to the session.
     fn answer(&mut self, k: u64) -> Result<Did, StepError>
         ensures next { Moves self.old (Step.Answer k) result self.new }
-        ensures counted { IfErr result (IsStoreCounted self.old.failed self.new.failed) }
+        ensures counted { IsStoreCounted self.old.failed self.new.failed result }
         ensures honest { self.new.honest ≡ self.old.honest }
     {
         let Some(session) = &mut self.session else {
@@ -329,7 +330,7 @@ impl<S: ProgressStore> World<S> {
     /// The session saves its progress.
     fn save(&mut self) -> Result<Did, StepError>
         ensures next { Moves self.old Step.Save result self.new }
-        ensures counted { IfErr result (IsStoreCounted self.old.failed self.new.failed) }
+        ensures counted { IsStoreCounted self.old.failed self.new.failed result }
         ensures honest { self.new.honest ≡ self.old.honest }
     {
         let Some(session) = &self.session else {
@@ -342,7 +343,7 @@ impl<S: ProgressStore> World<S> {
     /// The queue of a subscriber hands out its next delivery.
     fn send(&mut self, alloc: Global, i: u64) -> Result<Did, StepError>
         ensures next { Moves self.old (Step.Send i) result self.new }
-        ensures counted { IfErr result (IsStoreCounted self.old.failed self.new.failed) }
+        ensures counted { IsStoreCounted self.old.failed self.new.failed result }
         ensures honest { self.new.honest ≡ self.old.honest }
     {
         let place = place_of(i, self.seats.len()).ok_or(StepError::NotEnabled)?;
@@ -353,7 +354,7 @@ impl<S: ProgressStore> World<S> {
     /// A subscriber takes the first delivery that is on its way to it.
     fn take(&mut self, alloc: Global, i: u64) -> Result<Did, StepError>
         ensures next { Moves self.old (Step.Take i) result self.new }
-        ensures counted { IfErr result (IsStoreCounted self.old.failed self.new.failed) }
+        ensures counted { IsStoreCounted self.old.failed self.new.failed result }
         ensures honest { self.new.honest ≡ self.old.honest }
     {
         let place = place_of(i, self.seats.len()).ok_or(StepError::NotEnabled)?;
