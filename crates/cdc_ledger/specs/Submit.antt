@@ -153,6 +153,6 @@ pub record Extends (g h : History) : Type 0 where
   pub fit : AllByRecursion BatchFits batches
   pub made : g ≡ closed_if close (after_batches features h batches)
 
--- batches and at most one close make h of nothing
+-- h is made of nothing, by batches and no more than one close
 abbrev pub IsLegal : History → Type 0
 IsLegal h = Extends h empty_history
