@@ -177,9 +177,11 @@ fn a_queue_of_ten_thousand(rt: HostRuntime) -> Result<(), Fail> {
         assert_eq!(rt; broker.queue_len(i), 10_000);
         for wanted in 1..=10_000 {
             assert!(rt; i <= broker.queue_count());
+            assert!(rt; broker.has_next(i));
             assert_eq!(rt; position(broker.next_for(alloc, i)?), Some(wanted));
         }
         assert!(rt; i <= broker.queue_count());
+        assert!(rt; !broker.has_next(i));
         assert_eq!(rt; position(broker.next_for(alloc, i)?), None);
     }
     Ok(())

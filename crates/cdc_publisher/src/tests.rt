@@ -186,7 +186,9 @@ fn a_session_of_a_thousand_events(rt: HostRuntime) -> Result<(), Fail> {
     let mut session = Session::start(alloc, &mut store, 1)?;
     assert_eq!(rt; send(&mut session, alloc)?, Sent::Connect(1));
     for tag in 1..=1_000 {
+        assert!(rt; !session.has_packet());
         assert!(rt; offer_event(&mut session, event(tag, 700), false));
+        assert!(rt; session.has_packet());
         assert_eq!(rt; send(&mut session, alloc)?, Sent::Event(1, tag, 700));
         assert!(rt; session.confirm(1, tag));
     }
