@@ -150,6 +150,9 @@ call ./link --unproved simulate books -
 check 'unproved: files with such names where files are meant' \
     "cdc_app: try --data 1-books=$room/elsewhere/books --data 2--=$room/elsewhere/- -- simulate 1-books 2--" "$calls"
 rm books 7 ./-
+touch 'a = b'
+call ./link --unproved books 'a = b'
+check 'unproved: a name with an equals sign' "cdc_app: try --data 1-a - b=$room/elsewhere/a = b -- books 1-a - b" "$calls"
 
 # A program that the gate built has no note of its sources: its time decides.
 rm -f "$room/top/crates/cdc_app/out/cdc_app.sources"
