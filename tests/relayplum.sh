@@ -95,6 +95,12 @@ cp "$room/kept" "$room/top/crates/low/src/lib.rt"
 call "$room/top/relayplum" books x
 check 'a source away and back builds nothing' '' "$calls"
 
+echo '// elder' >"$room/elder"
+touch -d '2 days ago' "$room/elder"
+cp -p "$room/elder" "$room/top/crates/low/src/lib.rt"
+call "$room/top/relayplum" books x
+check 'an older file in the place of a source builds' "$built" "$calls"
+
 sleep 1.1
 echo '// more' >>"$room/top/crates/low/src/lib.rt"
 call "$room/top/relayplum" books x
@@ -136,6 +142,17 @@ has 'unproved: a file is handed on' '^a script$' "$out"
 has 'unproved: it says that nothing is proved' '^relayplum: nothing is proved' "$err"
 has 'unproved: the program'"'"'s own words on standard error' '^the program.s own line$' "$err"
 check 'unproved: nothing else there' 2 "$(wc -l <<<"$err")"
+
+touch books 7 ./-
+call ./link --unproved books - --window 7
+check 'unproved: files with the name of another word' 'cdc_app: try -- books - --window 7' "$calls"
+call ./link --unproved simulate books -
+check 'unproved: files with such names where files are meant' \
+    "cdc_app: try --data 1-books=$room/elsewhere/books --data 2--=$room/elsewhere/- -- simulate 1-books 2--" "$calls"
+rm books 7 ./-
+touch 'a = b'
+call ./link --unproved books 'a = b'
+check 'unproved: a name with an equals sign' "cdc_app: try --data 1-a - b=$room/elsewhere/a = b -- books 1-a - b" "$calls"
 
 # A program that the gate built has no note of its sources: its time decides.
 rm -f "$room/top/crates/cdc_app/out/cdc_app.sources"

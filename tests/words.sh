@@ -301,6 +301,17 @@ shown=$(sed -n '/^batch 1: 0 0 0 0$/,/^```$/p' "$top/README.md")
 same 'the example of two phases: its books' "$out" "${shown%\`\`\`}"
 ends_well 'the example of two phases: its books'
 
+# The example of refusals: a transfer that is there already, with other fields too, no such account, a limit.
+its_refusals='batch 1: 0 0
+batch 2: 0 13 12 15 36
+subscriber 1 applied 1 last 2000 ended yes closed no
+account 2 0 100 0 0
+account 1 0 0 0 100
+'
+run books "$top/examples/refusals.script"
+same 'the example of refusals' "$its_refusals" "$out"
+ends_well 'the example of refusals'
+
 # A large simulation: 10,000 transfers, each of which is published, confirmed and taken, in 60,014 steps.
 {
     printf '%s\n' 'subscriber all' 'accounts 1000' 'account id=1 ledger=700 code=10' 'account id=2 ledger=700 code=10'

@@ -67,7 +67,7 @@ fn tag_after(tag: u64) -> Option<u64>
     }
 }
 
-/// Takes an item to the queues from this place on that it belongs to. All growth comes before the first change.
+/// Takes an item to the queues from this place on that it belongs to. No queue is changed before each has room.
 fn queue_from(
     alloc: Global,
     queues: &mut [Queue],
@@ -126,8 +126,8 @@ impl Broker {
     }
 
     /// Takes an item under the current connection's number and the tag that is taken next, which then rises by 1: an event
-    /// goes to the back of each queue whose binding takes its headers, an end mark to all. A publish under another
-    /// number, or else with another tag, changes nothing. Tag 2^64-1 is never taken. Where memory runs out nothing
+    /// joins, at the back, the queues that take its headers, and an end mark joins all. A publish under another number,
+    /// or else with another tag, changes nothing, and none is taken under tag 2^64-1. Where memory runs out nothing
     /// changes.
     pub fn publish(
         &mut self,
@@ -160,8 +160,8 @@ impl Broker {
         self.queues[i - 1].has_next()
     }
 
-    /// Hands out the item at the cursor of queue `i`, with its position, and moves the cursor on; nothing where the cursor
-    /// is past the queue. Where memory runs out nothing changes.
+    /// Hands out the item at the cursor of queue `i`, with its position, and moves the cursor on; nothing where no item
+    /// stands there. Where memory runs out nothing changes.
     pub fn next_for(&mut self, alloc: Global, i: usize) -> Result<Option<Delivery>, AllocError>
         requires first { 0 < i }
         requires last { i ≤ length self.old.queues }
@@ -175,8 +175,8 @@ impl Broker {
         queue.next(alloc)
     }
 
-    /// Acknowledges all positions of queue `i` up to this one. False, with nothing changed, where the position is 0 or was
-    /// never handed out.
+    /// Acknowledges all positions of queue `i` up to this one. False, with nothing changed, for position 0 and for
+    /// one that wasn't handed out yet.
     pub fn ack(&mut self, i: usize, position: u64) -> bool
         requires first { 0 < i }
         requires last { i ≤ length self.old.queues }

@@ -164,6 +164,22 @@ fn connections_tags_and_queues(rt: HostRuntime) -> Result<(), Fail> {
 }
 
 #[test]
+fn an_item_waits_until_it_is_handed_out(rt: HostRuntime) -> Result<(), Fail> {
+    let alloc = rt.alloc();
+    let mut broker = broker(alloc, &[&["all"]])?;
+    assert!(rt; broker.queue_count() == 1 && !broker.has_next(1));
+    assert!(rt; broker.connect(1));
+    assert_eq!(rt;
+        broker.publish(alloc, 1, 1, Item::EndMark)?,
+        Taken::Accepted
+    );
+    assert!(rt; broker.queue_count() == 1 && broker.has_next(1));
+    assert_eq!(rt; position(broker.next_for(alloc, 1)?), Some(1));
+    assert!(rt; broker.queue_count() == 1 && !broker.has_next(1));
+    Ok(())
+}
+
+#[test]
 fn a_queue_of_ten_thousand(rt: HostRuntime) -> Result<(), Fail> {
     let alloc = rt.alloc();
     let mut broker = broker(alloc, &[&["all"], &["any", "ledger=700"]])?;

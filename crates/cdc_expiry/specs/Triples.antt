@@ -63,7 +63,7 @@ abbrev pub TimestampsDiffer : List Triple → Type 0
 TimestampsDiffer [] = Unit {0}
 TimestampsDiffer (x ∷ xs) = All (λ y. y.timestamp ≢ x.timestamp) xs × TimestampsDiffer xs
 
--- a triple is stored as its three numbers, and an index as its set and its room
+-- a triple is stored as its three numbers
 abbrev pub triple_code : Coded Triple
 triple_code =
     code_by (ℕ × (ℕ × ℕ)) (coded× coded_ℕ (coded× coded_ℕ coded_ℕ))
@@ -71,6 +71,7 @@ triple_code =
     (λ p. record { expires_at = p.0; timestamp = p.1.0; slot = p.1.1 })
     (λ _. refl)
 
+-- an index is stored as its set and its room
 abbrev pub index_code : Coded Index
 index_code =
     code_by (Triples × ℕ) (coded× (set.code triple_code) coded_ℕ)

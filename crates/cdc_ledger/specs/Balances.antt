@@ -31,10 +31,11 @@ moved e = if moves e.kind then e.transfer.amount else 0
 abbrev pub share : (Entry → ℕ) → (Transfer → ℕ) → ℕ → ℕ → Entry → ℕ
 share amount side account t e = if nat_le e.timestamp t && (side e.transfer == account) then amount e else 0
 
--- the two sides of a transfer
+-- the account that a transfer debits
 abbrev pub debit_side : Transfer → ℕ
 debit_side x = x.debit_account_id
 
+-- the account that it credits
 abbrev pub credit_side : Transfer → ℕ
 credit_side x = x.credit_account_id
 

@@ -21,9 +21,11 @@ settled_in TwoPhasePosted h x = option_map (λ e. e.transfer) (stored h x.pendin
 settled_in TwoPhaseVoided h x = option_map (λ e. e.transfer) (stored h x.pending_id)
 settled_in TwoPhaseExpired h x = Some x
 
+-- the same of an entry
 abbrev pub settled_by : History → Entry → Option Transfer
 settled_by h e = settled_in e.kind h e.transfer
 
+-- the amount of a pending transfer, 0 where there is none
 abbrev pub amount_of : Option Transfer → ℕ
 amount_of None = 0
 amount_of (Some p) = p.amount

@@ -57,6 +57,7 @@ filled_from p r t = record (as_asked r t) {
   code = or_own r.code p.code;
 }
 
+-- a post or a void by the entry of its pending transfer, if there is one
 abbrev pub filled_by : Option Entry → NewTransfer → ℕ → Transfer
 filled_by None r t = as_asked r t
 filled_by (Some e) r t = filled_from e.transfer r t

@@ -11,7 +11,7 @@ pub mod History
 pub mod Kinds
 pub mod Submit
 pub mod Verdict
--- what only private contracts and the laws cite
+-- what only private contracts and the laws cite, but for IsBounded of Sound
 pub mod Accounts
 pub mod Effects
 pub mod Follows

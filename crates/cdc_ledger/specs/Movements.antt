@@ -39,6 +39,7 @@ debited f a = record a {
   };
 }
 
+-- the same on its credit side
 abbrev pub credited : Effect → Account → Account
 credited f a = record a {
   balances = record a.balances {

@@ -51,6 +51,7 @@ pub record Stands (h : History) (e : Entry) : Type 0 where
   pub timely : holds e.kind ≡ true → e.transfer.timeout ≢ 0 → expires_at e.transfer ≤ max_timestamp
   pub settling : settles e.kind ≡ true → (x : Entry) × Settles h e x
 
+-- what holds of every history that a ledger makes
 pub record IsSound (h : History) : Type 0 where
   -- the entries' timestamps rise, and none is past the last one
   pub rising : RiseFrom 0 h.entries

@@ -121,6 +121,7 @@ taken offered h (batch.Transfers now items) =
 taken offered h (batch.Pulse now) =
     (results.Pulsed (length (due h now)), expiries_from h (base h now) (due h now))
 
+-- a refusal stands before what the batch would do
 abbrev pub answered : Option BatchError → BatchResults × History → Result (BatchResults × History) BatchError
 answered (Some e) answer = Err e
 answered None answer = Ok answer
@@ -133,6 +134,7 @@ submit_by offered h b = answered (refusal_of h b) (taken offered h b)
 abbrev pub submit : History → Batch → Result (BatchResults × History) BatchError
 submit h b = submit_by features h b
 
+-- the history after a batch, which is the one before it where the batch is refused
 abbrev pub history_or : History → Result (BatchResults × History) BatchError → History
 history_or h (Ok answer) = answer.1
 history_or h (Err e) = h
@@ -153,6 +155,6 @@ pub record Extends (g h : History) : Type 0 where
   pub fit : AllByRecursion BatchFits batches
   pub made : g ≡ closed_if close (after_batches features h batches)
 
--- batches and at most one close make h of nothing
+-- h is made of nothing, by batches and no more than one close
 abbrev pub IsLegal : History → Type 0
 IsLegal h = Extends h empty_history

@@ -40,7 +40,7 @@ pub record IsKept (t : Tables) : Type 0 where
   pub indexed : t.index.triples ≡ index_of (history_of t)
   pub sound : IsSound (history_of t)
 
--- the same, and batches and at most one close make the history
+-- the same, and the history is one that batches make, with no more than one close
 pub record IsSoundlyKept (t : Tables) : Type 0 where
   pub kept : IsKept t
   pub legal : IsLegal (history_of t)

@@ -455,6 +455,31 @@ fn a_pulse_is_of_any_size(rt: HostRuntime) -> Result<(), Fail> {
     Ok(())
 }
 
+// The most accounts that a batch may have.
+#[test]
+fn a_batch_of_a_thousand_accounts(rt: HostRuntime) -> Result<(), Fail> {
+    let mut ledger = Ledger::new(rt.alloc());
+    let mut requests = Vec::with_capacity(rt.alloc(), 1000)?;
+    for id in 1..=1000u32 {
+        requests.push(account(u128::from(id), 0))?;
+    }
+    let batch = Batch::Accounts {
+        now: 1000,
+        items: Items::from_vec(requests),
+    };
+    let BatchResults::Accounts(answers) = ledger.submit(rt.alloc(), &batch)? else {
+        return Err(Fail::from("another kind of results"));
+    };
+    assert!(rt;
+        answers
+            .as_slice()
+            .iter()
+            .all(|answer| *answer == AccountResult::Accepted)
+    );
+    assert_eq!(rt; ledger.accounts().len(), 1000);
+    Ok(())
+}
+
 #[test]
 fn batches_are_refused_whole(rt: HostRuntime) -> Result<(), Fail> {
     let mut ledger = Ledger::new(rt.alloc());

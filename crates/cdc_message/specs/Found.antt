@@ -1,4 +1,4 @@
--- What the steps of the reader answer, beside what the definitions read.
+-- What the steps of the reader answer, beside what the definitions read. Cited by private contracts alone.
 use Rattle.std.specs.Prelude.{◌≡◌, ℕ, ◌-◌, ◌^◌, Result, Ok, Err, MatchResult}
 use Rattle.std.specs.Borrow.{Bor}
 use Rattle.serde_json.specs.Data.{Data}

@@ -26,7 +26,7 @@ same_item (OfEvent a) EndMark = false
 same_item EndMark (OfEvent b) = false
 same_item EndMark EndMark = true
 
--- the event's timestamp is above 0 and above that of each event before it
+-- the event is later than each event before it, and its timestamp isn't 0
 abbrev pub is_newest : List Event → Event → Bool
 is_newest before event = nat_lt 0 event.timestamp && list_all (λ other. nat_lt other.timestamp event.timestamp) before
 
@@ -37,7 +37,7 @@ newest_after before (event ∷ events) =
     if is_newest before event then event ∷ newest_after (before ++ event ∷ []) events
     else newest_after (before ++ event ∷ []) events
 
--- the events whose timestamp is above 0 and above that of each event before them
+-- the events that are later than each one before them, and not at 0
 abbrev pub rises : List Event → List Event
 rises events = newest_after [] events
 

@@ -11,6 +11,7 @@ use Rattle.cdc_message.specs.Bodies.{body}
 use Rattle.cdc_message.specs.Headers.{headers_of_event, AreProperties}
 use Rattle.cdc_message.specs.Reading.{read}
 
+-- a transfer of zeros
 abbrev no_transfer : EventTransfer
 no_transfer = record {
   id = 0;
@@ -25,6 +26,7 @@ no_transfer = record {
   timestamp = 0;
 }
 
+-- an account of zeros
 abbrev no_account : EventAccount
 no_account = record {
   id = 0;

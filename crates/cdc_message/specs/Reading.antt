@@ -31,7 +31,7 @@ abbrev pub ◌>>=◌ : {A B : Type 0} → Read A → (A → Read B) → Read B
 Ok value >>= rest = rest value
 Err error >>= rest = Err error
 
--- the value of a JSON number from 0 to 2^64-1 that has no sign, fraction or exponent
+-- the value of a JSON number that is written in digits alone, and is at most 2^64-1
 abbrev pub unsigned_value : Num → Option ℕ
 unsigned_value (unsigned n) = Some n
 unsigned_value (negative z) = None

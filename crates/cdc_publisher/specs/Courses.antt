@@ -130,7 +130,7 @@ confirmed_from course moment tag [] = moment
 confirmed_from course moment tag (event ∷ events) =
     if is_confirmed course tag then confirmed_from course event.timestamp (tag + 1) events else moment
 
--- the timestamp of the last event that is confirmed together with all before it, or the base
+-- the timestamp of the last event such that it and each earlier one is confirmed, or the base
 abbrev pub confirmed_timestamp : Course → ℕ
 confirmed_timestamp course = confirmed_from course course.base 1 course.offered
 

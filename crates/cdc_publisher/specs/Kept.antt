@@ -3,8 +3,8 @@ use Rattle.std.specs.Prelude.{ℕ, Bool, Option, Some, None, is_none, not, ◌&&
 use Rattle.cdc_types.specs.declared.events.Event.{Event}
 use Rattle.cdc_publisher.specs.declared.session.Poll.{Poll}
 
--- the session's number; the timestamp that it begins after; the timestamp of the last event that it was offered, and
--- the one up to which all are confirmed; how many packets it has sent; the event that is still to be sent; the tag that
+-- the session's number; the timestamp that it begins after; that of the event which it was offered last, and the one
+-- up to which all are confirmed; how many packets it has sent; the event that is still to be sent; the tag that
 -- was sent and isn't confirmed; whether no event follows, and whether the end mark was sent
 pub record Kept : Type 0 where
   pub number : ℕ

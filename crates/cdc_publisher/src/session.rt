@@ -30,7 +30,7 @@ pub struct Poll {
 /// confirm at a time.
 ///
 /// A session forgets what it has sent, so a clause speaks of its course, of all that it was offered, sent and was
-/// confirmed: whatever course the session stands for before a call, it stands for the next one after it.
+/// confirmed: take any course that the session may stand for before a call, and the clause says which one it is then.
 #[derive(Drop)]
 pub struct Session {
     number: u64,
@@ -195,7 +195,7 @@ impl Session {
         true
     }
 
-    /// The timestamp of the last event that is confirmed together with all before it, or the base; in nanoseconds.
+    /// The timestamp of the last event such that it and each earlier one is confirmed, or the base; in nanoseconds.
     pub fn confirmed(&self) -> u64
         ensures confirmed { (course : Course) → StandsFor self.now course → result ≡ confirmed_timestamp course }
         ensures fits { result < 2 ^ 63 }

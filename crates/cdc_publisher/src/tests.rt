@@ -180,6 +180,24 @@ fn an_event_may_be_the_last_one(rt: HostRuntime) -> Result<(), Fail> {
 }
 
 #[test]
+fn a_session_of_a_thousand_events(rt: HostRuntime) -> Result<(), Fail> {
+    let alloc = rt.alloc();
+    let mut store = MemoryStore::new();
+    let mut session = Session::start(alloc, &mut store, 1)?;
+    assert_eq!(rt; send(&mut session, alloc)?, Sent::Connect(1));
+    for tag in 1..=1_000 {
+        assert!(rt; !session.has_packet());
+        assert!(rt; offer_event(&mut session, event(tag, 700), false));
+        assert!(rt; session.has_packet());
+        assert_eq!(rt; send(&mut session, alloc)?, Sent::Event(1, tag, 700));
+        assert!(rt; session.confirm(1, tag));
+    }
+    session.save(&mut store)?;
+    assert_eq!(rt; store.load(), Ok(Some(Progress::new(1, 1_000))));
+    Ok(())
+}
+
+#[test]
 fn errors_have_their_numbers_and_names(rt: HostRuntime) {
     for (error, number, name) in [
         (StartError::Store(StoreError::BadRecord), 1, "store"),

@@ -30,7 +30,7 @@ pub enum Taking {
     AfterClose,
 }
 
-/// A subscriber. It hears events in any order, any number of times, and applies those that are later than all before;
+/// A subscriber. Events may come to it in any order and again; it applies those that are later than all before;
 /// it keeps the book of what it has applied. Once it has heard the end, or is closed, it applies no more. A clause sees
 /// what its readers give: for whatever list of items it heard, that is `kept_of` of this list.
 #[derive(Drop)]

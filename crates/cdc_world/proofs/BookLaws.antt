@@ -1,4 +1,4 @@
--- The book of a beginning of a ledger's events holds the ledger's balances as of the last of them.
+-- The book of the first so many of a ledger's events has the balances that the ledger had at the last of these.
 use Rattle.std.proofs.Common.{◌≡◌, ℕ, ◌<◌, ◌≤◌, List, [], ◌∷◌, ◌++◌, map, append-nil, refl, sym, subst, ap, ap₂, ◌∙◌, append_assoc, arith, inl, inr}
 use Rattle.std.proofs.lemmas.Bool.Decides.{eqb_tells}
 use Rattle.std.proofs.lemmas.Grind.{flat_map-append}

@@ -342,7 +342,7 @@ IsOrderly-confirmed base_of w course confirm is there among =
 
 -- ---- it saves its progress
 
--- what is confirmed together with all before it was taken
+-- an event such that it and each earlier one is confirmed was taken
 record Reaches (es : List Event) (taken : List Item) (t last : ℕ) : Type 0 where
   front : List Event
   back : List Event

@@ -26,9 +26,9 @@ balances_held book id = unwrap_or (balances_in book id) no_balances
 abbrev pub HoldsBalances : History → List Event → Type 0
 HoldsBalances h told = (id : ℕ) → balances_held (book_of told) id ≡ as_of h (last_timestamp told) id
 
--- what a subscriber has applied is a beginning of the ledger's events that match its binding, whose timestamps rise, so
--- that each is applied once and in order; once it has heard the end it is all of them, and the ledger is closed; and
--- where its binding takes every event it holds the ledger's balances as of the last event that it has applied
+-- a subscriber has applied the first so many of the events that its binding takes, whose timestamps rise, so that none
+-- came twice or out of order; once it has heard the end it has applied all, and the ledger is closed; and where its
+-- binding takes every event, its book has the balances that the ledger had at the last one applied
 pub record IsFaithful (w : WorldState) (s : Subscription) : Type 0 where
   pub prefix : IsPrefix (applied s) (feed_of w.history s.binding)
   pub rising : TimestampsRise (applied s)

@@ -27,11 +27,12 @@ abbrev pub NewWorldsAreReached : Type 0
 NewWorldsAreReached = (offers : Offered) (bindings : List Arguments) (window : ℕ) (held : Option Saved)
     → IsAtStart held → IsReachedBy offers (new_world bindings window held)
 
--- and from a world that they lead to they go on to the next one, by a step, whatever its answer, and by a play
+-- and from a world that they lead to they go on to the next one by a step, whatever its answer
 abbrev pub StepsGoOn : Type 0
 StepsGoOn = (offers : Offered) (w : WorldState) (step : Step) (answer : Result Did StepError) (w' : WorldState)
     → IsReachedBy offers w → NextBy offers w step answer w' → IsReachedBy offers w'
 
+-- and by a play
 abbrev pub PlaysGoOn : Type 0
 PlaysGoOn = (w : WorldState) (steps : List Step) (done : ℕ) (refusal : Option StepError) (w' : WorldState)
     → IsReached w → PlaysTo w steps done refusal w' → IsReached w'

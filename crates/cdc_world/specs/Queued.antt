@@ -19,10 +19,11 @@ deliveries_from position (item ∷ items) =
 abbrev pub deliveries : List Item → List Delivery
 deliveries items = deliveries_from 1 items
 
--- the items of deliveries, and their positions
+-- the items of deliveries
 abbrev pub items_in : List Delivery → List Item
 items_in ds = map (λ (d : Delivery). d.item) ds
 
+-- their positions
 abbrev pub positions_in : List Delivery → List ℕ
 positions_in ds = map (λ (d : Delivery). d.position) ds
 

@@ -182,6 +182,54 @@ fn a_whole_course(rt: HostRuntime) -> Result<(), Fail> {
     Ok(())
 }
 
+// The steps that tell a thousand events and no more, one after another. All are of one batch of transfers.
+fn long_course(alloc: Global) -> Result<Vec<Step>, AllocError> {
+    let mut items = Vec::new(alloc);
+    for id in 1..=1_000u64 {
+        items.push(transfer(u128::from(id), 1))?;
+    }
+    let mut steps = Vec::from_array(
+        alloc,
+        [
+            accounts(alloc)?,
+            Step::Submit(Batch::Transfers {
+                now: 2000,
+                items: Items::from_vec(items),
+            }),
+            Step::Start,
+            Step::Publish,
+            Step::Arrive(1),
+        ],
+    )?;
+    for event in 1..=1_000u64 {
+        steps.push(Step::Poll)?;
+        steps.push(Step::Publish)?;
+        steps.push(Step::Arrive(event + 1))?;
+        steps.push(Step::Answer(event))?;
+        steps.push(Step::Send(1))?;
+        steps.push(Step::Take(1))?;
+    }
+    steps.push(Step::Save)?;
+    Ok(steps)
+}
+
+#[test]
+fn a_thousand_events(rt: HostRuntime) -> Result<(), Fail> {
+    let alloc = rt.alloc();
+    let left = Left {
+        done: 6_006,
+        refusal: None,
+        progress: (1, 2999),
+        packets: 1_001,
+        confirms: 1_000,
+        applied: 1_000,
+        last: 2999,
+        ended: false,
+    };
+    assert!(rt; leaves(alloc, &long_course(alloc)?, &left)?);
+    Ok(())
+}
+
 #[test]
 fn an_empty_ledger(rt: HostRuntime) -> Result<(), Fail> {
     let alloc = rt.alloc();
