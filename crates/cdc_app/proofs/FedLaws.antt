@@ -21,16 +21,17 @@ use Rattle.cdc_match.specs.Queue.{feed, queue, takes_event, takes_item}
 use Rattle.cdc_message.specs.declared.items.Item.{Item}
 use Rattle.cdc_message.specs.declared.items.Item.TheVariants.{Event as OfEvent, EndMark}
 use Rattle.cdc_message.specs.Items.{TimestampsRise, events_of, rises}
+use Rattle.cdc_message.specs.Replays.{IsPrefix}
 use Rattle.cdc_message.proofs.LineLaws.{events_of-map, rises-rising}
 use Rattle.cdc_message.proofs.RisesLaws.{events_of-push_end}
 use Rattle.cdc_subscriber.specs.Book.{accounts_of, book_of}
 use Rattle.cdc_subscriber.specs.Heard.{Heard, is_end, kept_of, next, nothing}
 use Rattle.cdc_subscriber.specs.Kept.{Kept}
+use Rattle.cdc_world.proofs.BookLaws.{book_of-prefix}
 use Rattle.cdc_app.specs.declared.scripts.Script.{Script}
 use Rattle.cdc_app.specs.Feeds.{fed, hearing, line_of}
 use Rattle.cdc_app.specs.Held.{HasWholeFeed, HoldsBalances, entry_as_of, every_event}
 use Rattle.cdc_app.specs.Printed.{history_after, history_of}
-use Rattle.cdc_app.proofs.BookLaws.{book_of-events}
 
 -- ---- the events of a ledger rise, and so do those of a feed
 
@@ -185,11 +186,16 @@ every_one : (es : List Event) → feed es every_event ≡ es
 every_one [] = refl
 every_one (e ∷ es) = ap (λ more. e ∷ more) (every_one es)
 
+-- the events of a ledger begin with themselves
+all_told : (h : History) → IsPrefix (events h) (events h)
+all_told h = record { rest = []; whole = append-nil (events h) }
+
 pub holds_balances : (script : Script) → HoldsBalances (history_of script)
 holds_balances script =
     let h : History = history_of script in
     let whole = whole_feeds script every_event in
     let last : (fed (line_of (events h)) every_event).last ≡ last_timestamp (events h) =
     ap (λ (k : Kept). k.last) whole ∙ ap last_timestamp (every_one (events h)) in
-    ap (λ (k : Kept). k.book) whole ∙ ap book_of (every_one (events h)) ∙ book_of-events h (sound_script script)
+    ap (λ (k : Kept). k.book) whole ∙ ap book_of (every_one (events h))
+    ∙ book_of-prefix h (events h) (sound_script script) (all_told h)
     ∙ ap (λ t. map (entry_as_of h t) (accounts_of (events h))) (sym last)

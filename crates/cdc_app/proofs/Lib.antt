@@ -1,6 +1,5 @@
 mod Examples
 pub mod BindingLemmas
-pub mod BookLaws
 pub mod FedLaws
 pub mod FeedLemmas
 pub mod FieldMarks

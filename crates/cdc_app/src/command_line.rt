@@ -7,7 +7,7 @@ use std::alloc::AllocError;
 use thiserror::Error;
 
 /// What the words ask for.
-#[derive(Debug, Drop)]
+#[derive(Drop)]
 pub enum Options<'a> {
     /// The results of a script's batches and the book of a subscriber, of the script in this file; `-` is standard input.
     Books {

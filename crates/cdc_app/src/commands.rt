@@ -24,7 +24,7 @@ use std::io;
 use std::io::{Read, Write};
 
 /// What a script may be read for.
-#[derive(Clone, Copy, Debug, PartialEq, Eq)]
+#[derive(Clone, Copy)]
 pub enum Report {
     /// The results of its batches, and what its subscribers then hold.
     Books,

@@ -7,7 +7,7 @@ use crate::faults::{ProgramFault, ScriptFault};
 use cdc_world::StepError;
 
 /// How a command ended.
-#[derive(Clone, Copy, Debug)]
+#[derive(Clone, Copy)]
 pub enum Ending {
     /// It did all that was asked.
     Done,

@@ -11,7 +11,7 @@ use std::io;
 use thiserror::Error;
 
 /// What is wrong at a place of a script or a step file.
-#[derive(Clone, Copy, Debug, PartialEq, Eq)]
+#[derive(Clone, Copy, Debug)]
 pub enum FaultKind {
     /// A byte that is neither a printable ASCII character nor a line's end.
     BadText,
@@ -72,7 +72,7 @@ impl FaultKind {
 }
 
 /// Why a line wasn't read.
-#[derive(Clone, Copy, Debug, PartialEq, Eq)]
+#[derive(Clone, Copy)]
 pub enum LineError {
     /// The line is bad.
     Fault(FaultKind),
@@ -114,7 +114,7 @@ impl From<BindError> for LineError {
 }
 
 /// What is wrong with a script or a step file, and in which line, from 1; 0 for the file as a whole.
-#[derive(Clone, Copy, Debug, PartialEq, Eq)]
+#[derive(Clone, Copy, Debug)]
 pub struct ScriptFault {
     /// The line.
     pub line: u64,

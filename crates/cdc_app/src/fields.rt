@@ -10,7 +10,7 @@ use crate::words::{is_printable_word, next_word, split_once};
 use cdc_types::{NewAccount, NewTransfer};
 
 /// What a line says of an item: the fields of accounts and of transfers, each 0 where the line doesn't give it.
-#[derive(Clone, Copy, Debug, PartialEq, Eq)]
+#[derive(Clone, Copy)]
 pub struct Fields {
     /// The account's or transfer's number.
     pub id: u128,
@@ -39,7 +39,7 @@ pub struct Fields {
 }
 
 /// The name of a field.
-#[derive(Clone, Copy, Debug, PartialEq, Eq)]
+#[derive(Clone, Copy)]
 pub enum Key {
     /// `id`.
     Id,
@@ -68,7 +68,7 @@ pub enum Key {
 }
 
 /// What an item asks for.
-#[derive(Clone, Copy, Debug, PartialEq, Eq)]
+#[derive(Clone, Copy)]
 pub enum ItemKind {
     /// An account to be made.
     Account,

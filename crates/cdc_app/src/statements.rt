@@ -12,7 +12,7 @@ ghost use Rattle.cdc_app.specs.Words.{words as words_of, is_printable};
 use crate::faults::{FaultKind, LineError};
 use crate::fields::{ItemKind, read_fields};
 use crate::operands::{at_end, read_lone_number, read_word_number};
-use crate::words::{first_word, is_printable_word, next_word};
+use crate::words::{first_word, is_printable_word, is_word, next_word};
 use cdc_match::Binding;
 use cdc_types::{Limits, NewAccount, NewTransfer};
 use std::alloc::{AllocError, Global};
@@ -38,7 +38,7 @@ pub enum Statement {
 }
 
 /// What the lines above a line leave for it.
-#[derive(Clone, Copy, Debug, PartialEq, Eq)]
+#[derive(Clone, Copy)]
 pub struct Context {
     /// The kind of the batch that is open, if one is.
     pub open_batch: Option<ItemKind>,
@@ -73,7 +73,7 @@ fn read_words(
         (λ error. IsLineFault error (meaning context first.now (words_of rest.now))) }
     ensures suited { IfOk result (IsSuited context) }
 {
-    if first == b"subscriber".as_slice() {
+    if is_word(first, "subscriber") {
         read_subscriber(alloc, rest, context.subscribers)
     } else {
         Ok(read_other_words(first, rest, context)?)
@@ -88,17 +88,17 @@ fn read_other_words(first: &[u8], rest: &[u8], context: Context) -> Result<State
 {
     if !is_printable_word(first) {
         Err(FaultKind::BadText)
-    } else if first == b"client".as_slice() {
+    } else if is_word(first, "client") {
         read_client(rest)
-    } else if first == b"accounts".as_slice() {
+    } else if is_word(first, "accounts") {
         Ok(Statement::Accounts(read_lone_number(rest)?))
-    } else if first == b"transfers".as_slice() {
+    } else if is_word(first, "transfers") {
         Ok(Statement::Transfers(read_lone_number(rest)?))
-    } else if first == b"pulse".as_slice() {
+    } else if is_word(first, "pulse") {
         Ok(Statement::Pulse(read_lone_number(rest)?))
-    } else if first == b"account".as_slice() {
+    } else if is_word(first, "account") {
         read_account(rest, context.open_batch)
-    } else if first == b"transfer".as_slice() {
+    } else if is_word(first, "transfer") {
         read_transfer(rest, context.open_batch)
     } else {
         Err(FaultKind::UnknownWord)

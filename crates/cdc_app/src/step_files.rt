@@ -10,13 +10,13 @@ ghost use Rattle.cdc_app.specs.Words.{words as words_of};
 use crate::faults::{FaultKind, ScriptError};
 use crate::operands::{at_end, read_lone_number};
 use crate::reading::{fault_at, read_text};
-use crate::words::{first_word, is_printable_word, next_line};
+use crate::words::{first_word, is_printable_word, is_word, next_line};
 use cdc_types::Limits;
 use std::alloc::{AllocError, Global};
 use std::io::Read;
 
 /// One action of a simulation.
-#[derive(Clone, Copy, Debug, PartialEq, Eq)]
+#[derive(Clone, Copy)]
 pub enum Act {
     /// The next batch of the script goes to the ledger.
     Batch,
@@ -56,25 +56,25 @@ fn act_of_words(first: &[u8], rest: &[u8]) -> Result<Act, FaultKind>
 {
     if !is_printable_word(first) {
         Err(FaultKind::BadText)
-    } else if first == b"batch".as_slice() {
+    } else if is_word(first, "batch") {
         at_end(rest, FaultKind::WrongCount, Act::Batch)
-    } else if first == b"close_ledger".as_slice() {
+    } else if is_word(first, "close_ledger") {
         at_end(rest, FaultKind::WrongCount, Act::CloseLedger)
-    } else if first == b"start".as_slice() {
+    } else if is_word(first, "start") {
         at_end(rest, FaultKind::WrongCount, Act::Start)
-    } else if first == b"poll".as_slice() {
+    } else if is_word(first, "poll") {
         at_end(rest, FaultKind::WrongCount, Act::Poll)
-    } else if first == b"publish".as_slice() {
+    } else if is_word(first, "publish") {
         at_end(rest, FaultKind::WrongCount, Act::Publish)
-    } else if first == b"save".as_slice() {
+    } else if is_word(first, "save") {
         at_end(rest, FaultKind::WrongCount, Act::Save)
-    } else if first == b"arrive".as_slice() {
+    } else if is_word(first, "arrive") {
         Ok(Act::Arrive(read_lone_number(rest)?))
-    } else if first == b"answer".as_slice() {
+    } else if is_word(first, "answer") {
         Ok(Act::Answer(read_lone_number(rest)?))
-    } else if first == b"send".as_slice() {
+    } else if is_word(first, "send") {
         Ok(Act::Send(read_lone_number(rest)?))
-    } else if first == b"take".as_slice() {
+    } else if is_word(first, "take") {
         Ok(Act::Take(read_lone_number(rest)?))
     } else {
         Err(FaultKind::UnknownWord)

@@ -3,6 +3,7 @@
 ghost use Rattle.std.specs.Prelude.{◌≡◌, ◌==◌, ◌∷◌, ◌<◌, [], length, position, IfSome, MatchOption};
 ghost use Rattle.std.specs.Option.{option_map};
 ghost use Rattle.std.specs.List.{slice_split};
+ghost use Rattle.std.specs.Str.{bytes_eq};
 ghost use Rattle.std.specs.Str.Lines.{lines, strip_carriage_return};
 ghost use Rattle.cdc_app.specs.Parts.{parted};
 ghost use Rattle.cdc_app.specs.Words.{words, spoken, is_printable};
@@ -84,4 +85,11 @@ pub fn is_printable_word(word: &[u8]) -> bool
     ensures { result ≡ is_printable word.now }
 {
     word.iter().all(|byte| matches!(byte, b' '..=b'~'))
+}
+
+/// Whether the word is the one that is wanted.
+pub fn is_word(word: &[u8], wanted: &str) -> bool
+    ensures { result ≡ bytes_eq word.now wanted.now }
+{
+    word == wanted.as_bytes()
 }
