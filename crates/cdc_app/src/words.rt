@@ -28,8 +28,8 @@ pub fn split_once(bytes: &[u8], separator: u8) -> Option<(&[u8], &[u8])>
     }
 }
 
-/// The first line of a text, without its end, and the text after it. A carriage return before the line feed belongs to
-/// the line's end. The last line may end with the text.
+/// The first line of a text, without its end, and the text after it. A line's end is its line feed, with a carriage
+/// return right in front of it where there is one. The last line may end with the text.
 pub fn next_line(text: &[u8]) -> Option<(&[u8], &[u8])>
     ensures line { MatchOption result (lines text.now ≡ []) (λ found. lines text.now ≡ found.0.now ∷ lines found.1.now) }
     ensures shorter { MatchOption result (text.now ≡ []) (λ found. length found.1.now < length text.now) }
