@@ -3,108 +3,110 @@
 ghost use Rattle.std.specs.Prelude.{◌≡◌};
 ghost use Rattle.cdc_types.specs.Results.{account_number, account_name, transfer_number, transfer_name};
 
-/// What became of a request for an account (TigerBeetle, `create_accounts`).
+/// What became of a request for an account (TigerBeetle, `create_accounts`). The variants stand in the order of their
+/// numbers, from 0.
 #[derive(Clone, Copy, Debug, PartialEq, Eq)]
 pub enum AccountResult {
     /// The account was made.
-    Accepted = 0,
+    Accepted,
     /// A flag is set that the ledger doesn't take.
-    ReservedFlag = 1,
+    ReservedFlag,
     /// The id is 0.
-    IdMustNotBeZero = 2,
+    IdMustNotBeZero,
     /// The id is 2^128-1.
-    IdMustNotBeIntMax = 3,
+    IdMustNotBeIntMax,
     /// Both limits on a balance are asked for.
-    FlagsAreMutuallyExclusive = 4,
+    FlagsAreMutuallyExclusive,
     /// The ledger is 0.
-    LedgerMustNotBeZero = 5,
+    LedgerMustNotBeZero,
     /// The code is 0.
-    CodeMustNotBeZero = 6,
+    CodeMustNotBeZero,
     /// The id is another account's, with other fields.
-    ExistsWithDifferentFields = 7,
+    ExistsWithDifferentFields,
     /// The account is there already.
-    Exists = 8,
+    Exists,
 }
 
-/// What became of a request for a transfer (TigerBeetle, `create_transfers`).
+/// What became of a request for a transfer (TigerBeetle, `create_transfers`). The variants stand in the order of their
+/// numbers, from 0.
 #[derive(Clone, Copy, Debug, PartialEq, Eq)]
 pub enum TransferResult {
     /// The transfer was made.
-    Accepted = 0,
+    Accepted,
     /// A flag is set that the ledger doesn't take.
-    ReservedFlag = 1,
+    ReservedFlag,
     /// The id is 0.
-    IdMustNotBeZero = 2,
+    IdMustNotBeZero,
     /// The id is 2^128-1.
-    IdMustNotBeIntMax = 3,
+    IdMustNotBeIntMax,
     /// Two of pending, post and void are asked for.
-    FlagsAreMutuallyExclusive = 4,
+    FlagsAreMutuallyExclusive,
     /// Only a post or a void names a pending transfer.
-    PendingIdMustBeZero = 5,
+    PendingIdMustBeZero,
     /// A post or a void names a pending transfer.
-    PendingIdMustNotBeZero = 6,
+    PendingIdMustNotBeZero,
     /// A transfer can't post or void itself.
-    PendingIdMustBeDifferent = 7,
+    PendingIdMustBeDifferent,
     /// Only a pending transfer has a timeout.
-    TimeoutReservedForPendingTransfer = 8,
+    TimeoutReservedForPendingTransfer,
     /// The ledger is 0.
-    LedgerMustNotBeZero = 9,
+    LedgerMustNotBeZero,
     /// The code is 0.
-    CodeMustNotBeZero = 10,
+    CodeMustNotBeZero,
     /// Both accounts are one.
-    AccountsMustBeDifferent = 11,
+    AccountsMustBeDifferent,
     /// The id is another transfer's, with other fields.
-    ExistsWithDifferentFields = 12,
+    ExistsWithDifferentFields,
     /// The transfer is there already.
-    Exists = 13,
+    Exists,
     /// There is no such account.
-    DebitAccountNotFound = 14,
+    DebitAccountNotFound,
     /// There is no such account.
-    CreditAccountNotFound = 15,
+    CreditAccountNotFound,
     /// The accounts are of two ledgers.
-    AccountsMustHaveTheSameLedger = 16,
+    AccountsMustHaveTheSameLedger,
     /// The transfer is of another ledger than its accounts.
-    TransferMustHaveTheSameLedgerAsAccounts = 17,
+    TransferMustHaveTheSameLedgerAsAccounts,
     /// There is no such transfer.
-    PendingTransferNotFound = 18,
+    PendingTransferNotFound,
     /// The transfer isn't a pending one.
-    PendingTransferNotPending = 19,
+    PendingTransferNotPending,
     /// The pending transfer debits another account.
-    PendingTransferHasDifferentDebitAccountId = 20,
+    PendingTransferHasDifferentDebitAccountId,
     /// The pending transfer credits another account.
-    PendingTransferHasDifferentCreditAccountId = 21,
+    PendingTransferHasDifferentCreditAccountId,
     /// The pending transfer is of another ledger.
-    PendingTransferHasDifferentLedger = 22,
+    PendingTransferHasDifferentLedger,
     /// The pending transfer has another code.
-    PendingTransferHasDifferentCode = 23,
+    PendingTransferHasDifferentCode,
     /// More than was held back.
-    ExceedsPendingTransferAmount = 24,
+    ExceedsPendingTransferAmount,
     /// A void of another amount than was held back.
-    PendingTransferHasDifferentAmount = 25,
+    PendingTransferHasDifferentAmount,
     /// The pending transfer was posted.
-    PendingTransferAlreadyPosted = 26,
+    PendingTransferAlreadyPosted,
     /// The pending transfer was voided.
-    PendingTransferAlreadyVoided = 27,
+    PendingTransferAlreadyVoided,
     /// The pending transfer has come to its end.
-    PendingTransferExpired = 28,
+    PendingTransferExpired,
     /// The sum would pass 2^128-1.
-    OverflowsDebitsPending = 29,
+    OverflowsDebitsPending,
     /// The sum would pass 2^128-1.
-    OverflowsCreditsPending = 30,
+    OverflowsCreditsPending,
     /// The sum would pass 2^128-1.
-    OverflowsDebitsPosted = 31,
+    OverflowsDebitsPosted,
     /// The sum would pass 2^128-1.
-    OverflowsCreditsPosted = 32,
+    OverflowsCreditsPosted,
     /// Pending and posted debits together would pass 2^128-1.
-    OverflowsDebits = 33,
+    OverflowsDebits,
     /// Pending and posted credits together would pass 2^128-1.
-    OverflowsCredits = 34,
+    OverflowsCredits,
     /// The end of the pending transfer would pass 2^63-1.
-    OverflowsTimeout = 35,
+    OverflowsTimeout,
     /// The debits would pass the credits of an account that forbids it.
-    ExceedsCredits = 36,
+    ExceedsCredits,
     /// The credits would pass the debits of an account that forbids it.
-    ExceedsDebits = 37,
+    ExceedsDebits,
 }
 
 impl AccountResult {
