@@ -28,8 +28,8 @@ pub record Subscription : Type 0 where
   pub heard : Heard
 
 -- the ledger's history; what the store holds; for how many events a session waits at a time; the connector's session,
--- none where it is down; the packets and the confirms that were ever sent, in order; those of the packets that the
--- broker took; how many times a packet, and a confirm, has come; and the subscribers with their queues
+-- none where it is down; the packets and the confirms that were ever sent, in order; the packets that the broker took,
+-- one after another; how many times a packet, and a confirm, has come; and the subscribers with their queues
 pub record WorldState : Type 0 where
   pub history : History
   pub held : Option Saved
