@@ -34,9 +34,11 @@ TimestampsDiffer-push (z ∷ xs) x differ others = (
 abbrev same_timestamp : Triple → Triple → Bool
 same_timestamp x y = nat_eq x.timestamp y.timestamp
 
+-- timestamps that differ fail the test by which std asks whether elements are the same
 not_equal : (a b : ℕ) → b ≢ a → nat_eq a b ≡ false
 not_equal a b differ = elim (eqb_tells a b) [ inl h ↦ absurd (differ (sym h.1)) | inr h ↦ h.0 ]
 
+-- a list of triples with different timestamps has distinct elements by that test, of which std has laws
 to_distinct : (xs : List Triple) → TimestampsDiffer xs → IsDistinct same_timestamp xs
 to_distinct [] differ = IsDistinct-from_apart same_timestamp [] (λ i j d below within. absurd (omega arith))
 to_distinct (x ∷ xs) differ =
@@ -46,6 +48,7 @@ to_distinct (x ∷ xs) differ =
     (λ y. not_equal x.timestamp y.timestamp) xs differ.0))
     (to_distinct xs differ.1)
 
+-- and back, once the triples have changed places
 from_distinct : (xs : List Triple) → IsDistinct same_timestamp xs → TimestampsDiffer xs
 from_distinct [] distinct = tt
 from_distinct (x ∷ xs) distinct = (
@@ -55,6 +58,7 @@ from_distinct (x ∷ xs) distinct = (
   from_distinct xs (IsDistinct-tail same_timestamp x xs distinct),
 )
 
+-- an index may keep its triples in any order: their timestamps still differ
 pub TimestampsDiffer-IsPermutation : (xs ys : List Triple) → IsPermutation xs ys → TimestampsDiffer xs
     → TimestampsDiffer ys
 TimestampsDiffer-IsPermutation xs ys moved differ =

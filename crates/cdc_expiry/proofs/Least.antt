@@ -16,6 +16,7 @@ turned Less back is later = cc
 turned Equal back is later = ap is_le is
 turned Greater back is later = ap is_le is
 
+-- so a triple that isn't before m is at or after it
 at_or_after : (m x : Triple) → is_lt (triple_cmp x m) ≡ false → is_le (triple_cmp m x) ≡ true
 at_or_after m x later = turned (triple_cmp x m) (triple_cmp m x) (triple_cmp_total.antisymm m x) later
 
@@ -25,11 +26,13 @@ read_and : (P : Triple → Type 0) (item : Option Triple) (x : Triple) → optio
 read_and P None x is holds = absurd holds
 read_and P (Some y) x is holds = let same : y ≡ x = cc in subst P same holds
 
+-- the same of what holds of every item that there is
 read_if : (P : Triple → Type 0) (item : Option Triple) (x : Triple) → option_map (λ y. y) item ≡ Some x
     → IfSome item P → P x
 read_if P None x is holds = let never : ⊥ = cc in absurd never
 read_if P (Some y) x is holds = let same : y ≡ x = cc in subst P same holds
 
+-- a run that gave no item went over an empty list, of which no triple is the least
 no_items : (xs : List Triple) → length xs ≡ 0 → xs ≡ []
 no_items [] none = refl
 no_items (x ∷ xs) none = absurd (omega arith)

@@ -26,6 +26,7 @@ pub contains-set_of : (xs : List Triple) (x : Triple) → Contains xs x → cont
 contains-set_of xs x there =
     contains-from_list triple_cmp_total xs x ∙ list_any-from_Contains (eq_by_cmp_equiv triple_cmp_total) x xs there
 
+-- and back, so that what a contract says of the set may be said of the list
 pub Contains-set_of : (xs : List Triple) (x : Triple) → contains (set_of xs) x ≡ true → Contains xs x
 Contains-set_of xs x there =
     Contains-from_any same_triple x xs (sym (contains-from_list triple_cmp_total xs x) ∙ there)
@@ -43,6 +44,7 @@ set_of-same xs ys there back =
     (λ h. contains-set_of ys x (there x (Contains-set_of xs x h)))
     (λ h. contains-set_of xs x (back x (Contains-set_of ys x h))))
 
+-- so the order in which an index keeps its triples doesn't show
 pub set_of-IsPermutation : (xs ys : List Triple) → IsPermutation xs ys → set_of xs ≡ set_of ys
 set_of-IsPermutation xs ys moved =
     set_of-same xs ys (λ x. Contains-permutation xs ys x moved)
@@ -59,6 +61,7 @@ and_swap true false = refl
 and_swap false true = refl
 and_swap false false = refl
 
+-- what is kept of the set is the set of what is kept of the list
 pub retain-set_of : (p : Triple → Bool) (xs : List Triple) → retain (set_of xs) p ≡ set_of (filter p xs)
 retain-set_of p xs =
     same_set triple_cmp_total triple_cmp-IsAntisymmetric _ _ (λ q.
@@ -68,6 +71,7 @@ retain-set_of p xs =
     ∙ sym (any-filter_same (eq_by_cmp triple_cmp q) p (p q) (λ x tied. ap p (sym (same_triple q x tied))) xs)
     ∙ sym (contains-from_list triple_cmp_total (filter p xs) q))
 
+-- so the triples that are due are found by filtering the list
 pub due_at-set_of : (xs : List Triple) (now : ℕ) → due_at (set_of xs) now ≡ set_of (filter (is_due now) xs)
 due_at-set_of xs now = retain-set_of (is_due now) xs
 
@@ -75,6 +79,7 @@ due_at-set_of xs now = retain-set_of (is_due now) xs
 by_timestamp : (x : Triple) (e t : ℕ) → (x.timestamp ≡ t → x.expires_at ≡ e) → has_numbers e t x ≡ (x.timestamp == t)
 by_timestamp x e t ends = grind (arith, nat_tests)
 
+-- so the list without both numbers is the list without that timestamp
 filter_alike : (xs : List Triple) (e t : ℕ) → All (λ x. x.timestamp ≡ t → x.expires_at ≡ e) xs
     → filter (λ x. not (has_numbers e t x)) xs ≡ filter (λ x. not (x.timestamp == t)) xs
 filter_alike [] e t ends = refl
@@ -83,6 +88,7 @@ filter_alike (x ∷ xs) e t ends =
     let rest = filter_alike xs e t (All-tail (λ x. x.timestamp ≡ t → x.expires_at ≡ e) x xs ends) in
     λ i. cond (not (here i)) (x ∷ rest i) (rest i)
 
+-- where a timestamp has one end in the list, a triple is removed from the set by its timestamp alone
 pub without-set_of : (xs : List Triple) (e t : ℕ) → All (λ x. x.timestamp ≡ t → x.expires_at ≡ e) xs
     → without (set_of xs) e t ≡ set_of (filter (λ x. not (x.timestamp == t)) xs)
 without-set_of xs e t ends =
@@ -97,6 +103,7 @@ not_there xs x others =
       | false ↦ λ _. refl
     ] refl
 
+-- where no two triples have the same timestamp the set has as many as the list, which `len` counts
 pub len-set_of : (xs : List Triple) → TimestampsDiffer xs → len (set_of xs) ≡ length xs
 len-set_of [] differ = len-empty triple_cmp
 len-set_of (x ∷ xs) differ =
@@ -104,6 +111,7 @@ len-set_of (x ∷ xs) differ =
     let before : len (set_of xs) ≡ length xs = len-set_of xs differ.1 in
     len-insert triple_cmp_total (set_of xs) x ∙ (λ i. cond (absent i) (before i) (before i + 1)) ∙ add-one (length xs)
 
+-- and as many are due in the one as in the other, which a pulse counts
 pub due_count-set_of : (xs : List Triple) (now : ℕ) → TimestampsDiffer xs
     → len (due_at (set_of xs) now) ≡ length (filter (is_due now) xs)
 due_count-set_of xs now differ =
@@ -114,6 +122,7 @@ pub IsNewTimestamp-set_of : (xs : List Triple) (t : ℕ) → All (λ x. x.timest
 IsNewTimestamp-set_of xs t others x there =
     All-contains (λ x. x.timestamp ≢ t) xs x others (Contains-set_of xs x there)
 
+-- and back: what `add` requires of the set holds of the list that is kept
 pub others-set_of : (xs : List Triple) (t : ℕ) → IsNewTimestamp (set_of xs) t → All (λ x. x.timestamp ≢ t) xs
 others-set_of xs t new k d within = new _ (contains-set_of xs _ (Contains-get_or xs k d within))
 
@@ -161,15 +170,18 @@ HasNumbers-set_of xs x there = (x, contains-set_of xs x there, grind (arith, nat
 abbrev pub IsLeastOf : List Triple → Option Triple → Type 0
 IsLeastOf xs answer = MatchOption answer (xs ≡ []) (λ x. Contains xs x × All (λ y. is_le (triple_cmp x y) ≡ true) xs)
 
+-- the first triple of a list is in its set, so a list whose set is empty has none
 first_there : (x : Triple) (xs : List Triple) → contains (set_of (x ∷ xs)) x ≡ true
 first_there x xs = contains-set_of (x ∷ xs) x (0, omega arith, refl)
 
+-- the index's answer is the least triple of the list, so that the ledger knows whose end comes first
 pub IsLeastOf-set_of : (xs : List Triple) (answer : Option Triple) → IsLeast (set_of xs) answer → IsLeastOf xs answer
 IsLeastOf-set_of [] None least = refl
 IsLeastOf-set_of (x ∷ xs) None least = absurd (empty_lacks (set_of (x ∷ xs)) x least (first_there x xs))
 IsLeastOf-set_of xs (Some x) least =
     (Contains-set_of xs x least.0, λ k d within. least.1 _ (contains-set_of xs _ (Contains-get_or xs k d within)))
 
+-- and back: the least triple of the list is the answer that `due` promises
 pub IsLeast-set_of : (xs : List Triple) (answer : Option Triple) → IsLeastOf xs answer → IsLeast (set_of xs) answer
 IsLeast-set_of xs None least = ap set_of least
 IsLeast-set_of xs (Some x) least = (
@@ -184,6 +196,7 @@ neither_later x y Less back is turned le also = cc
 neither_later x y Equal back is turned le also = triple_cmp-IsAntisymmetric x y is
 neither_later x y Greater back is turned le also = cc
 
+-- a set has one least triple at most, so there is one right answer
 pub IsLeast-unique : (s : Triples) (a b : Option Triple) → IsLeast s a → IsLeast s b → a ≡ b
 IsLeast-unique s None None least also = refl
 IsLeast-unique s None (Some y) least also = absurd (empty_lacks s y least also.0)

@@ -9,6 +9,7 @@ use Rattle.std.proofs.lemmas.Bool.Decides.{nat_tests}
 use Rattle.cdc_expiry.specs.declared.triple.Triple.{Triple}
 use Rattle.cdc_expiry.specs.Triples.{triple_cmp}
 
+-- any two triples can be compared, which sets of them and the search for the least rest on
 pub triple_cmp_total : IsTotalOrder triple_cmp
 triple_cmp_total =
     let by_end = on_total (λ (x : Triple). x.expires_at) nat_cmp_total in
@@ -22,6 +23,7 @@ ties_both Less b tied = cc
 ties_both Equal b tied = (refl, tied)
 ties_both Greater b tied = cc
 
+-- triples that tie have the same end, timestamp and slot, so they are the same
 pub triple_cmp-IsAntisymmetric : IsAntisymmetric triple_cmp
 triple_cmp-IsAntisymmetric x y tied =
     let ends = ties_both (nat_cmp x.expires_at y.expires_at) _ tied in

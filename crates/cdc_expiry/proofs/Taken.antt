@@ -21,6 +21,7 @@ none_before p (x ∷ xs) past =
       | false ↦ λ fails over. All-cons (λ x. p x ≡ false) x xs fails (none_before p xs (omega arith))
     ] refl past
 
+-- a search that answers no place went past the end of the list
 past_the_end : (place long : ℕ) → cond (nat_lt place long) (Some place) None ≡ None → long ≤ place
 past_the_end place long none =
     elim (nat_lt place long) as (λ b. nat_lt place long ≡ b → cond b (Some place) None ≡ None → long ≤ place) [
@@ -28,6 +29,7 @@ past_the_end place long none =
       | false ↦ λ fails _. ltb-false place long fails
     ] refl none
 
+-- so where `remove` finds no place, no triple of the list has the numbers
 pub none_at : (p : Triple → Bool) (xs : List Triple) → position p xs ≡ None → All (λ x. p x ≡ false) xs
 none_at p xs none = none_before p xs (past_the_end (position_or_len p xs) (length xs) none)
 
@@ -42,6 +44,7 @@ not_found xs e t none found =
     let there = Contains-set_of xs found.0 found.1 in
     true≢false (sym found.2 ∙ All-contains (λ x. has_numbers e t x ≡ false) xs found.0 none there)
 
+-- a list without triples of these numbers loses none when they are left out
 keeps_all : (xs : List Triple) (e t : ℕ) → All (λ x. has_numbers e t x ≡ false) xs
     → filter (λ x. not (has_numbers e t x)) xs ≡ xs
 keeps_all [] e t none = refl
@@ -50,6 +53,7 @@ keeps_all (x ∷ xs) e t none =
     let rest = keeps_all xs e t (All-tail (λ x. has_numbers e t x ≡ false) x xs none) in
     λ i. cond (not (here i)) (x ∷ rest i) (rest i)
 
+-- so `remove` of an end that isn't in the index changes nothing
 pub without_none : (xs : List Triple) (e t : ℕ) → All (λ x. has_numbers e t x ≡ false) xs
     → set_of xs ≡ without (set_of xs) e t
 without_none xs e t none =
@@ -60,6 +64,7 @@ other_numbers : (x y : Triple) (e t : ℕ) → has_numbers e t x ≡ true → y.
     → has_numbers e t y ≡ false
 other_numbers x y e t has other = grind (arith, nat_tests)
 
+-- to take these numbers out of a set is to take out the one triple that has them
 without_first : (x : Triple) (xs : List Triple) (e t : ℕ) → has_numbers e t x ≡ true → TimestampsDiffer (x ∷ xs)
     → without (set_of (x ∷ xs)) e t ≡ set_of xs
 without_first x xs e t has differ =
@@ -76,6 +81,7 @@ TimestampsDiffer-taken xs i x within at differ =
     let apart = TimestampsDiffer-IsPermutation xs (x ∷ swap_remove xs i x) moved differ in
     apart.1
 
+-- so the triple that `remove` swaps out of the list is the one that leaves the set
 pub without_taken : (xs : List Triple) (i : ℕ) (x : Triple) (e t : ℕ) → i < length xs → x ≡ get_or xs i x
     → has_numbers e t x ≡ true → TimestampsDiffer xs → set_of (swap_remove xs i x) ≡ without (set_of xs) e t
 without_taken xs i x e t within at has differ =

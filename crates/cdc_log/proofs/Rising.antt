@@ -21,6 +21,7 @@ last_timestamp_from-cons : (t : ℕ) (x : Event) (es : List Event) (e : Event) �
 last_timestamp_from-cons t x [] e found = cc
 last_timestamp_from-cons t x (y ∷ es) e found = last_timestamp_from-cons x.timestamp y es e found
 
+-- so the last timestamp of a log can be read at its last place
 pub last_timestamp_from-slice_get : (es : List Event) (e : Event) → slice_get es (length es - 1) ≡ Some e
     → last_timestamp es ≡ e.timestamp
 last_timestamp_from-slice_get [] e found = cc
@@ -56,6 +57,7 @@ IsNonDecreasingBy-rising t (x ∷ es) rising (suc i) (suc j) d below within =
 not_up_to : (n t : ℕ) → nat_le n t ≡ false → nat_lt t n ≡ true
 not_up_to n t later = grind (arith, nat_tests)
 
+-- and the other way: an event up to the moment isn't one after it
 not_later : (n t : ℕ) → nat_le n t ≡ true → nat_lt t n ≡ false
 not_later n t up_to = grind (arith, nat_tests)
 
