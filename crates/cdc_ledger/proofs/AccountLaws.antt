@@ -12,9 +12,11 @@ use Rattle.cdc_ledger.proofs.Changes.{pushed, with_account, timed, IsUpTo, accou
 use Rattle.cdc_ledger.proofs.Elements.{AllByRecursion-every, map_same, map-map}
 use Rattle.cdc_ledger.proofs.BalanceLaws.{balances_later, balances-pushed, balances_none}
 
+-- accounts look the same where each one does, so that balances may be compared account by account
 map_every : (f g : Opened → Account) → ((o : Opened) → f o ≡ g o) → (os : List Opened) → map f os ≡ map g os
 map_every f g same os = map_same f g os (AllByRecursion-every (λ o. f o ≡ g o) same os)
 
+-- a refused request takes its timestamp and leaves the balances of all accounts
 pub accounts_now-timed : (h : History) (t : ℕ) → IsUpTo h.last h → h.last ≤ t
     → accounts_now (timed h t) ≡ accounts_now h
 accounts_now-timed h t within later = map_every (account_now (timed h t)) (account_now h)
@@ -24,6 +26,7 @@ accounts_now-timed h t within later = map_every (account_now (timed h t)) (accou
 abbrev pub account_after : History → Entry → Account → Account
 account_after h e = account_changed (effect_of h e) e.transfer.debit_account_id e.transfer.credit_account_id
 
+-- an entry changes all accounts as the code changes its running balances
 pub accounts_now-pushed : (h : History) (e : Entry) → IsSound h → Follows h e → h.last < e.timestamp
     → accounts_now (pushed h e) ≡ map (account_after h e) (accounts_now h)
 accounts_now-pushed h e sound follows after =
@@ -31,6 +34,7 @@ accounts_now-pushed h e sound follows after =
     (λ o. ap (account_with o) (balances-pushed h e o.request.id sound follows after)) h.accounts
     ∙ sym (map-map (account_after h e) (account_now h) h.accounts)
 
+-- a new account comes last, without any amount, and the others keep their balances
 pub accounts_now-with_account : (h : History) (o : Opened) → IsUpTo h.last h → AllByRecursion (HasAccounts h) h.entries
     → opened h o.request.id ≡ None → h.last ≤ o.timestamp
     → accounts_now (with_account h o) ≡ accounts_now h ++ account_with o no_balances ∷ []

@@ -24,6 +24,7 @@ use Rattle.cdc_ledger.proofs.StoredLaws.{is_stored, stored_has, apart-cons}
 
 -- `balances` reads the entries alone, so a change of accounts, last or closed leaves it by computation
 
+-- balances are equal where their four sums are, so that each sum can be looked at by itself
 pub same_balances : (x y z w x' y' z' w' : ℕ) → x ≡ x' → y ≡ y' → z ≡ z' → w ≡ w'
     → ◌≡◌ {A = Balances} (record { debits_pending = x; debits_posted = y; credits_pending = z; credits_posted = w })
     (record { debits_pending = x'; debits_posted = y'; credits_pending = z'; credits_posted = w' })
@@ -33,6 +34,7 @@ same_balances x y z w x' y' z' w' a b c d = cc
 pub seen_alike : (e : Entry) (s t : ℕ) → e.timestamp ≤ s → s ≤ t → nat_le e.timestamp t ≡ nat_le e.timestamp s
 seen_alike e s t within later = le-leb e.timestamp t (omega arith) ∙ sym (le-leb e.timestamp s within)
 
+-- no pending transfer is resolved by time alone, while no entry comes
 pub resolved_later : (h : History) (p : Transfer) (s t : ℕ) → IsUpTo s h → s ≤ t → resolved h p t ≡ resolved h p s
 resolved_later h p s t within later =
     list_any_same (λ e. nat_le e.timestamp t && resolves p e) (λ e. nat_le e.timestamp s && resolves p e) h.entries
@@ -89,6 +91,7 @@ resolved-pushed h e p t = list_any-append (λ x. nat_le x.timestamp t && resolve
     or_no true = refl
     or_no false = refl
 
+-- what was resolved is still all that is, where an entry resolves nothing
 or_none : (b c : Bool) → c ≡ false → (b || c) ≡ b
 or_none true c q = refl
 or_none false c q = q
@@ -109,6 +112,7 @@ module _ (h : History) (e : Entry) (a t : ℕ)
       (h.entries ++ e ∷ [])
       ∙ sum_by_push (share (held h t) side a t) h.entries e
 
+-- an entry after the moment counts in no sum at that moment
 share_after : (f : Entry → ℕ) (side : Transfer → ℕ) (a t : ℕ) (e : Entry) → t < e.timestamp → share f side a t e ≡ 0
 share_after f side a t e after = ap (λ b. if b && (side e.transfer == a) then f e else 0) (lt-leb e.timestamp t after)
 
@@ -150,6 +154,7 @@ first_alone : (b : Bool) → (b || false || false) ≡ b
 first_alone true = refl
 first_alone false = refl
 
+-- a post, a void and an expiry in one form: each resolves the transfer whose id it names
 resolves_kind : (k : EventKind) (x p : Transfer)
     → (posts k x p || voids k x p || expires k x p) ≡ (settles k && (settled_id k x == p.id))
 resolves_kind SinglePhase x p = refl
@@ -158,6 +163,7 @@ resolves_kind TwoPhasePosted x p = first_alone (x.pending_id == p.id)
 resolves_kind TwoPhaseVoided x p = or_none (x.pending_id == p.id) false refl
 resolves_kind TwoPhaseExpired x p = refl
 
+-- the same of an entry, so that its kind needn't be looked at again
 pub resolves_is : (e : Entry) (p : Transfer) → resolves p e ≡ (settles e.kind && (settled_id e.kind e.transfer == p.id))
 resolves_is e p = resolves_kind e.kind e.transfer p
 
@@ -171,10 +177,12 @@ settled_kind TwoPhasePosted h y x is named shown = ap (option_map (λ (e : Entry
 settled_kind TwoPhaseVoided h y x is named shown = ap (option_map (λ (e : Entry). e.transfer)) named
 settled_kind TwoPhaseExpired h y x is named shown = ap (λ (p : Transfer). Some p) (shown refl)
 
+-- so what an entry releases is the amount of the pending transfer that it names
 pub settled_by_is : (h : History) (e x : Entry) → settles e.kind ≡ true → Settles h e x
     → settled_by h e ≡ Some x.transfer
 settled_by_is h e x is of = settled_kind e.kind h e.transfer x is of.named of.shown
 
+-- a single-phase or a pending transfer brings none to its end
 settled_kind_none : (k : EventKind) (h : History) (y : Transfer) → settles k ≡ false → settled_in k h y ≡ None
 settled_kind_none SinglePhase h y none = refl
 settled_kind_none TwoPhasePending h y none = refl
@@ -182,9 +190,11 @@ settled_kind_none TwoPhasePosted h y none = absurd (false≢true (sym none))
 settled_kind_none TwoPhaseVoided h y none = absurd (false≢true (sym none))
 settled_kind_none TwoPhaseExpired h y none = absurd (false≢true (sym none))
 
+-- so its entry releases nothing
 pub settled_by_none : (h : History) (e : Entry) → settles e.kind ≡ false → settled_by h e ≡ None
 settled_by_none h e none = settled_kind_none e.kind h e.transfer none
 
+-- an entry that settles a pending transfer holds nothing back itself
 pub holds-settles : (k : EventKind) → settles k ≡ true → holds k ≡ false
 holds-settles SinglePhase is = refl
 holds-settles TwoPhasePending is = absurd (false≢true is)
@@ -192,6 +202,7 @@ holds-settles TwoPhasePosted is = refl
 holds-settles TwoPhaseVoided is = refl
 holds-settles TwoPhaseExpired is = refl
 
+-- the entry of a pending transfer stored it, so that it is found by its id
 pub stores-holds : (k : EventKind) → holds k ≡ true → stores k ≡ true
 stores-holds SinglePhase is = absurd (false≢true is)
 stores-holds TwoPhasePending is = refl
@@ -286,12 +297,14 @@ held_falls TwoPhaseVoided done true n = refl
 held_falls TwoPhaseVoided done false n = refl
 held_falls TwoPhaseExpired done same n = refl
 
+-- an entry that holds nothing any more has no share in the sum either
 share_falls : (sees gone : Bool) (n : ℕ)
     → (if sees then (if gone then 0 else n) else 0) ≡ (if gone then 0 else (if sees then n else 0))
 share_falls true gone n = refl
 share_falls false true n = refl
 share_falls false false n = refl
 
+-- whether two ids are equal may be asked from either side
 eqb_swap : (m n : ℕ) → (m == n) ≡ (n == m)
 eqb_swap m n = by (m == n) refl
   where
@@ -463,6 +476,7 @@ released_debit h e sound follows after =
     (eq-eqb e.transfer.debit_account_id e.transfer.debit_account_id refl)
     (released_fits h e e.transfer.debit_account_id sound follows after).0
 
+-- the same of the account that is credited
 pub released_credit : (h : History) (e : Entry) → IsSound h → Follows h e → h.last < e.timestamp
     → (effect_of h e).released ≤ (balances h e.transfer.credit_account_id h.last).credits_pending
 released_credit h e sound follows after =

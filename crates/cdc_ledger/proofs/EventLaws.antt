@@ -30,10 +30,12 @@ event_with e debit credit debits credits = record {
   credit_account = shown_account (unwrap_or credit nobody) credits;
 }
 
+-- an event stays the same where the balances that it shows do
 same_balances : (e : Entry) (d c : Option Opened) (s s' t t' : Balances) → s ≡ s' → t ≡ t'
     → event_with e d c s t ≡ event_with e d c s' t'
 same_balances e d c s s' t t' p q = ap₂ (λ x y. event_with e d c x y) p q
 
+-- and where its two accounts do
 same_accounts : (e : Entry) (d d' c c' : Option Opened) (s t : Balances) → d ≡ d' → c ≡ c'
     → event_with e d c s t ≡ event_with e d' c' s t
 same_accounts e d d' c c' s t p q = ap₂ (λ x y. event_with e x y s t) p q
@@ -80,8 +82,10 @@ events-with_account h o known = map_same (event_of (with_account h o)) (event_of
     (opened-with_account_same h o e.transfer.credit_account_id has.1))
     h.entries known)
 
+-- each event has the timestamp of its entry, so that what subscribers hear rises as the entries do
 pub timestamps-events : (h : History) → map (λ x. x.timestamp) (events h) ≡ map (λ e. e.timestamp) h.entries
 timestamps-events h = map-map (λ x. x.timestamp) (event_of h) h.entries
 
+-- each entry has one event
 pub length-events : (h : History) → length (events h) ≡ length h.entries
 length-events h = length-map h.entries (event_of h)

@@ -34,6 +34,7 @@ last-after_account h a t verdict = either (account_number verdict == 0)
     either true = refl
     either false = refl
 
+-- the same of a request for a transfer
 pub last-after_transfer : (h : History) (r : NewTransfer) (t : ℕ) (verdict : TransferResult)
     → (after_transfer h r t verdict).last ≡ t
 last-after_transfer h r t verdict = either (transfer_number verdict == 0)
@@ -42,6 +43,7 @@ last-after_transfer h r t verdict = either (transfer_number verdict == 0)
     either true = refl
     either false = refl
 
+-- the history after a request is sound, whether it was accepted or refused
 sound_either : (b : Bool) (g h : History) → (b ≡ true → IsSound g) → IsSound h → IsSound (if b then g else h)
 sound_either true g h some none = some refl
 sound_either false g h some none = none
@@ -75,6 +77,7 @@ IsSound-accounts_from h t (r ∷ rs) sound later fits =
     IsSound-accounts_from (after_account h r t (account_verdict features h r)) (t + 1) rs
     (IsSound-after_account h r t sound later (omega arith)) (omega arith) (λ some. omega arith)
 
+-- the same of requests for transfers
 pub IsSound-transfers_from : (h : History) (t : ℕ) (rs : List NewTransfer) → IsSound h → h.last < t
     → (0 < length rs → t + length rs ≤ max_timestamp + 1)
     → IsSound (transfers_from features h t rs).1
@@ -95,9 +98,11 @@ within_end h now n not_past some =
     (base h now + n - 1) e in omega arith)
     (and_cases (nat_lt 0 n) (nat_lt max_timestamp (base h now + n - 1)) not_past)
 
+-- the first timestamp of a batch is later than any given out before, whatever the batch's moment
 after_last : (h : History) (now : ℕ) → h.last < base h now
 after_last h now = omega arith
 
+-- a batch that is answered wasn't refused, and is answered by what its items do
 answered_parts : (refusal : Option BatchError) (answer found : BatchResults × History)
     → answered refusal answer ≡ Ok found → (refusal ≡ None) × (answer ≡ found)
 answered_parts None answer found e = (refl, cc)
@@ -133,11 +138,13 @@ IsSound-submit h (batch.Pulse now) answer sound e =
     subst (λ (a : BatchResults × History). IsSound a.1) parts.1
     (IsSound-pulse h now (base h now) sound (after_last h now) (within_end h now (length (due h now)) parts.0))
 
+-- a batch leaves the history sound, answered or refused
 sound_or : (h : History) (b : Batch) (r : Result (BatchResults × History) BatchError) → submit h b ≡ r → IsSound h
     → IsSound (history_or h r)
 sound_or h b (Ok answer) e sound = IsSound-submit h b answer sound e
 sound_or h b (Err error) e sound = sound
 
+-- and so do any number of batches
 pub IsSound-after_batches : (h : History) (bs : List Batch) → IsSound h → IsSound (after_batches features h bs)
 IsSound-after_batches h [] sound = sound
 IsSound-after_batches h (b ∷ bs) sound =

@@ -14,9 +14,11 @@ use Rattle.cdc_ledger.specs.Submit.{submit, submit_by, refusal_of, is_too_large,
 use Rattle.cdc_ledger.proofs.Elements.{AllByRecursion_push}
 use Rattle.cdc_ledger.proofs.LineLaws.{test_fails}
 
+-- every history is made of itself, by no batch at all
 pub Extends_same : (h : History) → Extends h h
 Extends_same h = record { batches = []; close = false; fit = tt; made = refl }
 
+-- a batch that is answered wasn't refused
 pub answered_ok : (refusal : Option BatchError) (answer found : BatchResults × History)
     → answered refusal answer ≡ Ok found → refusal ≡ None
 answered_ok None answer found e = refl
@@ -31,12 +33,14 @@ submit_open h b answer e =
     ∷ (is_past_the_end h (moment b) (items_of h b), TimestampsExhausted) ∷ [])
     (answered_ok (refusal_of h b) (taken features h b) answer e)
 
+-- the last of several batches comes upon the history that those before it left
 pub after_batches_push : (offered : Features) (h : History) (bs : List Batch) (b : Batch)
     → after_batches offered h (bs ++ b ∷ []) ≡ history_or (after_batches offered h bs)
     (submit_by offered (after_batches offered h bs) b)
 after_batches_push offered h [] b = refl
 after_batches_push offered h (x ∷ bs) b = after_batches_push offered (history_or h (submit_by offered h x)) bs b
 
+-- a batch that is answered goes on from what the batches before it made
 pub Extends-submit : (g h k : History) (b : Batch) (r : BatchResults) → BatchFits b → Extends g h
     → submit g b ≡ Ok (r, k) → Extends k h
 Extends-submit g h k b r fits from e =
@@ -51,6 +55,7 @@ Extends-submit g h k b r fits from e =
       made = sym (after_batches_push features h from.batches b ∙ ap (history_or before) taken_now);
     }
 
+-- so does a close, and a second one is none
 pub Extends-closed : (g h : History) → Extends g h → Extends (record g { closed = true }) h
 Extends-closed g h from = record {
   batches = from.batches;
@@ -59,12 +64,15 @@ Extends-closed g h from = record {
   made = ap (λ (x : History). record x { closed = true }) from.made;
 }
 
+-- the history of a new ledger is one that batches make
 pub IsLegal-empty : IsLegal empty_history
 IsLegal-empty = Extends_same empty_history
 
+-- it stays one after a batch that is answered
 pub IsLegal-submit : (h g : History) (b : Batch) (r : BatchResults) → BatchFits b → IsLegal h → submit h b ≡ Ok (r, g)
     → IsLegal g
 IsLegal-submit h g b r fits legal e = Extends-submit h empty_history g b r fits legal e
 
+-- and after a close
 pub IsLegal-closed : (h : History) → IsLegal h → IsLegal (record h { closed = true })
 IsLegal-closed h made = Extends-closed h empty_history made

@@ -12,6 +12,7 @@ use Rattle.cdc_ledger.specs.Sound.{HasAccounts, AreApart}
 use Rattle.cdc_ledger.proofs.Changes.{with_account}
 use Rattle.cdc_ledger.proofs.Elements.{AllByRecursion-weaker, AllByRecursion-both, AllByRecursion_push, AllByRecursion-map}
 
+-- an id is looked up among the accounts that were there, and then it may be the new one's
 pub opened-with_account : (h : History) (o : Opened) (id : ℕ)
     → opened (with_account h o) id ≡ option_or (opened h id) (if o.request.id == id then Some o else None)
 opened-with_account h o id = find-append (λ x. x.request.id == id) h.accounts (o ∷ [])
@@ -22,10 +23,12 @@ pub opened-with_account_kept : (h : History) (o x : Opened) (id : ℕ) → opene
 opened-with_account_kept h o x id there =
     opened-with_account h o id ∙ ap (λ p. option_or p (if o.request.id == id then Some o else None)) there
 
+-- what is found among those that were there is the answer
 some_stays : (p q : Option Opened) → IsSome p → option_or p q ≡ p
 some_stays None q h = cc
 some_stays (Some x) q h = refl
 
+-- an account that was there is found as before, so that events still show it
 pub opened-with_account_same : (h : History) (o : Opened) (id : ℕ) → IsSome (opened h id)
     → opened (with_account h o) id ≡ opened h id
 opened-with_account_same h o id there = opened-with_account h o id ∙ some_stays (opened h id) _ there
@@ -37,6 +40,7 @@ opened-with_account_new h o free = opened-with_account h o o.request.id
     ∙ (ap (λ p. option_or p (if o.request.id == o.request.id then Some o else None)) free
     ∙ ap (λ b. if b then Some o else None) (eq-eqb o.request.id o.request.id refl))
 
+-- where the new account has another id, it adds nothing to the answer
 or_none : (p : Option Opened) → option_or p None ≡ p
 or_none None = refl
 or_none (Some x) = refl
@@ -48,11 +52,13 @@ opened-with_account_other h o id other = opened-with_account h o id
     ∙ (ap (λ b. option_or (opened h id) (if b then Some o else None)) (ne_eqb o.request.id id other)
     ∙ or_none (opened h id))
 
+-- what is found has the id, be it the first account or a later one
 found_id : (id : ℕ) (o x : Opened) (rest : Option Opened) (b : Bool) → (x.request.id == id) ≡ b
     → (rest ≡ Some o → o.request.id ≡ id) → (if b then Some x else rest) ≡ Some o → o.request.id ≡ id
 found_id id o x rest true same later e = let is : x.request.id ≡ id = eqb-true x.request.id id same in cc
 found_id id o x rest false same later e = later e
 
+-- so it is with the whole list of accounts
 find_id : (id : ℕ) (o : Opened) (xs : List Opened) → find (λ x. x.request.id == id) xs ≡ Some o → o.request.id ≡ id
 find_id id o [] e = cc
 find_id id o (x ∷ xs) e = found_id id o x (find (λ y. y.request.id == id) xs) (x.request.id == id) refl
@@ -72,16 +78,19 @@ HasAccounts-with_account h o e has = (
 
 -- ids that don't occur twice
 
+-- one more number, unlike all before it
 pub AreApart_push : (ns : List ℕ) (n : ℕ) → AreApart ns → AllByRecursion (λ m. m ≢ n) ns → AreApart (ns ++ n ∷ [])
 AreApart_push [] n apart new = (tt, tt)
 AreApart_push (m ∷ ns) n apart new =
     (AllByRecursion_push (λ k. m ≢ k) ns n apart.0 new.0, AreApart_push ns n apart.1 new.1)
 
+-- where no account is found, neither the first one nor a later one has the id
 not_found_id : (id : ℕ) (x : Opened) (rest : Option Opened) (b : Bool) → (x.request.id == id) ≡ b
     → (if b then Some x else rest) ≡ None → (x.request.id ≢ id) × (rest ≡ None)
 not_found_id id x rest true same e = cc
 not_found_id id x rest false same e = (eqb-false x.request.id id same, e)
 
+-- so a free id is unlike the ids of all accounts
 free_ids : (id : ℕ) (xs : List Opened) → find (λ x. x.request.id == id) xs ≡ None
     → AllByRecursion (λ m. m ≢ id) (map (λ x. x.request.id) xs)
 free_ids id [] e = tt
@@ -98,6 +107,7 @@ AreApart-with_account h o apart free =
     subst AreApart (sym (map_push (λ x. x.request.id) h.accounts o))
     (AreApart_push (map (λ x. x.request.id) h.accounts) o.request.id apart (free_ids o.request.id h.accounts free))
 
+-- an account is found by its own id, since no other one has it
 find_each : (xs : List Opened) → AreApart (map (λ x. x.request.id) xs)
     → AllByRecursion (λ o. find (λ x. x.request.id == o.request.id) xs ≡ Some o) xs
 find_each [] apart = tt

@@ -23,16 +23,19 @@ pub record Around (P : Entry → Type 0) (front back : List Entry) : Type 0 wher
   pub before : AllByRecursion P front
   pub after : AllByRecursion P back
 
+-- what holds of a whole list holds of its two parts round an entry
 around : (P : Entry → Type 0) (e : Entry) (front back : List Entry) → AllByRecursion P (front ++ e ∷ back)
     → Around P front back
 around P e [] back all = record { before = tt; after = all.1 }
 around P e (x ∷ front) back all =
     let rest = around P e front back all.1 in record { before = (all.0, rest.before); after = rest.after }
 
+-- what holds of every entry of a history holds of all but this one
 pub All-around : (P : Entry → Type 0) (es : List Entry) (e : Entry) (among : IsAmong es e) → AllByRecursion P es
     → Around P among.front among.back
 All-around P es e among all = around P e among.front among.back (subst (AllByRecursion P) among.split all)
 
+-- two facts of all other entries at once
 pub Around-both : (P Q : Entry → Type 0) (front back : List Entry) → Around P front back → Around Q front back
     → Around (λ y. P y × Q y) front back
 Around-both P Q front back p q = record {
@@ -40,6 +43,7 @@ Around-both P Q front back p q = record {
   after = AllByRecursion-both P Q back p.after q.after;
 }
 
+-- a fact of all other entries that follows from another
 pub Around-weaker : (P Q : Entry → Type 0) → ((y : Entry) → P y → Q y) → (front back : List Entry)
     → Around P front back → Around Q front back
 Around-weaker P Q gives front back p = record {
@@ -47,6 +51,7 @@ Around-weaker P Q gives front back p = record {
   after = AllByRecursion-weaker P Q gives back p.after;
 }
 
+-- what holds of a whole list holds of the entry between its two parts
 here : (P : Entry → Type 0) (e : Entry) (front back : List Entry) → AllByRecursion P (front ++ e ∷ back) → P e
 here P e [] back all = all.0
 here P e (x ∷ front) back all = here P e front back all.1
@@ -55,6 +60,7 @@ here P e (x ∷ front) back all = here P e front back all.1
 pub All-among : (P : Entry → Type 0) (es : List Entry) (e : Entry) → IsAmong es e → AllByRecursion P es → P e
 All-among P es e among all = here P e among.front among.back (subst (AllByRecursion P) among.split all)
 
+-- what holds of the entry and of both parts round it holds of the whole list
 join : (P : Entry → Type 0) (e : Entry) (front back : List Entry) → P e → AllByRecursion P front → AllByRecursion P back
     → AllByRecursion P (front ++ e ∷ back)
 join P e [] back own before after = (own, after)
@@ -71,6 +77,7 @@ pub record IsFirst (test : Entry → Bool) (es : List Entry) (e : Entry) : Type 
   pub among : IsAmong es e
   pub passes : test e ≡ true
 
+-- an entry that is found after the first one is one of the list
 found_further : (test : Entry → Bool) (x : Entry) (es : List Entry) (e : Entry) → IsFirst test es e
     → IsFirst test (x ∷ es) e
 found_further test x es e found = record {
@@ -82,6 +89,7 @@ found_further test x es e found = record {
   passes = found.passes;
 }
 
+-- the first entry is found where it passes, else a later one
 found_here : (test : Entry → Bool) (x : Entry) (es : List Entry) (e : Entry) (b : Bool) → test x ≡ b
     → (find test es ≡ Some e → IsFirst test es e) → (if b then Some x else find test es) ≡ Some e
     → IsFirst test (x ∷ es) e
@@ -93,6 +101,7 @@ found_here test x es e true passes later found =
     }
 found_here test x es e false passes later found = found_further test x es e (later found)
 
+-- so whatever a search finds is one of the list, with entries before and after it
 pub IsFirst-found : (test : Entry → Bool) (es : List Entry) (e : Entry) → find test es ≡ Some e → IsFirst test es e
 IsFirst-found test [] e found = cc
 IsFirst-found test (x ∷ es) e found = found_here test x es e (test x) refl (IsFirst-found test es e) found
@@ -103,6 +112,7 @@ pub record IsStored (h : History) (id : ℕ) (e : Entry) : Type 0 where
   pub stores : stores e.kind ≡ true
   pub same_id : e.transfer.id ≡ id
 
+-- the entry that is found by a transfer's id is one of the history, and stored a transfer of that id
 pub IsStored-found : (h : History) (id : ℕ) (e : Entry) → stored h id ≡ Some e → IsStored h id e
 IsStored-found h id e found =
     let first = IsFirst-found (λ x. stores x.kind && (x.transfer.id == id)) h.entries e found in
@@ -113,9 +123,11 @@ IsStored-found h id e found =
 abbrev HasOtherId : Entry → Entry → Type 0
 HasOtherId e y = is_stored e.transfer.id y ≡ false
 
+-- that two ids differ may be said from either side
 id_turned : (stored : Bool) (m n : ℕ) → (true && (m == n)) ≡ false → (stored && (n == m)) ≡ false
 id_turned stored m n other = and_right stored (n == m) (ne_eqb n m (λ same. eqb-false m n other (sym same)))
 
+-- where no two entries stored one id, no entry before or after this one stored its id
 other_ids : (e : Entry) (front back : List Entry) → stores e.kind ≡ true → AreApart (stored_ids (front ++ e ∷ back))
     → Around (HasOtherId e) front back
 other_ids e [] back is apart = record { before = tt; after = (apart-cons e back apart).1 is }
@@ -147,16 +159,19 @@ stored-among h e sound among is =
     All-among (λ y. stores y.kind ≡ true → stored h y.transfer.id ≡ Some y) h.entries e among
     (stored_each h sound.once) is
 
+-- no entry of a rising list has the timestamp of one before it
 all_later : (t : ℕ) (e : Entry) (es : List Entry) → t ≤ e.timestamp → RiseFrom e.timestamp es
     → AllByRecursion (λ y. y.timestamp ≢ t) es
 all_later t e [] later rising = tt
 all_later t e (x ∷ es) later rising = (λ same. omega arith, all_later t x es (omega arith) rising.1)
 
+-- an entry of a rising list is later than the moment that the list rises from
 own_later : (t : ℕ) (e : Entry) (front back : List Entry) → RiseFrom t (front ++ e ∷ back) → t < e.timestamp
 own_later t e [] back rising = rising.0
 own_later t e (x ∷ front) back rising = let later : x.timestamp < e.timestamp = own_later x.timestamp e front back
     rising.1 in omega arith
 
+-- no entry before or after this one has its timestamp, where timestamps rise
 other_times : (t : ℕ) (e : Entry) (front back : List Entry) → RiseFrom t (front ++ e ∷ back)
     → Around (λ y. y.timestamp ≢ e.timestamp) front back
 other_times t e [] back rising = record { before = tt; after = all_later e.timestamp e back (omega arith) rising.1 }

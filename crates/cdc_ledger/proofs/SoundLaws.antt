@@ -25,10 +25,12 @@ use Rattle.cdc_ledger.proofs.StoredLaws.{stored-pushed_kept, once-pushed}
 abbrev FitBoth : Balances → Type 0
 FitBoth b = (b.debits_pending + b.debits_posted ≤ max_128) × (b.credits_pending + b.credits_posted ≤ max_128)
 
+-- sums that fit 128 bits still do at a later moment, while no entry comes
 bounded_later : (h : History) (t : ℕ) → IsSound h → h.last ≤ t → (id : ℕ) → FitBoth (balances h id t)
 bounded_later h t sound later id =
     subst FitBoth (sym (balances_later h id h.last t sound.past later)) (sound.bounded id)
 
+-- what happened by a moment has happened by any later one
 IsUpTo-later : (h : History) (s t : ℕ) → IsUpTo s h → s ≤ t → IsUpTo t h
 IsUpTo-later h s t within later =
     AllByRecursion-weaker (λ e. e.timestamp ≤ s) (λ e. e.timestamp ≤ t) (λ e at. omega arith) h.entries within
@@ -44,6 +46,7 @@ Settles-again h g e x same of = record {
   shown = of.shown;
 }
 
+-- an entry stands as before where the entries are the same
 Stands-again : (h g : History) (e : Entry) → g.entries ≡ h.entries → Stands h e → Stands g e
 Stands-again h g e same stands = record {
   apart = stands.apart;
@@ -52,11 +55,13 @@ Stands-again h g e same stands = record {
   settling = λ is. ((stands.settling is).0, Settles-again h g e (stands.settling is).0 same (stands.settling is).1);
 }
 
+-- and so do all of them
 standing_again : (h g : History) (es : List Entry) → g.entries ≡ h.entries → AllByRecursion (Stands h) es
     → AllByRecursion (Stands g) es
 standing_again h g es same standing =
     AllByRecursion-weaker (Stands h) (Stands g) (λ e stands. Stands-again h g e same stands) es standing
 
+-- the pending transfer that a post, a void or an expiry names is still found after one more entry
 Settles-pushed : (h : History) (new e x : Entry) → Settles h e x → Settles (pushed h new) e x
 Settles-pushed h new e x of = record {
   named = stored-pushed_kept h new x _ of.named;
@@ -67,6 +72,7 @@ Settles-pushed h new e x of = record {
   shown = of.shown;
 }
 
+-- so an entry stands as before after one more
 pub Stands-pushed : (h : History) (new e : Entry) → Stands h e → Stands (pushed h new) e
 Stands-pushed h new e stands = record {
   apart = stands.apart;
@@ -75,6 +81,7 @@ Stands-pushed h new e stands = record {
   settling = λ is. ((stands.settling is).0, Settles-pushed h new e (stands.settling is).0 (stands.settling is).1);
 }
 
+-- the history of a new ledger is sound
 pub IsSound-empty : IsSound empty_history
 IsSound-empty = record {
   rising = tt;
@@ -87,6 +94,7 @@ IsSound-empty = record {
   within = omega arith;
 }
 
+-- it stays sound when a refused request takes a timestamp
 pub IsSound-timed : (h : History) (t : ℕ) → IsSound h → h.last ≤ t → t ≤ max_timestamp → IsSound (timed h t)
 IsSound-timed h t sound later fits = record {
   rising = sound.rising;
@@ -112,9 +120,11 @@ IsSound-shut h closed sound = record {
   within = sound.within;
 }
 
+-- it stays sound when the ledger closes
 pub IsSound-closed : (h : History) → IsSound h → IsSound (record h { closed = true })
 IsSound-closed h sound = IsSound-shut h true sound
 
+-- it stays sound when an account is opened whose id was free
 pub IsSound-with_account : (h : History) (o : Opened) → IsSound h → opened h o.request.id ≡ None → h.last ≤ o.timestamp
     → o.timestamp ≤ max_timestamp
     → IsSound (with_account h o)
@@ -130,6 +140,7 @@ IsSound-with_account h o sound free later fits = record {
   within = fits;
 }
 
+-- an entry later than all before it keeps the timestamps rising
 RiseFrom_push : (t m : ℕ) (es : List Entry) (e : Entry) → RiseFrom t es → AllByRecursion (λ x. x.timestamp ≤ m) es
     → t ≤ m → m < e.timestamp → RiseFrom t (es ++ e ∷ [])
 RiseFrom_push t m [] e rising past before after = (omega arith, tt)
@@ -174,6 +185,7 @@ module _ (h : History) (e : Entry) (sound : IsSound h) (follows : Follows h e) w
       one_amount e.kind e.transfer.amount in
       (omega (arith, room.debit), omega (arith, room.credit))
 
+-- one side of an account after an entry still fits: the entry has room there, or it names another account
 part_fits : (m n held moved released side account top : ℕ) (b : Bool) → (side == account) ≡ b → m + n ≤ top
     → (if b then released else 0) ≤ m → (side ≡ account → m + n + held + moved ≤ top + released)
     → (m + (if b then held else 0) - (if b then released else 0)) + (n + (if b then moved else 0)) ≤ top
@@ -181,6 +193,7 @@ part_fits m n held moved released side account top true same small enough fits =
     let more : m + n + held + moved ≤ top + released = fits (eqb-true side account same) in omega arith
 part_fits m n held moved released side account top false same small enough fits = omega arith
 
+-- so after an entry the sums of every account fit 128 bits
 bounded-pushed : (h : History) (e : Entry) → IsSound h → Follows h e → h.last < e.timestamp → (id : ℕ)
     → FitBoth (balances (pushed h e) id e.timestamp)
 bounded-pushed h e sound follows after id =
@@ -212,6 +225,7 @@ Stands-new h e follows = record {
       );
 }
 
+-- the history stays sound when an entry comes that may come next, whatever its kind
 pub IsSound-pushed : (h : History) (e : Entry) → IsSound h → Follows h e → h.last < e.timestamp
     → e.timestamp ≤ max_timestamp → IsSound (pushed h e)
 IsSound-pushed h e sound follows after top = record {

@@ -18,6 +18,7 @@ use Rattle.cdc_ledger.proofs.OpenedLaws.{AreApart_push}
 abbrev pub is_stored : ℕ → Entry → Bool
 is_stored id e = stores e.kind && (e.transfer.id == id)
 
+-- an id is looked up among the entries that were there, and then it may be the new one's
 pub stored-pushed : (h : History) (e : Entry) (id : ℕ)
     → stored (pushed h e) id ≡ option_or (stored h id) (if is_stored id e then Some e else None)
 stored-pushed h e id = find-append (is_stored id) h.entries (e ∷ [])
@@ -68,10 +69,12 @@ pub stored_has : (P : Entry → Type 0) (h : History) (id : ℕ) (x : Entry) →
     → stored h id ≡ Some x → P x
 stored_has P h id x all there = (find_all (is_stored id) P h.entries x all there).1
 
+-- nothing is asked of the entries where only what is found matters
 all_stored : (id : ℕ) (es : List Entry) → AllByRecursion (λ e. Unit {0}) es
 all_stored id [] = tt
 all_stored id (e ∷ es) = (tt, all_stored id es)
 
+-- the entry that is found by an id stored a transfer of that id
 pub stored_is : (h : History) (id : ℕ) (x : Entry) → stored h id ≡ Some x
     → (stores x.kind ≡ true) × (x.transfer.id ≡ id)
 stored_is h id x there =
@@ -82,6 +85,7 @@ stored_is h id x there =
 
 -- ids of stored transfers, one entry after another
 
+-- an id unlike the stored ones is neither that of the first entry nor of those after it
 other_id : (id : ℕ) (b : Bool) (e : Entry) (ns : List ℕ) → stores e.kind ≡ b
     → AllByRecursion (λ m. id ≢ m) (if b then e.transfer.id ∷ ns else ns)
     → (is_stored id e ≡ false) × AllByRecursion (λ m. id ≢ m) ns
@@ -89,12 +93,14 @@ other_id id true e ns is others =
     (and_right (stores e.kind) (e.transfer.id == id) (ne_eqb e.transfer.id id (λ same. others.0 (sym same))), others.1)
 other_id id false e ns is others = (ap (λ b. b && (e.transfer.id == id)) is, others)
 
+-- the first entry's id comes first, if it stored a transfer
 ids_cons : (e : Entry) (es : List Entry) (b : Bool)
     → map (λ x. x.transfer.id) (if b then e ∷ filter (λ x. stores x.kind) es else filter (λ x. stores x.kind) es)
     ≡ (if b then e.transfer.id ∷ stored_ids es else stored_ids es)
 ids_cons e es true = refl
 ids_cons e es false = refl
 
+-- so the stored ids can be read entry by entry
 pub stored_ids-cons : (e : Entry) (es : List Entry)
     → stored_ids (e ∷ es) ≡ (if stores e.kind then e.transfer.id ∷ stored_ids es else stored_ids es)
 stored_ids-cons e es = ids_cons e es (stores e.kind)
@@ -109,12 +115,14 @@ none_stored id (e ∷ es) others =
     (subst (AllByRecursion (λ m. id ≢ m)) (stored_ids-cons e es) others) in
     (both.0, none_stored id es both.1)
 
+-- an id that the first entry didn't store is unlike the stored ids with that entry's too
 none_id : (id : ℕ) (b : Bool) (e : Entry) (ns : List ℕ) → stores e.kind ≡ b → is_stored id e ≡ false
     → AllByRecursion (λ m. m ≢ id) ns → AllByRecursion (λ m. m ≢ id) (if b then e.transfer.id ∷ ns else ns)
 none_id id true e ns is other others =
     (eqb-false e.transfer.id id (sym (ap (λ b. b && (e.transfer.id == id)) is) ∙ other), others)
 none_id id false e ns is other others = others
 
+-- so an id that no entry stored is unlike all stored ids
 ids_without : (id : ℕ) (es : List Entry) → AllByRecursion (λ e. is_stored id e ≡ false) es
     → AllByRecursion (λ m. m ≢ id) (stored_ids es)
 ids_without id [] others = tt
@@ -122,6 +130,7 @@ ids_without id (e ∷ es) others =
     subst (AllByRecursion (λ m. m ≢ id)) (sym (stored_ids-cons e es))
     (none_id id (stores e.kind) e (stored_ids es) refl others.0 (ids_without id es others.1))
 
+-- where ids are apart, the first differs from the rest, and the rest are apart
 apart_parts : (b : Bool) (id : ℕ) (ns : List ℕ) → AreApart (if b then id ∷ ns else ns)
     → AreApart ns × (b ≡ true → AllByRecursion (λ m. id ≢ m) ns)
 apart_parts true id ns apart = (apart.1, λ q. apart.0)
@@ -136,16 +145,19 @@ apart-cons e es apart =
     apart_parts (stores e.kind) e.transfer.id (stored_ids es) (subst AreApart (stored_ids-cons e es) apart) in
     (both.0, λ is. none_stored e.transfer.id es (both.1 is))
 
+-- the last entry's id comes alone, if it stored a transfer
 ids_last : (b : Bool) (e : Entry)
     → (if b then e.transfer.id ∷ [] else []) ≡ map (λ x. x.transfer.id) (if b then e ∷ [] else [])
 ids_last true e = refl
 ids_last false e = refl
 
+-- the first entry's id comes first, however many come after it
 cons_if : (b : Bool) (n : ℕ) (ns ms : List ℕ)
     → (if b then n ∷ (ns ++ ms) else (ns ++ ms)) ≡ ((if b then n ∷ ns else ns) ++ ms)
 cons_if true n ns ms = refl
 cons_if false n ns ms = refl
 
+-- an entry that stores a transfer adds its id at the end, and an expiry adds none
 pub stored_ids_push : (es : List Entry) (e : Entry)
     → stored_ids (es ++ e ∷ []) ≡ stored_ids es ++ (if stores e.kind then e.transfer.id ∷ [] else [])
 stored_ids_push [] e = stored_ids-cons e []
@@ -155,6 +167,7 @@ stored_ids_push (x ∷ es) e =
     ∙ (cons_if (stores x.kind) x.transfer.id (stored_ids es) (if stores e.kind then e.transfer.id ∷ [] else [])
     ∙ sym (ap (λ ns. ns ++ (if stores e.kind then e.transfer.id ∷ [] else [])) (stored_ids-cons x es))))
 
+-- ids stay apart where a new one joins them, or none does
 apart_more : (b : Bool) (id : ℕ) (ns : List ℕ) → AreApart ns → (b ≡ true → AllByRecursion (λ m. m ≢ id) ns)
     → AreApart (ns ++ (if b then id ∷ [] else []))
 apart_more true id ns apart new = AreApart_push ns id apart (new refl)
@@ -176,6 +189,7 @@ once-pushed h e apart fresh =
 abbrev IsFound : List Entry → Entry → Type 0
 IsFound es e = stores e.kind ≡ true → stored_in es e.transfer.id ≡ Some e
 
+-- the first entry is found by its transfer's id
 found_first : (x : Entry) (es : List Entry) → stores x.kind ≡ true → stored_in (x ∷ es) x.transfer.id ≡ Some x
 found_first x es is = ap (λ b. if b then Some x else stored_in es x.transfer.id)
     (and_from (stores x.kind) (x.transfer.id == x.transfer.id) is (eq-eqb x.transfer.id x.transfer.id refl))
@@ -195,6 +209,7 @@ other_first x y es apart found is =
         (ne_eqb x.transfer.id y.transfer.id (λ same. eqb-false y.transfer.id x.transfer.id other (sym same)))
     not_both false stored_x = ap (λ b. b && (x.transfer.id == y.transfer.id)) stored_x
 
+-- so each stored transfer is found by its id, where no two have one id
 all_found : (es : List Entry) → AreApart (stored_ids es) → AllByRecursion (IsFound es) es
 all_found [] apart = tt
 all_found (x ∷ es) apart =
@@ -213,6 +228,7 @@ all_found (x ∷ es) apart =
         AllByRecursion-weaker (IsFound es) (IsFound (x ∷ es))
         (λ y at. other_first x y es (λ q. absurd (false≢true (sym is ∙ q))) at) es found
 
+-- in a history too, so that a pending transfer can be looked up by the id that a post or a void names
 pub stored_each : (h : History) → AreApart (stored_ids h.entries)
     → AllByRecursion (λ e. stores e.kind ≡ true → stored h e.transfer.id ≡ Some e) h.entries
 stored_each h apart = all_found h.entries apart
