@@ -53,6 +53,7 @@ module _ {R : Type 0} (number : R → ℕ) (accepted : R) where
       and_parts (not (number line.1 == 0)) (refuse lines) refuses in
       no_line_from line.0 line.1 (first_line lines) both.0 zero (no_line lines both.1)
 
+-- tables one after the other have no line that accepts, where neither of them has one
 refuse-append : {R : Type 0} (number : R → ℕ) (accepted : R) (xs ys : List (Bool × R))
     → refuse number accepted xs ≡ true → refuse number accepted ys ≡ true → refuse number accepted (xs ++ ys) ≡ true
 refuse-append number accepted xs ys p q = list_all-append (λ line. not (number line.1 == 0)) xs ys ∙ and_from _ _ p q
@@ -63,11 +64,13 @@ known_account_refuse : (o : Option Opened) (a : NewAccount)
 known_account_refuse None a = refl
 known_account_refuse (Some o) a = refl
 
+-- an account that is there is always refused; so where no line applies the id was free
 known_account_none : (o : Option Opened) (a : NewAccount) → first_line (known_account_lines o a) ≡ None → o ≡ None
 known_account_none None a none = refl
 known_account_none (Some o) a none =
     absurd (false≢true (sym (test_fails account_number account.Exists (known_account_lines (Some o) a) none)))
 
+-- an account that is accepted had a free id, so that it can be opened
 pub accepted_account : (offered : Features) (h : History) (a : NewAccount)
     → (account_number (account_verdict offered h a) == 0) ≡ true
     → (first_line (account_shape_lines offered a) ≡ None) × (opened h a.id ≡ None)
@@ -83,28 +86,33 @@ accepted_account offered h a zero =
 
 -- a transfer
 
+-- neither line on a transfer that is there accepts it
 known_transfer_refuse : (o : Option Entry) (h : History) (r : NewTransfer)
     → refuse transfer_number transfer.Accepted (known_transfer_lines o h r) ≡ true
 known_transfer_refuse None h r = refl
 known_transfer_refuse (Some e) h r = refl
 
+-- a transfer that is there is always refused; so where no line applies the id is new
 known_transfer_none : (o : Option Entry) (h : History) (r : NewTransfer)
     → first_line (known_transfer_lines o h r) ≡ None → o ≡ None
 known_transfer_none None h r none = refl
 known_transfer_none (Some e) h r none =
     absurd (false≢true (sym (test_fails transfer_number transfer.Exists (known_transfer_lines (Some e) h r) none)))
 
+-- no line on a single-phase or a pending transfer accepts it
 plain_refuse : (d c : Option Opened) (h : History) (r : NewTransfer) (t : ℕ)
     → refuse transfer_number transfer.Accepted (plain_lines d c h r t) ≡ true
 plain_refuse None c h r t = refl
 plain_refuse (Some d) None h r t = refl
 plain_refuse (Some d) (Some c) h r t = refl
 
+-- nor does one on a post or a void
 settling_refuse : (o : Option Entry) (h : History) (r : NewTransfer) (t : ℕ)
     → refuse transfer_number transfer.Accepted (settling_lines o h r t) ≡ true
 settling_refuse None h r t = refl
 settling_refuse (Some e) h r t = refl
 
+-- so none does, whichever of the two tables the request is judged by
 either_refuse : (b : Bool) (xs ys : List (Bool × TransferResult)) → refuse transfer_number transfer.Accepted xs ≡ true
     → refuse transfer_number transfer.Accepted ys ≡ true
     → refuse transfer_number transfer.Accepted (if b then xs else ys) ≡ true
@@ -152,6 +160,7 @@ record ShapePasses (r : NewTransfer) : Type 0 where
   endless : (not (is_pending_request r) && not (r.timeout == 0)) ≡ false
   apart : (is_plain_request r && (r.debit_account_id == r.credit_account_id)) ≡ false
 
+-- a request that no shape line refuses asks for one kind at most, and names two accounts if it is plain
 shape_passes : (offered : Features) (r : NewTransfer) → first_line (transfer_shape_lines offered r) ≡ None
     → ShapePasses r
 shape_passes offered r none =
@@ -174,12 +183,14 @@ record PlainPasses (debited credited : Option Opened) (h : History) (r : NewTran
       (balances h r.credit_account_id t).credits_posted + r.amount ≤ max_128
   timely : r.timeout ≢ 0 → expires_at (as_asked r t) ≤ max_timestamp
 
+-- a pending transfer that isn't refused for its timeout ends no later than the greatest timestamp
 ends_in_time : (r : NewTransfer) (t : ℕ)
     → (not (r.timeout == 0) && nat_lt max_timestamp (expires_at (as_asked r t))) ≡ false → r.timeout ≢ 0
     → expires_at (as_asked r t) ≤ max_timestamp
 ends_in_time r t line some = ltb-false max_timestamp (expires_at (as_asked r t))
     (sym (ap (λ b. not b && nat_lt max_timestamp (expires_at (as_asked r t))) (ne_eqb r.timeout 0 some)) ∙ line)
 
+-- a plain request that no line refuses has both accounts, and room in their sums
 plain_passes : (d c : Option Opened) (h : History) (r : NewTransfer) (t : ℕ) → first_line (plain_lines d c h r t) ≡ None
     → PlainPasses d c h r t
 plain_passes None c h r t none =
@@ -212,6 +223,7 @@ record SettlingPasses (named : Option Entry) (h : History) (r : NewTransfer) (t 
   unvoided : some_by h t (λ x. voids x.kind x.transfer pending.transfer) ≡ false
   going_on : is_over h pending.transfer t ≡ false
 
+-- a post or a void that no line refuses names a pending transfer that is still open, and has its accounts
 settling_passes : (named : Option Entry) (h : History) (r : NewTransfer) (t : ℕ)
     → first_line (settling_lines named h r t) ≡ None → SettlingPasses named h r t
 settling_passes None h r t none =
@@ -258,6 +270,7 @@ none_of_three p t (e ∷ es) posted voided expired =
     three true a b c p q r = or_from (a || b) c (or_from a b p q) r
     three false a b c p q r = refl
 
+-- so a pending transfer that none of these three lines refuses may still be settled
 unresolved_from : (h : History) (p : Transfer) (t : ℕ) → some_by h t (λ x. posts x.kind x.transfer p) ≡ false
     → some_by h t (λ x. voids x.kind x.transfer p) ≡ false → is_over h p t ≡ false → resolved h p t ≡ false
 unresolved_from h p t posted voided over =
@@ -380,6 +393,7 @@ plain_kind false true void plain = absurd (false≢true plain)
 plain_kind false false true plain = absurd (false≢true plain)
 plain_kind false false false plain = refl
 
+-- a request that isn't plain is a post or a void, and not both
 settling_kind : (pending post void : Bool) → not (post || void) ≡ false
     → ((pending && post) || (pending && void) || (post && void)) ≡ false
     → IsRequested
@@ -393,6 +407,7 @@ settling_kind false false true plain one =
     record { settling = refl; holding = refl; named = λ x. refl; unexpired = λ same. cc }
 settling_kind false false false plain one = absurd (false≢true (sym plain))
 
+-- a plain request that no shape line refuses debits one account and credits another
 apart_from : (r : NewTransfer) → is_plain_request r ≡ true
     → (is_plain_request r && (r.debit_account_id == r.credit_account_id)) ≡ false
     → r.debit_account_id ≢ r.credit_account_id

@@ -22,6 +22,7 @@ number_from h r t x true zero e =
     cc
 number_from h r t x false zero e = refl
 
+-- a refused transfer takes its timestamp and leaves no entry
 pub after_transfer-refused : (h : History) (r : NewTransfer) (t : ℕ) (x : TransferResult)
     → first_line (transfer_lines features h r t) ≡ Some x → after_transfer h r t x ≡ timed h t
 after_transfer-refused h r t x e =

@@ -15,6 +15,7 @@ abbrev pub account_answered : Features → ℕ → NewAccount → List AccountRe
 account_answered offered t r done now =
     let verdict = account_verdict offered now r in (done ++ verdict ∷ [], after_account now r t verdict)
 
+-- the same of a request for a transfer
 abbrev pub transfer_answered : Features → ℕ → NewTransfer → List TransferResult → History
     → List TransferResult × History
 transfer_answered offered t r done now =
@@ -26,6 +27,7 @@ pub record AccountsGoOn (offered : Features) (h : History) (t : ℕ) (all : List
   pub answers : done ++ (accounts_from offered now (t + i) (drop i all)).0 ≡ (accounts_from offered h t all).0
   pub after : (accounts_from offered now (t + i) (drop i all)).1 ≡ (accounts_from offered h t all).1
 
+-- the same of requests for transfers
 pub record TransfersGoOn (offered : Features) (h : History) (t : ℕ) (all : List NewTransfer) (i : ℕ)
     (done : List TransferResult) (now : History) : Type 0 where
   pub answers : done ++ (transfers_from offered now (t + i) (drop i all)).0 ≡ (transfers_from offered h t all).0

@@ -21,6 +21,7 @@ use Rattle.cdc_ledger.proofs.DueOrder.{IsSoonest, in_order-soonest, length-in_or
 use Rattle.cdc_ledger.proofs.IndexTriples.{filter-triples_from, length-triples_from}
 use Rattle.cdc_ledger.proofs.Pending.{Around, Around-weaker, IsAmong, IsOther, IsOther-around}
 
+-- tests that agree on each entry pick the same entries
 filter_same : (p q : Entry → Bool) (es : List Entry) → AllByRecursion (λ e. p e ≡ q e) es → filter p es ≡ filter q es
 filter_same p q [] agree = refl
 filter_same p q (e ∷ es) agree = ap₂ (λ b more. if b then e ∷ more else more) agree.0 (filter_same p q es agree.1)
@@ -29,6 +30,7 @@ filter_same p q (e ∷ es) agree = ap₂ (λ b more. if b then e ∷ more else m
 abbrev pub is_ready : History → ℕ → Entry → Bool
 is_ready h now e = is_open h e && nat_le (expires_at e.transfer) now
 
+-- whether the end has come may be asked after whether the transfer is still open
 ends_last : (held timed ended done : Bool)
     → (held && timed && ended && not done) ≡ ((held && timed && not done) && ended)
 ends_last true true true true = refl
@@ -38,11 +40,13 @@ ends_last true true false false = refl
 ends_last true false ended done = refl
 ends_last false timed ended done = refl
 
+-- a transfer is due exactly where it has a triple whose end has come
 pub is_due-ready : (h : History) (now : ℕ) (e : Entry) → is_due h now e ≡ is_ready h now e
 is_due-ready h now e =
     ends_last (holds e.kind) (not (e.transfer.timeout == 0)) (nat_le (expires_at e.transfer) now)
     (resolved h e.transfer h.last)
 
+-- so the same entries are due by the history and by its triples
 filter-ready : (h : History) (now : ℕ) (es : List Entry) → filter (is_due h now) es ≡ filter (is_ready h now) es
 filter-ready h now es = filter_agree (is_due h now) (is_ready h now) (is_due-ready h now) es
 
@@ -50,6 +54,7 @@ filter-ready h now es = filter_agree (is_due h now) (is_ready h now) (is_due-rea
 abbrev pub ready_triples : History → ℕ → List Triple
 ready_triples h now = triples_from (is_ready h now) 0 h.entries
 
+-- the triples that the index counts as due are those of the entries that are due
 pub ready_triples-filter : (h : History) (now : ℕ)
     → filter (λ t. nat_le t.expires_at now) (open_triples h) ≡ ready_triples h now
 ready_triples-filter h now =
@@ -70,15 +75,18 @@ length-due h now =
 abbrev passing : (Entry → Bool) → List Entry → List Transfer
 passing test es = map (λ e. e.transfer) (filter test es)
 
+-- transfers are picked from two parts of the entries as from the whole
 passing-append : (test : Entry → Bool) (xs ys : List Entry)
     → passing test (xs ++ ys) ≡ passing test xs ++ passing test ys
 passing-append test xs ys =
     ap (map (λ e. e.transfer)) (filter-append test xs ys)
     ∙ map-append (λ e. e.transfer) (filter test xs) (filter test ys)
 
+-- tests that agree on each entry pick the same transfers
 passing-same : (p q : Entry → Bool) (es : List Entry) → AllByRecursion (λ e. p e ≡ q e) es → passing p es ≡ passing q es
 passing-same p q es agree = ap (map (λ e. e.transfer)) (filter_same p q es agree)
 
+-- a transfer that ends before each one that passes is the soonest of them all
 soonest_passing : (p : Transfer) (test : Entry → Bool) (es : List Entry)
     → AllByRecursion (λ y. test y ≡ true → is_sooner p y.transfer ≡ true) es → IsSoonest p (passing test es)
 soonest_passing p test [] all = tt

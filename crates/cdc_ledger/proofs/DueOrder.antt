@@ -12,6 +12,7 @@ sooner_once : (a b s t : ℕ) → (nat_lt a b || ((a == b) && nat_lt s t)) ≡ t
     → (nat_lt b a || ((b == a) && nat_lt t s)) ≡ false
 sooner_once a b s t sooner = grind (arith, nat_tests)
 
+-- of two transfers at most one ends sooner than the other
 pub is_sooner-once : (p q : Transfer) → is_sooner p q ≡ true → is_sooner q p ≡ false
 is_sooner-once p q = sooner_once (expires_at p) (expires_at q) p.timestamp q.timestamp
 
@@ -32,6 +33,7 @@ module _ (P : Transfer → Type 0) where
   All-in_order [] all = tt
   All-in_order (p ∷ ps) all = All-placed p (in_order_of_end ps) all.0 (All-in_order ps all.1)
 
+-- a transfer put in its place among others makes one more
 length-placed : (p : Transfer) (qs : List Transfer) → length (placed p qs) ≡ suc (length qs)
 length-placed p [] = refl
 length-placed p (q ∷ qs) =
@@ -47,6 +49,7 @@ length-in_order (p ∷ ps) = length-placed p (in_order_of_end ps) ∙ ap suc (le
 abbrev pub IsSoonest : Transfer → List Transfer → Type 0
 IsSoonest p = AllByRecursion (λ q. is_sooner p q ≡ true)
 
+-- one that ends sooner than all others is put before them
 placed_first : (p : Transfer) (qs : List Transfer) → IsSoonest p qs → placed p qs ≡ p ∷ qs
 placed_first p [] all = refl
 placed_first p (q ∷ qs) all =

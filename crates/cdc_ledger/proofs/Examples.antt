@@ -54,6 +54,7 @@ abbrev settling : ℕ → ℕ → ℕ → ℕ → NewTransfer
 settling id pending_id amount flags =
     record (transfer id 0 0 amount) { pending_id = pending_id; ledger = 0; code = 0; flags = flags }
 
+-- the batch that opens the two accounts, with which most examples begin
 abbrev two_accounts : Batch
 two_accounts = batch.Accounts 1000 (account 1 0 ∷ account 2 0 ∷ [])
 
@@ -75,9 +76,11 @@ answers h (b ∷ bs) = answer_of (submit_by features h b) ∷ answers (history_o
 abbrev given : List TransferResult → Answer
 given items = Ok (results.Transfers items)
 
+-- so many pending transfers came to their end at a pulse
 abbrev pulsed : ℕ → Answer
 pulsed count = Ok (results.Pulsed count)
 
+-- the batch was refused as a whole
 abbrev refused : BatchError → Answer
 refused why = Err why
 
@@ -85,6 +88,7 @@ refused why = Err why
 abbrev one_opened : Answer
 one_opened = Ok (results.Accounts (account_result.Accepted ∷ []))
 
+-- two accounts are opened
 abbrev two_opened : Answer
 two_opened = Ok (results.Accounts (account_result.Accepted ∷ account_result.Accepted ∷ []))
 
@@ -104,6 +108,7 @@ told e =
       sums c.debits_pending c.debits_posted c.credits_pending c.credits_posted,
     )
 
+-- the history that these batches make of nothing
 abbrev history : List Batch → History
 history = after_batches features empty_history
 
@@ -118,12 +123,14 @@ one_transfer =
     batch.Transfers 2000 (transfer 1 1 2 100 ∷ []) ∷
     []
 
+-- both accounts are opened, and the transfer is accepted
 one_transfer-answers : answers empty_history one_transfer ≡
     two_opened ∷
     given (result.Accepted ∷ []) ∷
     []
 one_transfer-answers = refl
 
+-- its event shows 100 debited on the one side and credited on the other
 one_transfer-events : map told (events (history one_transfer)) ≡
     (2000, SinglePhase, 100, sums 0 100 0 0, sums 0 0 0 100) ∷
     []
@@ -136,6 +143,7 @@ two_transfers =
     batch.Transfers 2000 (transfer 1 1 2 5 ∷ transfer 2 1 2 7 ∷ []) ∷
     []
 
+-- the first event doesn't show the 7 that the second transfer moves
 two_transfers-events : map told (events (history two_transfers)) ≡
     (2000, SinglePhase, 5, sums 0 5 0 0, sums 0 0 0 5) ∷
     (2001, SinglePhase, 7, sums 0 12 0 0, sums 0 0 0 12) ∷
@@ -150,6 +158,7 @@ posted_in_part =
     batch.Transfers 3000 (settling 11 10 40 4 ∷ []) ∷
     []
 
+-- the post moves 40, and nothing of the 100 is held back after it
 posted_in_part-events : map told (events (history posted_in_part)) ≡
     (2000, TwoPhasePending, 100, sums 100 0 0 0, sums 0 0 100 0) ∷
     (3000, TwoPhasePosted, 40, sums 0 40 0 0, sums 0 0 0 40) ∷
@@ -165,6 +174,7 @@ voided =
     batch.Transfers 4000 (settling 12 10 0 8 ∷ []) ∷
     []
 
+-- the first void is accepted, and the second one is told that the transfer was voided
 voided-answers : answers empty_history voided ≡
     two_opened ∷
     given (result.Accepted ∷ []) ∷
@@ -173,6 +183,7 @@ voided-answers : answers empty_history voided ≡
     []
 voided-answers = refl
 
+-- the void releases all 100 and moves nothing; the refused one has no event
 voided-events : map told (events (history voided)) ≡
     (2000, TwoPhasePending, 100, sums 100 0 0 0, sums 0 0 100 0) ∷
     (3000, TwoPhaseVoided, 100, sums 0 0 0 0, sums 0 0 0 0) ∷
@@ -188,6 +199,7 @@ posted_in_time =
     batch.Transfers 1000001999 (settling 11 10 whole 4 ∷ []) ∷
     []
 
+-- a post in the last nanosecond is accepted
 posted_in_time-answers : answers empty_history posted_in_time ≡
     two_opened ∷
     given (result.Accepted ∷ []) ∷
@@ -195,6 +207,7 @@ posted_in_time-answers : answers empty_history posted_in_time ≡
     []
 posted_in_time-answers = refl
 
+-- the same post one nanosecond later, and then a pulse
 abbrev posted_too_late : List Batch
 posted_too_late =
     two_accounts ∷
@@ -203,6 +216,7 @@ posted_too_late =
     batch.Pulse 1000003000 ∷
     []
 
+-- the post is refused as expired, and it is left to the pulse to bring the transfer to its end
 posted_too_late-answers : answers empty_history posted_too_late ≡
     two_opened ∷
     given (result.Accepted ∷ []) ∷
@@ -211,6 +225,7 @@ posted_too_late-answers : answers empty_history posted_too_late ≡
     []
 posted_too_late-answers = refl
 
+-- the expiry is told at the moment of the pulse, not at the end itself
 posted_too_late-events : map told (events (history posted_too_late)) ≡
     (2000, TwoPhasePending, 100, sums 100 0 0 0, sums 0 0 100 0) ∷
     (1000003000, TwoPhaseExpired, 100, sums 0 0 0 0, sums 0 0 0 0) ∷
@@ -227,6 +242,7 @@ limited =
     batch.Transfers 5 (transfer 5 2 1 1 ∷ []) ∷
     []
 
+-- 101 is too much after credits of 100, 100 isn't, and after those nor may 1 more be debited
 limited-answers : answers empty_history limited ≡
     two_opened ∷
     given (result.Accepted ∷ result.ExceedsCredits ∷ result.Accepted ∷ result.ExceedsCredits ∷ []) ∷
@@ -234,10 +250,12 @@ limited-answers : answers empty_history limited ≡
     []
 limited-answers = refl
 
+-- the balances are those of the three accepted transfers alone
 limited-balances : (balances (history limited) 1 2004 ≡ sums 0 100 0 101)
     × (balances (history limited) 2 2004 ≡ sums 0 101 0 100)
 limited-balances = (refl, refl)
 
+-- five requests took five timestamps, of which the last was given out in a batch of the moment 5
 limited-last : (history limited).last ≡ 2004
 limited-last = refl
 
@@ -249,6 +267,7 @@ swept =
     batch.Pulse 3000000000 ∷
     []
 
+-- transfer 11 of 2 was made after transfer 10 of 1, and expires before it
 swept-events : map told (events (history swept)) ≡
     (2000, TwoPhasePending, 1, sums 1 0 0 0, sums 0 0 1 0) ∷
     (2001, TwoPhasePending, 2, sums 3 0 0 0, sums 0 0 3 0) ∷
@@ -268,6 +287,7 @@ repeated =
     ∷ settling 11 10 99 4 ∷ []) ∷
     []
 
+-- posts of the greatest amount and of 100 are the same transfer, and one of 99 is another
 repeated-answers : answers empty_history repeated ≡
     two_opened ∷
     given (result.Accepted ∷ result.Exists ∷ result.ExistsWithDifferentFields ∷ []) ∷
@@ -284,30 +304,35 @@ too_much =
     batch.Transfers 2000 (transfer 1 1 2 whole ∷ transfer 2 1 2 1 ∷ []) ∷
     []
 
+-- once the greatest amount is posted, not even 1 more may be debited
 too_much-answers : answers empty_history too_much ≡
     two_opened ∷
     given (result.Accepted ∷ result.OverflowsDebitsPosted ∷ []) ∷
     []
 too_much-answers = refl
 
+-- the greatest amount held back, and 1 more to be moved beside it
 abbrev too_much_together : List Batch
 too_much_together =
     two_accounts ∷
     batch.Transfers 2000 (pending 1 whole 0 ∷ transfer 2 1 2 1 ∷ []) ∷
     []
 
+-- pending and posted would pass 128 bits together, though each of them would fit
 too_much_together-answers : answers empty_history too_much_together ≡
     two_opened ∷
     given (result.Accepted ∷ result.OverflowsDebits ∷ []) ∷
     []
 too_much_together-answers = refl
 
+-- a pending transfer with the longest timeout, made too near to the last timestamp
 abbrev too_long : List Batch
 too_long =
     two_accounts ∷
     batch.Transfers 9000000000000000000 (pending 1 1 4294967295 ∷ []) ∷
     []
 
+-- it is refused for its timeout
 too_long-answers : answers empty_history too_long ≡
     two_opened ∷
     given (result.OverflowsTimeout ∷ []) ∷
@@ -323,6 +348,7 @@ at_the_end =
     batch.Accounts 5 (account 2 0 ∷ []) ∷
     []
 
+-- for two accounts there is one timestamp too few, for one it suffices, and then there is none left
 at_the_end-answers : answers empty_history at_the_end ≡
     refused TimestampsExhausted ∷
     one_opened ∷
@@ -352,12 +378,14 @@ faulty =
     (record plain { flags = 4; pending_id = 9 }, result.PendingTransferNotFound) ∷
     []
 
+-- all of these requests in one batch, after the two accounts
 abbrev all_faulty : List Batch
 all_faulty =
     two_accounts ∷
     batch.Transfers 2000 (map (λ row. row.0) faulty) ∷
     []
 
+-- each is refused with the result that stands beside it
 faulty-answers : answers empty_history all_faulty ≡
     two_opened ∷
     given (map (λ row. row.1) faulty) ∷

@@ -20,6 +20,7 @@ pub record GoesOn (h : History) (base now count done : ℕ) (g : History) : Type
   pub left : length (due g now) + done ≡ count
   pub rest : expiries_from g (base + done) (due g now) ≡ expiries_from h base (due h now)
 
+-- before the first of them expires, all that was due is due still
 pub GoesOn-start : (h : History) (base now count : ℕ) → count ≡ length (due h now) → GoesOn h base now count 0 h
 GoesOn-start h base now count all = record {
   left = omega arith;
@@ -75,6 +76,7 @@ IsNext-answer g s now answer x sound kept least is =
     IsNext-least g now x sound (subst (λ a. IsLeast (due_at (index_of g) now) a) is
     (subst (λ u. IsLeast (due_at u now) answer) kept least))
 
+-- the same of the set that the index keeps, so that each turn of the loop finds a transfer to expire
 pub GoesOn-answer : (h : History) (base now count done : ℕ) (g : History) (s : Triples) (answer : Option Triple)
     → GoesOn h base now count done g → done < count
     → s ≡ index_of g → IsLeast (due_at s now) answer → IsSome answer

@@ -17,6 +17,7 @@ module _ {A B : Type 0} (p : B → Bool) (f : A → B) where
   find-map [] = refl
   find-map (x ∷ xs) = found (p (f x)) x (find (λ y. p (f y)) xs) (find p (map f xs)) (find-map xs)
 
+-- an id that is looked up among the accounts gives the opened account with its balances now
 pub find-accounts_now : (h : History) (id : ℕ)
     → find (λ a. a.id == id) (accounts_now h) ≡ option_map (account_now h) (opened h id)
 find-accounts_now h id = find-map (λ (a : Account). a.id == id) (account_now h) h.accounts

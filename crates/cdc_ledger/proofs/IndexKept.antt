@@ -64,6 +64,7 @@ record IsSettled (h : History) (e : Entry) (p : Transfer) : Type 0 where
   settled : Settles h e x
   own : x.transfer ≡ p
 
+-- so the entry whose triple has to leave the index is known by what a post, a void or an expiry settles
 IsSettled-settled_by : (h : History) (e : Entry) (p : Transfer) → Follows h e → settled_by h e ≡ Some p
     → IsSettled h e p
 IsSettled-settled_by h e p follows some = by_settling (settles e.kind) refl
@@ -92,6 +93,7 @@ end_fits h x sound among held =
         let within : h.last ≤ max_timestamp = sound.within in
         omega arith
 
+-- so the end of a settled transfer can be computed, by which its triple is looked for
 pub expires_at-settled : (h : History) (e : Entry) (p : Transfer) → IsSound h → Follows h e → settled_by h e ≡ Some p
     → expires_at p ≤ max_timestamp
 expires_at-settled h e p sound follows some =

@@ -48,10 +48,12 @@ is_open-then : (h : History) (e y : Entry) → IsSound h → h.last < e.timestam
     → is_open (pushed h e) y ≡ open_by (resolved h y.transfer h.last || ends e y) y
 is_open-then h e y sound after = ap (λ b. open_by b y) (resolved_then h e y.transfer sound.past after)
 
+-- what was resolved is still all that is, where the new entry settles nothing
 or_none : (b c : Bool) → c ≡ false → (b || c) ≡ b
 or_none true c none = refl
 or_none false c none = none
 
+-- a new pending transfer isn't resolved yet, so its timeout alone says whether it has a triple
 new_open : (held timed done : Bool) → (held ≡ true → done ≡ false) → (held && timed && not done) ≡ (held && timed)
 new_open true true done fresh = ap not (fresh refl)
 new_open true false done fresh = refl

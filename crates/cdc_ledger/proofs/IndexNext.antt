@@ -36,10 +36,12 @@ pub record IsOpenAt (h : History) (t : Triple) : Type 0 where
   pub pending : holds entry.kind ≡ true
   pub unsettled : resolved h entry.transfer h.last ≡ false
 
+-- the entry between those before it and those after it stands at the slot of its triple
 get_seam : (front : List Entry) (e : Entry) (back : List Entry) → slice_get (front ++ e ∷ back) (length front) ≡ Some e
 get_seam [] e back = refl
 get_seam (x ∷ front) e back = get_seam front e back
 
+-- a transfer that has a triple still was neither posted, voided nor expired
 unresolved : (h : History) (e : Entry) → is_open h e ≡ true → resolved h e.transfer h.last ≡ false
 unresolved h e = third (holds e.kind) (not (e.transfer.timeout == 0)) (resolved h e.transfer h.last)
   where
@@ -78,6 +80,7 @@ pub record IsNext (h : History) (now : ℕ) (t : Triple) : Type 0 where
   pub first : (moment : ℕ) → h.last < moment
       → due h now ≡ found.entry.transfer ∷ due (pushed h (expiry found.entry.transfer moment)) now
 
+-- of triples with different timestamps the lesser one is of the transfer that ends sooner: slots never decide
 sooner_numbers : (a b s t m n : ℕ)
     → is_le (triple_cmp (record { expires_at = a; timestamp = s; slot = m })
     (record { expires_at = b; timestamp = t; slot = n })) ≡ true
@@ -138,6 +141,7 @@ module _ (h : History) (now : ℕ) (t : Triple) (sound : IsSound h) (of : IsOf (
       ∙ ap (λ more. of.entry.transfer ∷ more) (sym (due-rest h now of.entry among sound (holds-open h of.entry is)
       moment later))
 
+-- a triple that is due is one of the index
 contains_filtered : (keep : Triple → Bool) (xs : List Triple) (x : Triple) → Contains (filter keep xs) x → Contains xs x
 contains_filtered keep xs x there =
     All-contains (Contains xs) (filter keep xs) x (All-filter keep (Contains xs) xs (All-contains_itself xs)) there

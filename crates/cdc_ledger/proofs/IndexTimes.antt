@@ -34,6 +34,7 @@ record RiseApart (t : ℕ) (xs : List Triple) : Type 0 where
   later : AllByRecursion (λ x. t < x.timestamp) xs
   differ : TimestampsDiffer xs
 
+-- the triple of one more entry, if it has one, comes before those of the later entries
 rise_cons : (t : ℕ) (x : Triple) (xs : List Triple) (u : ℕ) (b : Bool) → t < u → (b ≡ true → x.timestamp ≡ u)
     → RiseApart u xs
     → RiseApart t (if b then x ∷ xs else xs)
@@ -57,6 +58,7 @@ rise_cons t x xs u false after own rest = record {
   differ = rest.differ;
 }
 
+-- entries that rise have triples with different timestamps
 rise_apart : (test : Entry → Bool) (t n : ℕ) (es : List Entry) → RiseFrom t es
     → AllByRecursion (λ e. test e ≡ true → e.transfer.timestamp ≡ e.timestamp) es → RiseApart t (triples_from test n es)
 rise_apart test t n [] rising all = record { later = tt; differ = tt }
@@ -64,6 +66,7 @@ rise_apart test t n (e ∷ es) rising all =
     rise_cons t (triple_at n e) (triples_from test (n + 1) es) e.timestamp (test e) rising.0 all.0
     (rise_apart test e.timestamp (n + 1) es rising.1 all.1)
 
+-- no two triples of a history have the same timestamp, so that the index may count its list
 pub TimestampsDiffer-open : (h : History) → IsSound h → TimestampsDiffer (open_triples h)
 TimestampsDiffer-open h sound =
     (rise_apart (is_open h) 0 0 h.entries sound.rising (dated h h.entries sound.standing)).differ

@@ -10,6 +10,7 @@ use Rattle.cdc_ledger.specs.OpenTriples.{triple_at, triples_from}
 abbrev here_if : Bool → Triple → List Triple
 here_if b x = if b then x ∷ [] else []
 
+-- a new entry's triple comes last, whether the first entry has one or not
 join_if : (b : Bool) (x y : Triple) (front : List Triple) (c : Bool)
     → (if b then x ∷ (front ++ here_if c y) else front ++ here_if c y) ≡ (if b then x ∷ front else front) ++ here_if c y
 join_if true x y front c = refl
@@ -34,6 +35,7 @@ triples_from-same test also n (e ∷ es) agree =
     ap₂ (λ b more. if b then triple_at n e ∷ more else more) agree.0
     (triples_from-same test also (n + 1) es agree.1)
 
+-- a filter drops the first entry's triple, or keeps it where there is one
 filter_if : (keep : Triple → Bool) (b : Bool) (x : Triple) (xs : List Triple)
     → filter keep (if b then x ∷ xs else xs) ≡ (if b && keep x then x ∷ filter keep xs else filter keep xs)
 filter_if keep true x xs = refl
@@ -98,11 +100,13 @@ pub record IsOf (test : Entry → Bool) (n : ℕ) (es : List Entry) (x : Triple)
   pub passes : test entry ≡ true
   pub made : x ≡ triple_at (n + length front) entry
 
+-- a triple of a list is the first or one of the others
 contains_at : (a : Triple) (xs : List Triple) (x : Triple) (k : ℕ) → k < length (a ∷ xs)
     → slice_index_or (a ∷ xs) k x ≡ x → (x ≡ a) ⊎ Contains xs x
 contains_at a xs x zero within at = inl (sym at)
 contains_at a xs x (suc k) within at = inr (k, omega arith, at)
 
+-- the entry of a triple among the later entries has its slot in the whole list
 of_rest : (test : Entry → Bool) (n : ℕ) (e : Entry) (es : List Entry) (x : Triple) → IsOf test (n + 1) es x
     → IsOf test n (e ∷ es) x
 of_rest test n e es x rest = record {
@@ -114,6 +118,7 @@ of_rest test n e es x rest = record {
   made = rest.made ∙ ap (λ m. triple_at m rest.entry) (omega arith);
 }
 
+-- a triple is of the first entry, where that one passes, or of a later entry
 of_cons : (test : Entry → Bool) (n : ℕ) (e : Entry) (es : List Entry) (x : Triple) (b : Bool) → test e ≡ b
     → (Contains (triples_from test (n + 1) es) x → IsOf test (n + 1) es x)
     → Contains (if b then triple_at n e ∷ triples_from test (n + 1) es else triples_from test (n + 1) es) x
@@ -130,9 +135,11 @@ of_cons test n e es x true passes later there =
     (contains_at (triple_at n e) (triples_from test (n + 1) es) x there.0 there.1 there.2)
 of_cons test n e es x false passes later there = of_rest test n e es x (later there)
 
+-- without entries there is no triple
 none_there : (x : Triple) (k : ℕ) → k < 0 → ⊥
 none_there x k within = omega arith
 
+-- each triple is of an entry that passes, so that its slot can be looked up
 pub IsOf-contained : (test : Entry → Bool) (n : ℕ) (es : List Entry) (x : Triple)
     → Contains (triples_from test n es) x → IsOf test n es x
 IsOf-contained test n [] x there = absurd (none_there x there.0 there.1)

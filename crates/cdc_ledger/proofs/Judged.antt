@@ -67,6 +67,7 @@ module _ (h : History) (r : NewTransfer) (t : ℕ) (shape : transfer_refusal fea
   unfolding own_lines
   first_line-settling is = decides false is
 
+-- where no account is shown, none was opened
 none_from_option_map : {A B : Type 0} (f : A → B) (o : Option A) → None ≡ option_map f o → o ≡ None
 none_from_option_map f None e = refl
 none_from_option_map f (Some x) e = cc
@@ -77,11 +78,13 @@ pub record IsOpened (h : History) (id : ℕ) (a : Account) : Type 0 where
   pub found : opened h id ≡ Some account
   pub now : a ≡ account_now h account
 
+-- where an account is shown, it was opened and is shown with its balances now
 opened_from : (h : History) (id : ℕ) (a : Account) (o : Option Opened) → opened h id ≡ o
     → Some a ≡ option_map (account_now h) o → IsOpened h id a
 opened_from h id a None is e = cc
 opened_from h id a (Some o) is e = record { account = o; found = is; now = cc }
 
+-- the account at the place of an id is the one that was opened with it, so its running balances may decide
 pub IsOpened-place : (t : Tables) (id place : ℕ) (d : Account) → IsKept t → IsPlace t.accounts.items id place
     → IsOpened (history_of t) id (get_or t.accounts.items place d)
 IsOpened-place t id place d kept at =
@@ -95,10 +98,12 @@ pub IsOpened-found : (t : Tables) (xs : List Account) (id place : ℕ) (found : 
 IsOpened-found t xs id place found d kept at same is =
     IsOpened-place t id place d kept (position_in xs t.accounts.items id found (Some place) at same is)
 
+-- a search that answers no place has come past the end
 no_place : (b : Bool) (n : ℕ) → cond b (Some n) None ≡ None → b ≡ false
 no_place true n e = cc
 no_place false n e = refl
 
+-- an id without a place was never opened, so that the line on a missing account applies
 pub unopened-no_place : (t : Tables) (id : ℕ) → IsKept t → position (λ a. a.id == id) t.accounts.items ≡ None
     → opened (history_of t) id ≡ None
 unopened-no_place t id kept at =
@@ -153,6 +158,7 @@ pub first_line-no_debit : (h : History) (r : NewTransfer) (t : ℕ) → opened h
     ≡ Some transfer.DebitAccountNotFound
 first_line-no_debit h r t none = ap (λ o. first_line (plain_lines o (opened h r.credit_account_id) h r t)) none
 
+-- the same of the credited account, where the debited one is there
 pub first_line-no_credit : (h : History) (r : NewTransfer) (t : ℕ) (debited : Account)
     → IsOpened h r.debit_account_id debited → opened h r.credit_account_id ≡ None
     → first_line (plain_lines (opened h r.debit_account_id) (opened h r.credit_account_id) h r t)
@@ -207,6 +213,7 @@ plain_settles false true void h x plain = absurd (false≢true plain)
 plain_settles false false true h x plain = absurd (false≢true plain)
 plain_settles false false false h x plain = refl
 
+-- a post or a void settles the transfer that its pending id names
 settling_settles : (pending post void : Bool) (h : History) (x : Transfer) → not (post || void) ≡ false
     → ((pending && post) || (pending && void) || (post && void)) ≡ false
     → settled_in
@@ -220,20 +227,24 @@ settling_settles false true void h x plain one = refl
 settling_settles false false true h x plain one = refl
 settling_settles false false false h x plain one = absurd (false≢true (sym plain))
 
+-- a plain request is stored as it was asked for
 pub filled-plain : (h : History) (r : NewTransfer) (t : ℕ) → is_plain_request r ≡ true → filled h r t ≡ as_asked r t
 filled-plain h r t plain = ap (λ b. if b then as_asked r t else filled_by (stored h r.pending_id) r t) plain
 
+-- a post or a void is stored as its pending transfer fills it in
 pub filled-settling : (h : History) (r : NewTransfer) (t : ℕ) (x : Entry) → is_plain_request r ≡ false
     → stored h r.pending_id ≡ Some x
     → filled h r t ≡ filled_from x.transfer r t
 filled-settling h r t x plain there =
     ap (λ b. if b then as_asked r t else filled_by (stored h r.pending_id) r t) plain ∙ ap (λ o. filled_by o r t) there
 
+-- the movement of a plain request settles no pending transfer
 pub settled-plain : (h : History) (r : NewTransfer) (t : ℕ) → is_plain_request r ≡ true
     → settled_by h (entry_of h r t) ≡ None
 settled-plain h r t plain = plain_settles (is_pending_request r) (is_post_request r) (is_void_request r) h
     (filled h r t) plain
 
+-- that of a post or a void settles the pending transfer that was found
 pub settled-settling : (h : History) (r : NewTransfer) (t : ℕ) (x : Entry) → transfer_refusal features r ≡ None
     → is_plain_request r ≡ false
     → stored h r.pending_id ≡ Some x → settled_by h (entry_of h r t) ≡ Some x.transfer

@@ -32,6 +32,7 @@ IsKept-from t h same balanced logged indexed sound = record {
   sound = subst IsSound (sym same) sound;
 }
 
+-- a refused request, which only takes its timestamp, leaves balances, log and index right
 pub IsKept-timed : (t : Tables) (n : ℕ) → IsKept t → t.last ≤ n → n ≤ max_timestamp → IsKept (record t { last = n })
 IsKept-timed t n kept later within = record {
   balanced = kept.balanced ∙ sym (accounts_now-timed (history_of t) n kept.sound.past later);
@@ -40,6 +41,7 @@ IsKept-timed t n kept later within = record {
   sound = IsSound-timed (history_of t) n kept.sound later within;
 }
 
+-- tables with one more account hold the history with one more account
 pub history-opened : (t t' : Tables) (r : NewAccount) (n : ℕ)
     → t'.accounts.items ≡ t.accounts.items ++ fresh_account r n ∷ []
     → t'.entries.items ≡ t.entries.items → t'.last ≡ n → t'.closed ≡ t.closed
@@ -50,6 +52,7 @@ history-opened t t' r n accounts entries last closed =
     ap (map opened_as) accounts ∙ map_push opened_as t.accounts.items (fresh_account r n) in
     cc
 
+-- a new account has no amount, no event and no triple, so balances, log and index stay right
 pub IsKept-opened : (t t' : Tables) (r : NewAccount) (n : ℕ) → IsKept t → opened (history_of t) r.id ≡ None → t.last ≤ n
     → n ≤ max_timestamp
     → t'.accounts.items ≡ t.accounts.items ++ fresh_account r n ∷ [] → t'.log.events ≡ t.log.events

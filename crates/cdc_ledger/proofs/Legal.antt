@@ -33,6 +33,7 @@ module _ {A : Type 0} (shown : A → BatchResults) (h g : History) (b : Batch) w
   IsLegal-answered (Err TimestampsExhausted) legal fit answers = subst IsLegal (sym answers.1) legal
   IsLegal-answered (Err OutOfMemory) legal fit answers = subst IsLegal (sym answers.1) legal
 
+-- an account that was found by an id shows the balances of that id
 balances_found : (h : History) (id : ℕ) (found : Option Opened) → opened h id ≡ found
     → option_map (λ (a : Account). a.balances) (option_map (account_now h) found)
     ≡ option_map (λ (o : Opened). balances h id h.last) found
@@ -45,6 +46,7 @@ pub balances-account_now : (h : History) (id : ℕ)
     ≡ option_map (λ (o : Opened). balances h id h.last) (opened h id)
 balances-account_now h id = balances_found h id (opened h id) refl
 
+-- whichever account is found, its pending and posted sums fit 128 bits together on each side
 some_bounded : (h : History) (id : ℕ) (found : Option Opened) → IsBounded h
     → IfSome (option_map (λ (o : Opened). balances h id h.last) found)
     (λ b. b.debits_pending + b.debits_posted ≤ max_128)
@@ -53,6 +55,7 @@ some_bounded : (h : History) (id : ℕ) (found : Option Opened) → IsBounded h
 some_bounded h id None bounded = (tt, tt)
 some_bounded h id (Some o) bounded = bounded id
 
+-- so who asks for balances may add up the debits, pending and posted
 pub debits_bounded : (h : History) (id : ℕ) (r : Option Balances) → IsBounded h
     → r ≡ option_map (λ (o : Opened). balances h id h.last) (opened h id)
     → IfSome r (λ b. b.debits_pending + b.debits_posted ≤ max_128)
@@ -60,6 +63,7 @@ debits_bounded h id r bounded is =
     let P : Option Balances → Type 0 = λ found. IfSome found (λ b. b.debits_pending + b.debits_posted ≤ max_128) in
     subst P (sym is) (some_bounded h id (opened h id) bounded).0
 
+-- the same of credits
 pub credits_bounded : (h : History) (id : ℕ) (r : Option Balances) → IsBounded h
     → r ≡ option_map (λ (o : Opened). balances h id h.last) (opened h id)
     → IfSome r (λ b. b.credits_pending + b.credits_posted ≤ max_128)

@@ -18,6 +18,7 @@ use Rattle.cdc_ledger.specs.declared.movements.Movement.{Movement}
 use Rattle.cdc_ledger.specs.Movements.{IsPlace, IsPlaced, account_ids, accounts_changed, debited, credited, effect_of_movement}
 use Rattle.cdc_ledger.specs.Sound.{AreApart}
 
+-- the place that a search answers is the one where it stopped
 place_from : (b : Bool) (n k : ℕ) → cond b (Some n) None ≡ Some k → n ≡ k
 place_from true n k e = cc
 place_from false n k e = cc
@@ -47,10 +48,12 @@ module _ (accounts : List Account) (id place : ℕ) (d : Account) (at : IsPlace 
   pub place-shown : shown_in accounts id ≡ shown_as (get_or accounts place d)
   place-shown = ap (λ o. unwrap_or (option_map shown_as o) (shown_account nobody no_balances)) place-find
 
+-- what holds of each element holds at each place
 AllByRecursion-All : {X : Type 0} (P : X → Type 0) (xs : List X) → AllByRecursion P xs → All P xs
 AllByRecursion-All P [] h = All-nil P
 AllByRecursion-All P (x ∷ xs) h = All-cons P x xs h.0 (AllByRecursion-All P xs h.1)
 
+-- accounts at two places have two ids, so that an id has one place alone
 apart_pairs : (ns : List ℕ) → AreApart ns → AllPairs (λ m n. m ≢ n) ns
 apart_pairs [] h = λ i j d before inside. omega arith
 apart_pairs (n ∷ ns) h = AllPairs-cons (λ k m. k ≢ m) n ns (AllByRecursion-All (λ m. n ≢ m) ns h.0) (apart_pairs ns h.1)
@@ -100,12 +103,15 @@ set_two g xs i j a b d in_i in_j apart first second rest =
     ]
     refl)
 
+-- the account on this side of a movement takes its amount
 part-same : (side account amount : ℕ) → account ≡ side → part side account amount ≡ amount
 part-same side account amount e = ap (λ b. if b then amount else 0) (eq-eqb side account (sym e))
 
+-- an account that isn't on this side takes nothing of it
 part-other : (side account amount : ℕ) → account ≢ side → part side account amount ≡ 0
 part-other side account amount e = ap (λ b. if b then amount else 0) (ne_eqb side account (λ same. e (sym same)))
 
+-- balances are equal where their four sums are
 pub same_sums : {x y z w x' y' z' w' : ℕ} → x ≡ x' → y ≡ y' → z ≡ z' → w ≡ w'
     → ◌≡◌ {A = Balances} (record { debits_pending = x; debits_posted = y; credits_pending = z; credits_posted = w })
     (record { debits_pending = x'; debits_posted = y'; credits_pending = z'; credits_posted = w' })

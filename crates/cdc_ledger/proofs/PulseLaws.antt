@@ -39,6 +39,7 @@ HaveOwnIds (p ∷ ps) = AllByRecursion (λ q. p.id ≢ q.id) ps × HaveOwnIds ps
 
 -- the order of their ends leaves what holds of each, and of each two
 
+-- a transfer put in its place among others of different ids leaves all ids different
 placed_ids : (p : Transfer) (qs : List Transfer) → AllByRecursion (λ q. p.id ≢ q.id) qs → HaveOwnIds qs
     → HaveOwnIds (placed p qs)
 placed_ids p [] other own = (tt, tt)
@@ -48,6 +49,7 @@ placed_ids p (q ∷ qs) other own = either (is_sooner q p) (placed_ids p qs othe
     either true more = (All-placed (λ x. q.id ≢ x.id) p qs (λ same. other.0 (sym same)) own.0, more)
     either false more = (other, own)
 
+-- so the order of their ends brings no transfer twice
 in_order_ids : (ps : List Transfer) → HaveOwnIds ps → HaveOwnIds (in_order_of_end ps)
 in_order_ids [] own = tt
 in_order_ids (p ∷ ps) own = placed_ids p (in_order_of_end ps) (All-in_order (λ q. p.id ≢ q.id) ps own.0)
@@ -90,6 +92,7 @@ record DueParts (h : History) (e : Entry) : Type 0 where
   holding : holds e.kind ≡ true
   unsettled : resolved h e.transfer h.last ≡ false
 
+-- a transfer that is due is pending, and nothing settled it
 due_parts : (h : History) (now : ℕ) (e : Entry) → is_due h now e ≡ true → DueParts h e
 due_parts h now e is =
     let last = and_parts (holds e.kind && not (e.transfer.timeout == 0) && nat_le (expires_at e.transfer) now)
@@ -114,6 +117,7 @@ due_open h now sound = All-in_order (IsOpen h) (map (λ e. e.transfer) (filter (
     })
     h.entries (stored_each h sound.once)))
 
+-- no transfer is due twice, so that each of them can expire in turn
 pub due_ids : (h : History) (now : ℕ) → IsSound h → HaveOwnIds (due h now)
 due_ids h now sound = in_order_ids (map (λ e. e.transfer) (filter (is_due h now) h.entries))
     (passing_ids (is_due h now) (λ e is. stores-holds e.kind (due_parts h now e is).holding) h.entries sound.once)
@@ -139,6 +143,7 @@ open_after h p q t sound later other open_one = record {
       ∙ ap₂ (λ b c. b || c) open_one.unsettled (ne_eqb p.id q.id other);
 }
 
+-- open transfers that expire one after another leave the history sound, while there are timestamps
 pub IsSound-expiries_from : (h : History) (t : ℕ) (ps : List Transfer) → IsSound h → AllByRecursion (IsOpen h) ps
     → HaveOwnIds ps → h.last < t → (0 < length ps → t + length ps ≤ max_timestamp + 1)
     → IsSound (expiries_from h t ps)
@@ -152,6 +157,7 @@ IsSound-expiries_from h t (p ∷ ps) sound all own later fits =
     (AllByRecursion-both (λ q. p.id ≢ q.id) (IsOpen h) ps own.0 all.1))
     own.1 (omega arith) (λ some. omega arith)
 
+-- so a pulse that isn't refused leaves the history sound
 pub IsSound-pulse : (h : History) (now t : ℕ) → IsSound h → h.last < t
     → (0 < length (due h now) → t + length (due h now) ≤ max_timestamp + 1) → IsSound (expiries_from h t (due h now))
 IsSound-pulse h now t sound later fits =

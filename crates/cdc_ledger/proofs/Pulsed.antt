@@ -23,6 +23,7 @@ pub due_count-kept : (h : History) (s : Triples) (now count : ℕ) → IsSound h
 due_count-kept h s now count sound kept counted =
     counted ∙ (ap (λ u. set.len (due_at u now)) kept ∙ due_count-index_of h now sound)
 
+-- no test of a whole batch refuses it for want of memory
 never_memory : (a b c : Bool)
     → first_line ((a, LedgerClosed) ∷ (b, BatchTooLarge) ∷ (c, TimestampsExhausted) ∷ []) ≡ Some OutOfMemory → ⊥
 never_memory true b c wrong = cc

@@ -76,6 +76,7 @@ effect-movement : (h : History) (m : Movement) → m.settled ≡ settled_by h m.
     → effect_of_movement m ≡ effect_of h m.entry
 effect-movement h m settled = ap (λ p. effect_by p m.entry) settled
 
+-- the running balances take the movement, so that no sum or difference of `apply` passes its width
 pub All-Takes : (t : Tables) (m : Movement) → IsKept t → Follows (history_of t) m.entry → t.last < m.entry.timestamp
     → m.settled ≡ settled_by (history_of t) m.entry
     → All (Takes (effect_of_movement m) m.entry.transfer.debit_account_id m.entry.transfer.credit_account_id)
@@ -91,6 +92,7 @@ All-Takes t m kept follows after settled =
 ids_opened : (xs : List Account) → account_ids xs ≡ map (λ o. o.request.id) (map opened_as xs)
 ids_opened xs = sym (map-map (λ (o : Opened). o.request.id) opened_as xs)
 
+-- no two accounts of the tables have one id, so that a movement changes just two of them
 pub AreApart-kept : (t : Tables) → IsKept t → AreApart (account_ids t.accounts.items)
 AreApart-kept t kept = subst AreApart (sym (ids_opened t.accounts.items)) kept.sound.unique
 
@@ -134,6 +136,7 @@ shown_in-found h id (Some o) is has =
     ∙ ap (λ i. shown_account o (balances h i h.last)) (opened_id h o id is)
     ∙ sym (ap (λ x. shown_account (unwrap_or x nobody) (balances h id h.last)) is)
 
+-- the event that is made of the running balances is the one that the entry has by definition
 pub event_from-now : (h : History) (e : Entry) → IsSome (opened h e.transfer.debit_account_id)
     → IsSome (opened h e.transfer.credit_account_id)
     → h.last ≡ e.timestamp → event_from (accounts_now h) e ≡ event_of h e
@@ -164,6 +167,7 @@ accounts-recorded t m kept follows after settled =
     ∙ ap (map (account_changed (effect_of (history_of t) m.entry) d c)) kept.balanced
     ∙ sym (accounts_now-pushed (history_of t) m.entry kept.sound follows after)
 
+-- events have the timestamps of their entries, of which none is past the last one
 last_timestamp_from-events : (h : History) (s : ℕ) (es : List Entry) → s ≤ h.last
     → AllByRecursion (λ e. e.timestamp ≤ h.last) es → last_timestamp_from s (map (event_of h) es) ≤ h.last
 last_timestamp_from-events h s [] before all = before
