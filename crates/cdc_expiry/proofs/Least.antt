@@ -10,7 +10,7 @@ use Rattle.cdc_expiry.specs.Triples.{triple_cmp}
 use Rattle.cdc_expiry.proofs.Lists.{IsLeastOf}
 use Rattle.cdc_expiry.proofs.Order.{triple_cmp_total}
 
--- a triple that is not before m is at or after it
+-- a comparison that doesn't say less says less or equal from the other side
 turned : (there back : Ordering) → back ≡ ordering_reverse there → is_lt there ≡ false → is_le back ≡ true
 turned Less back is later = cc
 turned Equal back is later = ap is_le is

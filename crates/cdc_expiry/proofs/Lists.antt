@@ -54,7 +54,7 @@ set_of-IsPermutation xs ys moved =
 pub set_of-push : (xs : List Triple) (x : Triple) → set_of (xs ++ x ∷ []) ≡ insert (set_of xs) x
 set_of-push xs x = from_list_push triple_cmp_total triple_cmp-IsAntisymmetric xs x
 
--- what is kept of the set is the set of what is kept of the list
+-- two tests hold together in either order
 and_swap : (a b : Bool) → (a && b) ≡ (b && a)
 and_swap true true = refl
 and_swap true false = refl
@@ -75,7 +75,7 @@ retain-set_of p xs =
 pub due_at-set_of : (xs : List Triple) (now : ℕ) → due_at (set_of xs) now ≡ set_of (filter (is_due now) xs)
 due_at-set_of xs now = retain-set_of (is_due now) xs
 
--- where the triples of the list with this timestamp have this end, all of them are taken out
+-- where this timestamp comes with this end alone, a triple that has it has both numbers
 by_timestamp : (x : Triple) (e t : ℕ) → (x.timestamp ≡ t → x.expires_at ≡ e) → has_numbers e t x ≡ (x.timestamp == t)
 by_timestamp x e t ends = grind (arith, nat_tests)
 
@@ -94,7 +94,7 @@ pub without-set_of : (xs : List Triple) (e t : ℕ) → All (λ x. x.timestamp �
 without-set_of xs e t ends =
     retain-set_of (λ x. not (has_numbers e t x)) xs ∙ ap set_of (filter_alike xs e t ends)
 
--- the set has as many triples as the list, and as many that are due, where no two have the same timestamp
+-- a triple whose timestamp no triple of the list has isn't in the set
 not_there : (xs : List Triple) (x : Triple) → All (λ y. y.timestamp ≢ x.timestamp) xs → contains (set_of xs) x ≡ false
 not_there xs x others =
     elim (contains (set_of xs) x) as (λ b. contains (set_of xs) x ≡ b → b ≡ false) [
@@ -166,7 +166,7 @@ pub HasNumbers-set_of : (xs : List Triple) (x : Triple) → Contains xs x
     → HasNumbers (set_of xs) x.expires_at x.timestamp
 HasNumbers-set_of xs x there = (x, contains-set_of xs x there, grind (arith, nat_tests))
 
--- the answer for the set of a list is the answer for the list, and for no other
+-- the answer is the least triple of the list, or None where the list is empty
 abbrev pub IsLeastOf : List Triple → Option Triple → Type 0
 IsLeastOf xs answer = MatchOption answer (xs ≡ []) (λ x. Contains xs x × All (λ y. is_le (triple_cmp x y) ≡ true) xs)
 
@@ -189,7 +189,7 @@ IsLeast-set_of xs (Some x) least = (
   λ y there. All-contains (λ y. is_le (triple_cmp x y) ≡ true) xs y least.1 (Contains-set_of xs y there),
 )
 
--- of two triples each at or before the other, the order doesn't tell
+-- two triples each at or before the other are the same
 neither_later : (x y : Triple) (there back : Ordering) → triple_cmp x y ≡ there → back ≡ ordering_reverse there
     → is_le there ≡ true → is_le back ≡ true → x ≡ y
 neither_later x y Less back is turned le also = cc

@@ -73,7 +73,7 @@ without_first x xs e t has differ =
     retain-set_of (λ y. not (has_numbers e t y)) (x ∷ xs)
     ∙ (λ i. set_of (cond (not (has i)) (x ∷ keeps_all xs e t others i) (keeps_all xs e t others i)))
 
--- the triple at a place is taken out, by which its timestamp is free
+-- when the triple at a place is taken out, the timestamps of the others still differ
 pub TimestampsDiffer-taken : (xs : List Triple) (i : ℕ) (x : Triple) → i < length xs → x ≡ get_or xs i x
     → TimestampsDiffer xs → TimestampsDiffer (swap_remove xs i x)
 TimestampsDiffer-taken xs i x within at differ =

@@ -58,7 +58,7 @@ refuse-append : {R : Type 0} (number : R → ℕ) (accepted : R) (xs ys : List (
     → refuse number accepted xs ≡ true → refuse number accepted ys ≡ true → refuse number accepted (xs ++ ys) ≡ true
 refuse-append number accepted xs ys p q = list_all-append (λ line. not (number line.1 == 0)) xs ys ∙ and_from _ _ p q
 
--- an account that is accepted wasn't there
+-- neither line on an account that is there accepts it
 known_account_refuse : (o : Option Opened) (a : NewAccount)
     → refuse account_number account.Accepted (known_account_lines o a) ≡ true
 known_account_refuse None a = refl
@@ -119,7 +119,7 @@ either_refuse : (b : Bool) (xs ys : List (Bool × TransferResult)) → refuse tr
 either_refuse true xs ys p q = p
 either_refuse false xs ys p q = q
 
--- the three tables of a transfer, of which no line applies
+-- the lines on the accounts of a plain request, or on the pending transfer that a post or a void names
 abbrev pub own_lines : History → NewTransfer → ℕ → List (Bool × TransferResult)
 own_lines h r t =
     if is_plain_request r

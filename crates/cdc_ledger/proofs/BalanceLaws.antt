@@ -149,7 +149,7 @@ same_changed x y z w dr dh dm cr ch cm b p q r s =
     let credits : z ≡ b.credits_pending + ch - cr = omega arith in
     same_balances _ _ _ _ _ _ _ _ debits q credits s
 
--- what each kind brings to its end
+-- a post neither voids nor expires, so it resolves what it posts
 first_alone : (b : Bool) → (b || false || false) ≡ b
 first_alone true = refl
 first_alone false = refl

@@ -186,7 +186,7 @@ pub other_times-around : (h : History) (e : Entry) (among : IsAmong h.entries e)
 other_times-around h e among rising =
     other_times 0 e among.front among.back (subst (RiseFrom 0) among.split rising)
 
--- the entry's transfer has another id and another timestamp than that of the entry e, if it pends
+-- the transfer of the entry y has another id and another timestamp than that of the entry e
 pub record IsOther (e y : Entry) : Type 0 where
   pub id : y.transfer.id ≢ e.transfer.id
   pub time : y.transfer.timestamp ≢ e.transfer.timestamp

@@ -88,7 +88,7 @@ All-Takes t m kept follows after settled =
     (subst (λ g. P g (accounts_now (history_of t))) (sym (effect-movement (history_of t) m settled))
     (takes_each (history_of t) m.entry kept.sound follows after))
 
--- the ids of the accounts are apart
+-- accounts have the ids that they were opened with, whatever their balances
 ids_opened : (xs : List Account) → account_ids xs ≡ map (λ o. o.request.id) (map opened_as xs)
 ids_opened xs = sym (map-map (λ (o : Opened). o.request.id) opened_as xs)
 
