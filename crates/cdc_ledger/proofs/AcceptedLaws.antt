@@ -36,15 +36,18 @@ use Rattle.cdc_ledger.proofs.StoredLaws.{stored_has}
 
 -- each line refuses: its result isn't the acceptance, whose number is 0
 module _ {R : Type 0} (number : R → ℕ) (accepted : R) where
+  -- no line of this table has the acceptance for its result
   abbrev refuse : List (Bool × R) → Bool
   refuse lines = list_all (λ line. not (number line.1 == 0)) lines
 
+  -- one line: it doesn't apply, since its result would be a refusal
   no_line_from : (b : Bool) (r : R) (o : Option R) → not (number r == 0) ≡ true
       → (number (unwrap_or (if b then Some r else o) accepted) == 0) ≡ true
       → ((number (unwrap_or o accepted) == 0) ≡ true → o ≡ None) → (if b then Some r else o) ≡ None
   no_line_from true r o refuses zero rest = absurd (both_ways (number r == 0) (not-true (number r == 0) refuses) zero)
   no_line_from false r o refuses zero rest = rest zero
 
+  -- so a verdict that is the acceptance came of no line
   no_line : (lines : List (Bool × R)) → refuse lines ≡ true
       → (number (unwrap_or (first_line lines) accepted) == 0) ≡ true → first_line lines ≡ None
   no_line [] refuses zero = refl
@@ -223,7 +226,7 @@ record SettlingPasses (named : Option Entry) (h : History) (r : NewTransfer) (t 
   unvoided : some_by h t (λ x. voids x.kind x.transfer pending.transfer) ≡ false
   going_on : is_over h pending.transfer t ≡ false
 
--- a post or a void that no line refuses names a pending transfer that is still open, and has its accounts
+-- a post or a void that no line refuses names a pending transfer that is open, and no other accounts than its own
 settling_passes : (named : Option Entry) (h : History) (r : NewTransfer) (t : ℕ)
     → first_line (settling_lines named h r t) ≡ None → SettlingPasses named h r t
 settling_passes None h r t none =

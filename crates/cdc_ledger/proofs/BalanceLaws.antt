@@ -57,9 +57,11 @@ share_same f g side a s t es agree =
     (λ e at. ap₂ (λ b n. if b && (side e.transfer == a) then n else 0) at.1 at.0) es agree)
 
 module _ (h : History) (a s t : ℕ) (within : IsUpTo s h) (later : s ≤ t) where
+  -- no amount is released by time alone
   held_later : (e : Entry) → held h t e ≡ held h s e
   held_later e = ap (λ b. held_by b e) (resolved_later h e.transfer s t within later)
 
+  -- so the sums of what is held are the same at both moments
   held_agree : (side : Transfer → ℕ)
       → sum_by (share (held h t) side a t) h.entries ≡ sum_by (share (held h s) side a s) h.entries
   held_agree side = share_same (held h t) (held h s) side a s t h.entries
@@ -67,6 +69,7 @@ module _ (h : History) (a s t : ℕ) (within : IsUpTo s h) (later : s ≤ t) whe
       (λ e. (held h t e ≡ held h s e) × (nat_le e.timestamp t ≡ nat_le e.timestamp s))
       (λ e at. (held_later e, seen_alike e s t at later)) h.entries within)
 
+  -- and so are the sums of what was moved
   pub moved_agree : (side : Transfer → ℕ)
       → sum_by (share moved side a t) h.entries ≡ sum_by (share moved side a s) h.entries
   moved_agree side = share_same moved moved side a s t h.entries
@@ -99,10 +102,12 @@ or_none false c q = q
 -- the sums of one side, with one more entry that resolves nothing up to the moment t
 module _ (h : History) (e : Entry) (a t : ℕ)
     (none : (p : Transfer) → (nat_le e.timestamp t && resolves p e) ≡ false) where
+  -- each entry holds what it held, since the new one resolves nothing
   held-pushed : (x : Entry) → held (pushed h e) t x ≡ held h t x
   held-pushed x = ap (λ b. held_by b x)
       (resolved-pushed h e x.transfer t ∙ or_none (resolved h x.transfer t) _ (none x.transfer))
 
+  -- so the pending sum grows by what the new entry holds itself
   share-pushed : (side : Transfer → ℕ)
       → sum_by (share (held (pushed h e) t) side a t) (h.entries ++ e ∷ [])
       ≡ sum_by (share (held h t) side a t) h.entries + share (held h t) side a t e
@@ -222,6 +227,7 @@ resolved_then h e p within after =
 -- nothing resolved a transfer whose id is new
 module _ (h : History) (p : Transfer) (t : ℕ) (standing : AllByRecursion (Stands h) h.entries)
     (fresh : stored h p.id ≡ None) where
+  -- no entry settles a transfer whose id isn't stored yet
   names_other : (x : Entry) (b : Bool) → settles x.kind ≡ b → Stands h x → resolves p x ≡ false
   names_other x false is stands = resolves_is x p ∙ ap (λ b. b && (settled_id x.kind x.transfer == p.id)) is
   names_other x true is stands =
@@ -233,6 +239,7 @@ module _ (h : History) (p : Transfer) (t : ℕ) (standing : AllByRecursion (Stan
       let clash : ◌≡◌ {A = Option Entry} None (Some named.0) = sym none ∙ some in
       cc))
 
+  -- so the transfer begins unresolved
   pub resolved_none : resolved h p t ≡ false
   resolved_none = list_any_none (λ x. nat_le x.timestamp t && resolves p x) h.entries
       (AllByRecursion-weaker (Stands h) (λ x. (nat_le x.timestamp t && resolves p x) ≡ false)
@@ -241,9 +248,11 @@ module _ (h : History) (p : Transfer) (t : ℕ) (standing : AllByRecursion (Stan
 
 -- a sum in which the one entry that stored the transfer of an id no longer counts
 module _ (id : ℕ) (before now : Entry → ℕ) where
+  -- an entry adds what it added before, and that one nothing any more
   abbrev Falls : Entry → Type 0
   Falls y = now y ≡ (if is_stored id y then 0 else before y)
 
+  -- among entries that stored other ids no amount falls out
   none_falls : (ys : List Entry) → AllByRecursion (λ y. is_stored id y ≡ false) ys → AllByRecursion Falls ys
       → sum_by now ys ≡ sum_by before ys
   none_falls ys others falls = sum_by_same now before ys
@@ -251,6 +260,7 @@ module _ (id : ℕ) (before now : Entry → ℕ) where
       (λ y at. at.1 ∙ ap (λ b. if b then 0 else before y) at.0) ys
       (AllByRecursion-both (λ y. is_stored id y ≡ false) Falls ys others falls))
 
+  -- the first entry is that one, and falls out, or it stays and that one comes later
   first_falls : (b : Bool) (y x : Entry) (ys : List Entry) → is_stored id y ≡ b → AreApart (stored_ids (y ∷ ys))
       → Falls y → AllByRecursion Falls ys
       → (stored_in ys id ≡ Some x → sum_by now ys + before x ≡ sum_by before ys)
@@ -272,6 +282,7 @@ module _ (id : ℕ) (before now : Entry → ℕ) where
       let kept : now y ≡ before y = here ∙ ap (λ b. if b then 0 else before y) is in
       omega arith
 
+  -- the sum falls by what that one entry added, which is how a settled transfer leaves a pending sum
   pub one_falls : (ys : List Entry) (x : Entry) → AreApart (stored_ids ys) → stored_in ys id ≡ Some x
       → AllByRecursion Falls ys → sum_by now ys + before x ≡ sum_by before ys
   one_falls [] x apart there falls = cc
@@ -315,9 +326,11 @@ eqb_swap m n = by (m == n) refl
 -- the sums of what is pending on one side of an account, before an entry and right after it
 module _ (h : History) (e : Entry) (a : ℕ) (sound : IsSound h) (follows : Follows h e)
     (after : h.last < e.timestamp) where
+  -- what an entry adds to the pending sum before the new one
   abbrev before : (Transfer → ℕ) → Entry → ℕ
   before side x = share (held h h.last) side a h.last x
 
+  -- and right after it
   abbrev right_after : (Transfer → ℕ) → Entry → ℕ
   right_after side x = share (held (pushed h e) e.timestamp) side a e.timestamp x
 
@@ -336,6 +349,7 @@ module _ (h : History) (e : Entry) (a : ℕ) (sound : IsSound h) (follows : Foll
       settles-holds TwoPhaseVoided is = absurd (false≢true is)
       settles-holds TwoPhaseExpired is = absurd (false≢true is)
 
+  -- it holds back its whole amount, where it is pending
   own_held : (b : Bool) → holds e.kind ≡ b
       → (if holds e.kind && not (resolved (pushed h e) e.transfer e.timestamp) then e.transfer.amount else 0)
       ≡ (if holds e.kind then e.transfer.amount else 0)
@@ -344,10 +358,12 @@ module _ (h : History) (e : Entry) (a : ℕ) (sound : IsSound h) (follows : Foll
   own_held false is = ap (λ b. if b && not (resolved (pushed h e) e.transfer e.timestamp) then e.transfer.amount else 0)
       is ∙ sym (ap (λ b. if b then e.transfer.amount else 0) is)
 
+  -- so its share is what the effect says is held
   own : (side : Transfer → ℕ) → right_after side e ≡ part (side e.transfer) a (effect_of h e).held
   own side = ap₂ (λ b n. if b && (side e.transfer == a) then n else 0) (le-leb e.timestamp e.timestamp (omega arith))
       (own_held (holds e.kind) refl)
 
+  -- the pending sum right after it is that of the old entries and this share
   then_sum : (side : Transfer → ℕ)
       → sum_by (right_after side) (h.entries ++ e ∷ []) ≡ sum_by (right_after side) h.entries + part (side e.transfer) a
       (effect_of h e).held
@@ -388,6 +404,7 @@ module _ (h : History) (e : Entry) (a : ℕ) (sound : IsSound h) (follows : Foll
       ∙ share_falls (nat_le x.timestamp h.last && (side x.transfer == a)) (is_stored (settled_id e.kind e.transfer) x)
       (held h h.last x))
 
+  -- what the settled transfer added before is its whole amount, on its own side
   released_one : (side : Transfer → ℕ) (x : Entry) → stored h (settled_id e.kind e.transfer) ≡ Some x
       → holds x.kind ≡ true → resolved h x.transfer h.last ≡ false
       → before side x ≡ part (side x.transfer) a x.transfer.amount
@@ -397,6 +414,7 @@ module _ (h : History) (e : Entry) (a : ℕ) (sound : IsSound h) (follows : Foll
       (stored_has (λ y. y.timestamp ≤ h.last) h (settled_id e.kind e.transfer) x sound.past named))
       (ap₂ (λ b c. if b && not c then x.transfer.amount else 0) is unsettled)
 
+  -- so the sum of the old entries falls by what the effect says is released
   pub settled_sum : (side : Transfer → ℕ) → settles e.kind ≡ true → (x : Entry) → Settles h e x
       → resolved h x.transfer h.last ≡ false → side e.transfer ≡ side x.transfer
       → sum_by (right_after side) h.entries + part (side e.transfer) a (effect_of h e).released
@@ -410,6 +428,7 @@ module _ (h : History) (e : Entry) (a : ℕ) (sound : IsSound h) (follows : Foll
       (AllByRecursion-weaker (λ y. y.timestamp ≤ h.last)
       (Falls (settled_id e.kind e.transfer) (before side) (right_after side)) (falls_one is side) h.entries sound.past)
 
+  -- where nothing is released, nothing leaves the sums of an account, named or not
   nothing : (b : Bool) → ◌≡◌ {A = ℕ} (if b then 0 else 0) 0
   nothing true = refl
   nothing false = refl
@@ -420,6 +439,7 @@ module _ (h : History) (e : Entry) (a : ℕ) (sound : IsSound h) (follows : Foll
       (sum_by (right_after side) h.entries + part (side e.transfer) a (effect_of h e).released
       ≡ sum_by (before side) h.entries)
 
+  -- on both sides, whether the entry settles a transfer or not
   taken_out : (b : Bool) → settles e.kind ≡ b → Fits debit_side × Fits credit_side
   taken_out true is =
       let of : SettlesOpen h e = follows.settling is in (
@@ -437,6 +457,7 @@ module _ (h : History) (e : Entry) (a : ℕ) (sound : IsSound h) (follows : Foll
           let same : sum_by (right_after side) h.entries ≡ sum_by (before side) h.entries = unchanged is side in
           omega arith
 
+  -- the pending sum grows by what is held, and falls by what is released
   pub pending_then : (side : Transfer → ℕ) → Fits side
       → sum_by (right_after side) (h.entries ++ e ∷ []) + part (side e.transfer) a (effect_of h e).released
       ≡ sum_by (before side) h.entries + part (side e.transfer) a (effect_of h e).held
@@ -445,6 +466,7 @@ module _ (h : History) (e : Entry) (a : ℕ) (sound : IsSound h) (follows : Foll
       (side e.transfer) a (effect_of h e).held = then_sum side in
       omega arith
 
+  -- the posted sum grows by what is moved
   moved_then : (side : Transfer → ℕ)
       → sum_by (share moved side a e.timestamp) (h.entries ++ e ∷ [])
       ≡ sum_by (share moved side a h.last) h.entries + part (side e.transfer) a (effect_of h e).moved
@@ -487,10 +509,12 @@ released_credit h e sound follows after =
 
 -- an account that isn't opened is named by no entry
 module _ (h : History) (a t : ℕ) (known : AllByRecursion (HasAccounts h) h.entries) (free : opened h a ≡ None) where
+  -- no entry names the account, since the accounts of entries were opened
   other : (id : ℕ) → IsSome (opened h id) → (id == a) ≡ false
   other id some =
       ne_eqb id a (λ same. false≢true (sym (ap is_some free) ∙ (sym (ap (λ n. is_some (opened h n)) same) ∙ some)))
 
+  -- so nothing is held or moved on either side of it
   none_of : (f : Entry → ℕ) (side : Transfer → ℕ)
       → ((e : Entry) → HasAccounts h e → IsSome (opened h (side e.transfer))) → sum_by (share f side a t) h.entries ≡ 0
   none_of f side there = sum_by_zero (share f side a t) h.entries
@@ -499,6 +523,7 @@ module _ (h : History) (a t : ℕ) (known : AllByRecursion (HasAccounts h) h.ent
       (and_right (nat_le e.timestamp t) (side e.transfer == a) (other (side e.transfer) (there e has)))) h.entries
       known)
 
+  -- a new account begins without any amount
   pub balances_none : balances h a t ≡ no_balances
   balances_none = same_balances _ _ _ _ _ _ _ _ (none_of (held h t) debit_side (λ e has. has.0))
       (none_of moved debit_side (λ e has. has.0))

@@ -34,6 +34,7 @@ pub record TransfersGoOn (offered : Features) (h : History) (t : ℕ) (all : Lis
   pub after : (transfers_from offered now (t + i) (drop i all)).1 ≡ (transfers_from offered h t all).1
 
 module _ (offered : Features) where
+  -- the last request for an account is judged by what all before it left
   after_accounts : (h : History) (t : ℕ) (rs : List NewAccount) (r : NewAccount)
       → accounts_from offered h t (rs ++ r ∷ []) ≡ account_answered offered (t + length rs) r
       (accounts_from offered h t rs).0 (accounts_from offered h t rs).1
@@ -63,12 +64,14 @@ module _ (offered : Features) (h : History) (t : ℕ) where
       ∙ (accounts_from_push (take i all) (get_or all i d) done now so_far
       ∙ ap (λ n. account_answered offered (t + n) (get_or all i d) done now) (length-take-le i all (omega arith)))
 
+  -- before the first request all of them are left
   pub AccountsGoOn_none : (all : List NewAccount) → AccountsGoOn offered h t all 0 [] h
   AccountsGoOn_none all = record {
     answers = ap (λ n. (accounts_from offered h n all).0) (add-zero t);
     after = ap (λ n. (accounts_from offered h n all).1) (add-zero t);
   }
 
+  -- one more request is judged, which is a turn of the loop
   pub AccountsGoOn_more : (all : List NewAccount) (i : ℕ) (d : NewAccount) (done : List AccountResult) (now : History)
       → i < length all
       → AccountsGoOn offered h t all i done now
@@ -90,6 +93,7 @@ module _ (offered : Features) (h : History) (t : ℕ) where
         after = ap (λ n. (rest n).1) moment ∙ (sym (ap (λ (q : List AccountResult × History). q.1) cut) ∙ goes.after);
       }
 
+  -- when none is left, the answers are those of the whole batch
   pub AccountsGoOn_all : (all : List NewAccount) (i : ℕ) (done : List AccountResult) (now : History) → length all ≤ i
       → AccountsGoOn offered h t all i done now → accounts_from offered h t all ≡ (done, now)
   AccountsGoOn_all all i done now past goes =
@@ -100,6 +104,7 @@ module _ (offered : Features) (h : History) (t : ℕ) where
       (sym goes.after ∙ ap (λ (q : List AccountResult × History). q.1) cut)
 
 module _ (offered : Features) where
+  -- the last request for a transfer is judged by what all before it left
   after_transfers : (h : History) (t : ℕ) (rs : List NewTransfer) (r : NewTransfer)
       → transfers_from offered h t (rs ++ r ∷ []) ≡ transfer_answered offered (t + length rs) r
       (transfers_from offered h t rs).0 (transfers_from offered h t rs).1
@@ -129,12 +134,14 @@ module _ (offered : Features) (h : History) (t : ℕ) where
       ∙ (transfers_from_push (take i all) (get_or all i d) done now so_far
       ∙ ap (λ n. transfer_answered offered (t + n) (get_or all i d) done now) (length-take-le i all (omega arith)))
 
+  -- before the first request all of them are left
   pub TransfersGoOn_none : (all : List NewTransfer) → TransfersGoOn offered h t all 0 [] h
   TransfersGoOn_none all = record {
     answers = ap (λ n. (transfers_from offered h n all).0) (add-zero t);
     after = ap (λ n. (transfers_from offered h n all).1) (add-zero t);
   }
 
+  -- one more request is judged, which is a turn of the loop
   pub TransfersGoOn_more : (all : List NewTransfer) (i : ℕ) (d : NewTransfer) (done : List TransferResult)
       (now : History) → i < length all
       → TransfersGoOn offered h t all i done now
@@ -156,6 +163,7 @@ module _ (offered : Features) (h : History) (t : ℕ) where
         after = ap (λ n. (rest n).1) moment ∙ (sym (ap (λ (q : List TransferResult × History). q.1) cut) ∙ goes.after);
       }
 
+  -- when none is left, the answers are those of the whole batch
   pub TransfersGoOn_all : (all : List NewTransfer) (i : ℕ) (done : List TransferResult) (now : History) → length all ≤ i
       → TransfersGoOn offered h t all i done now → transfers_from offered h t all ≡ (done, now)
   TransfersGoOn_all all i done now past goes =

@@ -103,6 +103,7 @@ module _ (h : History) (now : ℕ) (e : Entry) (among : IsAmong h.entries e) whe
   abbrev pub others : List Transfer
   others = in_order_of_end (passing (is_due h now) among.front ++ passing (is_due h now) among.back)
 
+  -- so a pulse begins with the transfer that ends first
   pub due-first : is_due h now e ≡ true
       → Around (λ y. is_due h now y ≡ true → is_sooner e.transfer y.transfer ≡ true) among.front among.back
       → due h now ≡ e.transfer ∷ others
@@ -117,22 +118,27 @@ module _ (h : History) (now : ℕ) (e : Entry) (among : IsAmong h.entries e) whe
 
   -- once it expired the others are due
   module _ (sound : IsSound h) (held : holds e.kind ≡ true) (t : ℕ) (after : h.last < t) where
+    -- the history in which it has expired
     abbrev later : History
     later = pushed h (expiry e.transfer t)
 
+    -- whether an entry is due, by whether it is resolved
     abbrev due_by : Bool → Entry → Bool
     due_by done y = holds y.kind && not (y.transfer.timeout == 0) && nat_le (expires_at y.transfer) now && not done
 
+    -- in that history an entry is resolved if it was before or is the one that expired
     is_due-then : (y : Entry)
         → is_due later now y ≡ due_by (resolved h y.transfer h.last || (e.transfer.id == y.transfer.id)) y
     is_due-then y = ap (λ b. due_by b y) (resolved_then h (expiry e.transfer t) y.transfer sound.past after)
 
+    -- an expiry of another transfer makes no difference
     unchanged : (held timed ended done now : Bool) → (held ≡ true → now ≡ false)
         → (held && timed && ended && not (done || now)) ≡ (held && timed && ended && not done)
     unchanged true timed ended true now same = refl
     unchanged true timed ended false now same = ap (λ b. timed && ended && not b) (same refl)
     unchanged false timed ended done now same = refl
 
+    -- an entry that stored another id is due as before
     still : (y : Entry) → (stores y.kind ≡ true → IsOther e y) → is_due later now y ≡ is_due h now y
     still y other =
         is_due-then y
@@ -140,10 +146,12 @@ module _ (h : History) (now : ℕ) (e : Entry) (among : IsAmong h.entries e) whe
         (resolved h y.transfer h.last) (e.transfer.id == y.transfer.id)
         (λ is. ne_eqb e.transfer.id y.transfer.id (λ same. (other (stores-holds y.kind is)).id (sym same)))
 
+    -- so all others are
     all_still : Around (λ y. is_due later now y ≡ is_due h now y) among.front among.back
     all_still = Around-weaker (λ y. stores y.kind ≡ true → IsOther e y) (λ y. is_due later now y ≡ is_due h now y) still
         among.front among.back (IsOther-around h e among sound (stores-holds e.kind held))
 
+    -- what is resolved isn't due
     over : (held timed ended done now : Bool) → now ≡ true → (held && timed && ended && not (done || now)) ≡ false
     over true true true true now is = refl
     over true true true false now is = ap not is
@@ -151,6 +159,7 @@ module _ (h : History) (now : ℕ) (e : Entry) (among : IsAmong h.entries e) whe
     over true false ended done now is = refl
     over false timed ended done now is = refl
 
+    -- the one that expired isn't due any more
     itself_over : is_due later now e ≡ false
     itself_over =
         is_due-then e
@@ -158,6 +167,7 @@ module _ (h : History) (now : ℕ) (e : Entry) (among : IsAmong h.entries e) whe
         (resolved h e.transfer h.last) (e.transfer.id == e.transfer.id)
         (eq-eqb e.transfer.id e.transfer.id refl)
 
+    -- so what is due after the expiry are the others, in the same order
     pub due-rest : due (pushed h (expiry e.transfer t)) now ≡ others
     due-rest =
         ap in_order_of_end

@@ -23,12 +23,14 @@ either P false xs ys here there = there
 
 -- what holds of each stays so in the order
 module _ (P : Transfer → Type 0) where
+  -- a transfer put in its place is like those that it stands among
   pub All-placed : (p : Transfer) (qs : List Transfer) → P p → AllByRecursion P qs → AllByRecursion P (placed p qs)
   All-placed p [] here all = (here, tt)
   All-placed p (q ∷ qs) here all =
       either (AllByRecursion P) (is_sooner q p) (q ∷ placed p qs) (p ∷ q ∷ qs)
       (all.0, All-placed p qs here all.1) (here, all)
 
+  -- so what holds of all transfers holds of them in order
   pub All-in_order : (ps : List Transfer) → AllByRecursion P ps → AllByRecursion P (in_order_of_end ps)
   All-in_order [] all = tt
   All-in_order (p ∷ ps) all = All-placed p (in_order_of_end ps) all.0 (All-in_order ps all.1)

@@ -5,46 +5,56 @@ use Rattle.std.specs.List.{AllByRecursion, list_any}
 use Rattle.std.proofs.lemmas.List.Sums.{sum_by-cons}
 
 module _ {X : Type 0} where
+  -- where a fact holds of each element, so does what follows from it
   pub AllByRecursion-weaker : (P Q : X → Type 0) → ((x : X) → P x → Q x) → (xs : List X) → AllByRecursion P xs
       → AllByRecursion Q xs
   AllByRecursion-weaker P Q f [] h = tt
   AllByRecursion-weaker P Q f (x ∷ xs) h = (f x h.0, AllByRecursion-weaker P Q f xs h.1)
 
+  -- what holds of anything holds of each element
   pub AllByRecursion-every : (P : X → Type 0) → ((x : X) → P x) → (xs : List X) → AllByRecursion P xs
   AllByRecursion-every P f [] = tt
   AllByRecursion-every P f (x ∷ xs) = (f x, AllByRecursion-every P f xs)
 
+  -- what holds of each entry of a history holds with one more entry of which it holds too
   pub AllByRecursion_push : (P : X → Type 0) (xs : List X) (x : X) → AllByRecursion P xs → P x
       → AllByRecursion P (xs ++ x ∷ [])
   AllByRecursion_push P [] x h here = (here, tt)
   AllByRecursion_push P (y ∷ ys) x h here = (h.0, AllByRecursion_push P ys x h.1 here)
 
+  -- two facts of each element at once
   pub AllByRecursion-both : (P Q : X → Type 0) (xs : List X) → AllByRecursion P xs → AllByRecursion Q xs
       → AllByRecursion (λ x. P x × Q x) xs
   AllByRecursion-both P Q [] h k = tt
   AllByRecursion-both P Q (x ∷ xs) h k = ((h.0, k.0), AllByRecursion-both P Q xs h.1 k.1)
 
+  -- sums over entries are equal where each entry adds the same to both
   pub sum_by_same : (f g : X → ℕ) (xs : List X) → AllByRecursion (λ x. f x ≡ g x) xs → sum_by f xs ≡ sum_by g xs
   sum_by_same f g [] h = refl
   sum_by_same f g (x ∷ xs) h = sum_by-cons f x xs
       ∙ (ap₂ (λ a b. a + b) h.0 (sum_by_same f g xs h.1) ∙ sym (sum_by-cons g x xs))
 
+  -- so they are where both add the same for anything
   pub sum_by_every : (f g : X → ℕ) → ((x : X) → f x ≡ g x) → (xs : List X) → sum_by f xs ≡ sum_by g xs
   sum_by_every f g h xs = sum_by_same f g xs (AllByRecursion-every (λ x. f x ≡ g x) h xs)
 
+  -- nothing comes of entries that add nothing
   pub sum_by_zero : (f : X → ℕ) (xs : List X) → AllByRecursion (λ x. f x ≡ 0) xs → sum_by f xs ≡ 0
   sum_by_zero f [] h = refl
   sum_by_zero f (x ∷ xs) h = sum_by-cons f x xs ∙ ap₂ (λ a b. a + b) h.0 (sum_by_zero f xs h.1)
 
+  -- tests that agree on each entry find one or find none alike
   pub list_any_same : (p q : X → Bool) (xs : List X) → AllByRecursion (λ x. p x ≡ q x) xs
       → list_any p xs ≡ list_any q xs
   list_any_same p q [] h = refl
   list_any_same p q (x ∷ xs) h = ap₂ (λ a b. a || b) h.0 (list_any_same p q xs h.1)
 
+  -- no entry passes where each one fails
   pub list_any_none : (p : X → Bool) (xs : List X) → AllByRecursion (λ x. p x ≡ false) xs → list_any p xs ≡ false
   list_any_none p [] h = refl
   list_any_none p (x ∷ xs) h = ap₂ (λ a b. a || b) h.0 (list_any_none p xs h.1)
 
+  -- what is shown of each account, or told of each entry, is shown of the list
   pub map_same : {Y : Type 0} (f g : X → Y) (xs : List X) → AllByRecursion (λ x. f x ≡ g x) xs → map f xs ≡ map g xs
   map_same f g [] h = refl
   map_same f g (x ∷ xs) h = ap₂ (λ a b. a ∷ b) h.0 (map_same f g xs h.1)

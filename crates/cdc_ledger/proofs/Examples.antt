@@ -242,7 +242,7 @@ limited =
     batch.Transfers 5 (transfer 5 2 1 1 ∷ []) ∷
     []
 
--- 101 is too much after credits of 100, 100 isn't, and after those nor may 1 more be debited
+-- after credits of 100 a debit of 101 is refused and one of 100 accepted, and then not even 1 more
 limited-answers : answers empty_history limited ≡
     two_opened ∷
     given (result.Accepted ∷ result.ExceedsCredits ∷ result.Accepted ∷ result.ExceedsCredits ∷ []) ∷
@@ -348,7 +348,7 @@ at_the_end =
     batch.Accounts 5 (account 2 0 ∷ []) ∷
     []
 
--- for two accounts there is one timestamp too few, for one it suffices, and then there is none left
+-- for two accounts there is one timestamp too few, for one there is just enough, and then none is left
 at_the_end-answers : answers empty_history at_the_end ≡
     refused TimestampsExhausted ∷
     one_opened ∷

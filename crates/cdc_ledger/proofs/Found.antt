@@ -8,11 +8,13 @@ use Rattle.cdc_ledger.specs.History.{History, opened}
 use Rattle.cdc_ledger.specs.Tables.{IsKept, history_of}
 
 module _ {A B : Type 0} (p : B → Bool) (f : A → B) where
+  -- the first element passes and is found, or the search goes on, before the change as after it
   found : (b : Bool) (x : A) (o : Option A) (q : Option B) → q ≡ option_map f o
       → cond b (Some (f x)) q ≡ option_map f (cond b (Some x) o)
   found true x o q e = refl
   found false x o q e = e
 
+  -- so an account is found under its id, whether balances are shown with it or not
   pub find-map : (xs : List A) → find p (map f xs) ≡ option_map f (find (λ x. p (f x)) xs)
   find-map [] = refl
   find-map (x ∷ xs) = found (p (f x)) x (find (λ y. p (f y)) xs) (find p (map f xs)) (find-map xs)

@@ -43,12 +43,14 @@ settles-settled_by h e follows none = by_settling (settles e.kind) refl
 -- a single-phase or a pending one: it has a triple where it has a timeout
 module _ (h : History) (e : Entry) (sound : IsSound h) (follows : Follows h e) (after : h.last < e.timestamp)
     (none : settled_by h e ≡ None) where
+  -- one with a timeout is added to the index, at the place that its entry will have
   pub index_of-pending : opens e ≡ true
       → index_of (pushed h e) ≡ set.insert (index_of h) (triple_at (length h.entries) e)
   index_of-pending is =
       ap set.from_list (open_triples-pending h e sound follows after (settles-settled_by h e follows none) is)
       ∙ set_of-push (open_triples h) (triple_at (length h.entries) e)
 
+  -- one without, or a single-phase one, leaves the index as it is
   pub index_of-unpending : opens e ≡ false → index_of (pushed h e) ≡ index_of h
   index_of-unpending isnt = ap set.from_list (open_triples-other h e sound follows after
       (settles-settled_by h e follows none) isnt)

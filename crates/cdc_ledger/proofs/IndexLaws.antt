@@ -61,9 +61,11 @@ new_open false timed done fresh = refl
 
 module _ (h : History) (e : Entry) (sound : IsSound h) (follows : Follows h e) (after : h.last < e.timestamp)
     (unsettling : settles e.kind ≡ false) where
+  -- an entry that settles nothing brings no transfer to its end
   ends_none : (y : Entry) → ends e y ≡ false
   ends_none y = ap (λ b. b && (settled_id e.kind e.transfer == y.transfer.id)) unsettling
 
+  -- so the old entries keep their triples
   old_alike : (es : List Entry) → AllByRecursion (λ y. is_open (pushed h e) y ≡ is_open h y) es
   old_alike [] = tt
   old_alike (y ∷ es) = (
@@ -72,6 +74,7 @@ module _ (h : History) (e : Entry) (sound : IsSound h) (follows : Follows h e) (
     old_alike es,
   )
 
+  -- the new one has a triple where it is pending and has a timeout
   own : is_open (pushed h e) e ≡ opens e
   own = is_open-then h e e sound after
       ∙ new_open (holds e.kind) (not (e.transfer.timeout == 0)) (resolved h e.transfer h.last || ends e e)
@@ -87,11 +90,13 @@ module _ (h : History) (e : Entry) (sound : IsSound h) (follows : Follows h e) (
       (triples_from-same (is_open (pushed h e)) (is_open h) 0 h.entries (old_alike h.entries)) own
       ∙ ap (λ n. open_triples h ++ (if opens e then triple_at n e ∷ [] else [])) (omega arith)
 
+  -- so `add` of this triple keeps the index right
   pub open_triples-pending : opens e ≡ true
       → open_triples (pushed h e) ≡ open_triples h ++ triple_at (length h.entries) e ∷ []
   open_triples-pending is = open_triples-unsettling
       ∙ ap (λ b. open_triples h ++ (if b then triple_at (length h.entries) e ∷ [] else [])) is
 
+  -- and otherwise the index is right as it is
   pub open_triples-other : opens e ≡ false → open_triples (pushed h e) ≡ open_triples h
   open_triples-other isnt =
       open_triples-unsettling ∙ (ap (λ b. open_triples h ++ (if b then triple_at (length h.entries) e ∷ [] else []))
@@ -115,12 +120,14 @@ module _ (h : History) (e x : Entry) (sound : IsSound h) (after : h.last < e.tim
   abbrev IsNamed : Entry → Type 0
   IsNamed y = holds y.kind ≡ true → ends e y ≡ (y.transfer.timestamp == x.transfer.timestamp)
 
+  -- the settled transfer is named both ways
   itself : IsNamed x
   itself held =
       and_from (settles e.kind) (settled_id e.kind e.transfer == x.transfer.id) is
       (eq-eqb (settled_id e.kind e.transfer) x.transfer.id (sym it.same_id))
       ∙ sym (eq-eqb x.transfer.timestamp x.transfer.timestamp refl)
 
+  -- and no other pending one is, either way
   another : (y : Entry) → (stores y.kind ≡ true → IsOther x y) → IsNamed y
   another y other held =
       let apart = other (stores-holds y.kind held) in
@@ -128,11 +135,13 @@ module _ (h : History) (e x : Entry) (sound : IsSound h) (after : h.last < e.tim
       (ne_eqb (settled_id e.kind e.transfer) y.transfer.id (λ same. apart.id (sym same ∙ sym it.same_id)))
       ∙ sym (ne_eqb y.transfer.timestamp x.transfer.timestamp apart.time)
 
+  -- so it is with every entry of the history
   named : AllByRecursion IsNamed h.entries
   named = All-from_around IsNamed h.entries x it.among itself
       (Around-weaker (λ y. stores y.kind ≡ true → IsOther x y) IsNamed another it.among.front it.among.back
       (IsOther-around h x it.among sound it.stores))
 
+  -- so an entry keeps its triple unless it has that timestamp
   remains : (es : List Entry) → AllByRecursion IsNamed es
       → AllByRecursion (λ y. is_open (pushed h e) y ≡
       (is_open h y && not (y.transfer.timestamp == x.transfer.timestamp))) es
@@ -144,6 +153,7 @@ module _ (h : History) (e x : Entry) (sound : IsSound h) (after : h.last < e.tim
     remains es all.1,
   )
 
+  -- the entry that settles has no triple itself
   not_own : is_open (pushed h e) e ≡ false
   not_own = ap (λ b. b && not (e.transfer.timeout == 0) && not (resolved (pushed h e) e.transfer e.timestamp))
       (holds-settles e.kind is)

@@ -52,9 +52,11 @@ unresolved h e = third (holds e.kind) (not (e.transfer.timeout == 0)) (resolved 
     third false b c all = cc
 
 module _ (h : History) (t : Triple) (sound : IsSound h) (of : IsOf (is_open h) 0 h.entries t) where
+  -- the slot is the number of entries before the triple's own
   place : t.slot ≡ length of.front
   place = ap (λ (u : Triple). u.slot) of.made ∙ omega arith
 
+  -- so the slot leads to that entry, which is still open
   IsOpenAt-of : IsOpenAt h t
   IsOpenAt-of = record {
     entry = of.entry;
@@ -90,15 +92,19 @@ sooner_numbers a b s t m n le apart = grind (arith, nat_tests)
 -- the first in the order of triples is the soonest of those that are due
 module _ (h : History) (now : ℕ) (t : Triple) (sound : IsSound h) (of : IsOf (is_ready h now) 0 h.entries t)
     (least : AllByRecursion (λ u. is_le (triple_cmp t u) ≡ true) (ready_triples h now)) where
+  -- the entry of the least triple among the others
   abbrev among : IsAmong h.entries of.entry
   among = record { front = of.front; back = of.back; split = of.split }
 
+  -- it is open still
   is : is_open h of.entry ≡ true
   is = (and_parts (is_open h of.entry) (nat_le (expires_at of.entry.transfer) now) of.passes).0
 
+  -- it ends sooner than this entry, or was made before it
   abbrev IsSooner : Entry → Type 0
   IsSooner y = y.transfer.timestamp ≢ of.entry.transfer.timestamp → is_sooner of.entry.transfer y.transfer ≡ true
 
+  -- than every other one whose end has come
   sooner : AllByRecursion (λ y. is_ready h now y ≡ true → IsSooner y) h.entries
   sooner =
       All-triples_from (λ u. is_le (triple_cmp t u) ≡ true) IsSooner
@@ -106,9 +112,11 @@ module _ (h : History) (now : ℕ) (t : Triple) (sound : IsSound h) (of : IsOf (
       y.transfer.timestamp (0 + length of.front) n
       (subst (λ u. is_le (triple_cmp u (triple_at n y)) ≡ true) of.made le)) (is_ready h now) 0 h.entries least
 
+  -- it stored its transfer, so no other entry has its id or its timestamp
   stores_it : stores of.entry.kind ≡ true
   stores_it = stores-holds of.entry.kind (holds-open h of.entry is)
 
+  -- so it is due before all others that are due
   others_later : Around (λ y. is_due h now y ≡ true → is_sooner of.entry.transfer y.transfer ≡ true) of.front of.back
   others_later =
       Around-weaker (λ y. (is_ready h now y ≡ true → IsSooner y) × (stores y.kind ≡ true → IsOther of.entry y))
@@ -133,6 +141,7 @@ module _ (h : History) (now : ℕ) (t : Triple) (sound : IsSound h) (of : IsOf (
     made = of.made;
   })
 
+  -- the pulse's next expiry is this one, and after it the others are due as they were
   due-found : (moment : ℕ) → h.last < moment
       → due h now ≡ found.entry.transfer ∷ due (pushed h (expiry found.entry.transfer moment)) now
   unfolding IsOpenAt-of

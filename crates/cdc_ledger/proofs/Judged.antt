@@ -42,11 +42,13 @@ use Rattle.cdc_ledger.proofs.Places.{place-find, position_in}
 -- the lines on a request's own fields and on a known id don't apply: its own lines decide
 module _ (h : History) (r : NewTransfer) (t : ℕ) (shape : transfer_refusal features r ≡ None)
     (unknown : first_line (known_transfer_lines (stored h r.id) h r) ≡ None) where
+  -- the lines that are left, by what the request asks for
   own_lines : Bool → List (Bool × TransferResult)
   own_lines plain =
       if plain then plain_lines (opened h r.debit_account_id) (opened h r.credit_account_id) h r t
       else settling_lines (stored h r.pending_id) h r t
 
+  -- so the verdict is that of these lines
   decides : (plain : Bool) → is_plain_request r ≡ plain
       → first_line (transfer_lines features h r t) ≡ first_line (own_lines plain)
   unfolding own_lines
@@ -56,12 +58,14 @@ module _ (h : History) (r : NewTransfer) (t : ℕ) (shape : transfer_refusal fea
       ∙ unknown)
       ∙ ap (λ b. first_line (own_lines b)) is
 
+  -- of a plain request those on its accounts
   pub first_line-plain : is_plain_request r ≡ true
       → first_line (transfer_lines features h r t)
       ≡ first_line (plain_lines (opened h r.debit_account_id) (opened h r.credit_account_id) h r t)
   unfolding own_lines
   first_line-plain is = decides true is
 
+  -- of a post or a void those on the transfer that it names
   first_line-settling : is_plain_request r ≡ false
       → first_line (transfer_lines features h r t) ≡ first_line (settling_lines (stored h r.pending_id) h r t)
   unfolding own_lines
@@ -178,9 +182,11 @@ some_by-all h t test within =
 module _ (h : History) (r : NewTransfer) (t : ℕ) (x : Entry) (shape : transfer_refusal features r ≡ None)
     (unknown : first_line (known_transfer_lines (stored h r.id) h r) ≡ None) (settles : is_plain_request r ≡ false)
     (there : stored h r.pending_id ≡ Some x) (past : IsUpTo h.last h) (later : h.last ≤ t) where
+  -- no entry is past the moment of the request
   within : IsUpTo t h
   within = AllByRecursion-weaker (λ e. e.timestamp ≤ h.last) (λ e. e.timestamp ≤ t) (λ e at. omega arith) h.entries past
 
+  -- so what was posted, voided or expired may be asked of all entries
   by_parts : first_line (settling_lines (stored h r.pending_id) h r t)
       ≡ first_line (field_lines x r ++ end_lines h.entries x.transfer t)
   by_parts =
@@ -191,12 +197,14 @@ module _ (h : History) (r : NewTransfer) (t : ℕ) (x : Entry) (shape : transfer
       let expired = some_by-all h t (λ e. expires e.kind e.transfer p) within in
       rw (posted, voided, expired) refl)
 
+  -- a fault of its fields refuses it
   pub first_line-field : (refusal : TransferResult) → first_line (field_lines x r) ≡ Some refusal
       → first_line (transfer_lines features h r t) ≡ Some refusal
   first_line-field refusal is =
       first_line-settling h r t shape unknown settles
       ∙ by_parts ∙ first_line-append_some (field_lines x r) (end_lines h.entries x.transfer t) refusal is
 
+  -- where its fields are right, the end of the pending transfer decides
   pub first_line-end : first_line (field_lines x r) ≡ None
       → first_line (transfer_lines features h r t) ≡ first_line (end_lines h.entries x.transfer t)
   first_line-end none =

@@ -55,7 +55,7 @@ Extends-submit g h k b r fits from e =
       made = sym (after_batches_push features h from.batches b ∙ ap (history_or before) taken_now);
     }
 
--- so does a close, and a second one is none
+-- so does a close, and a second one changes nothing
 pub Extends-closed : (g h : History) → Extends g h → Extends (record g { closed = true }) h
 Extends-closed g h from = record {
   batches = from.batches;

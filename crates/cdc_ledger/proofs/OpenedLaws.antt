@@ -78,7 +78,7 @@ HasAccounts-with_account h o e has = (
 
 -- ids that don't occur twice
 
--- one more number, unlike all before it
+-- ids stay apart with one more that is unlike all before it
 pub AreApart_push : (ns : List ℕ) (n : ℕ) → AreApart ns → AllByRecursion (λ m. m ≢ n) ns → AreApart (ns ++ n ∷ [])
 AreApart_push [] n apart new = (tt, tt)
 AreApart_push (m ∷ ns) n apart new =

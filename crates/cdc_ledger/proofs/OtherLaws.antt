@@ -25,6 +25,7 @@ pub record HasSidesOf (e x : Entry) : Type 0 where
 
 -- so it is for each two entries of a history
 module _ (h : History) (sound : IsSound h) where
+  -- the entry that is settled is the one stored under the id that is named
   settled_entry : (e x y : Entry) → Settles h e y → stored h x.transfer.id ≡ Some x
       → (settled_id e.kind e.transfer == x.transfer.id) ≡ true → y ≡ x
   settled_entry e x y of found same =
@@ -33,6 +34,7 @@ module _ (h : History) (sound : IsSound h) where
       let both : ◌≡◌ {A = Option Entry} (Some y) (Some x) = sym of.named ∙ (ap (stored h) ids ∙ found) in
       cc
 
+  -- so an entry that settles a pending transfer has that transfer's accounts
   one_entry : (e x : Entry) → Stands h e → (stores x.kind ≡ true → stored h x.transfer.id ≡ Some x) → HasSidesOf e x
   one_entry e x stands found = record {
     debit = λ holding is. (settled holding is).0;
@@ -53,6 +55,7 @@ module _ (h : History) (sound : IsSound h) where
                 ∙ ap (λ (y : Entry). y.transfer.credit_account_id) same,
           )
 
+  -- of every two entries of a sound history
   pub sides_of_all : AllByRecursion (λ e. AllByRecursion (HasSidesOf e) h.entries) h.entries
   sides_of_all = AllByRecursion-weaker (Stands h) (λ e. AllByRecursion (HasSidesOf e) h.entries)
       (λ e stands. AllByRecursion-weaker (λ x. stores x.kind ≡ true → stored h x.transfer.id ≡ Some x) (HasSidesOf e)
@@ -60,9 +63,11 @@ module _ (h : History) (sound : IsSound h) where
       h.entries sound.standing
 
 module _ (h : History) (e : Entry) (a : ℕ) (within : IsUpTo h.last h) (after : h.last < e.timestamp) where
+  -- what an entry adds to the pending sum before the new one
   abbrev before : (Transfer → ℕ) → Entry → ℕ
   before side x = share (held h h.last) side a h.last x
 
+  -- and right after it
   abbrev right_after : (Transfer → ℕ) → Entry → ℕ
   right_after side x = share (held (pushed h e) e.timestamp) side a e.timestamp x
 
@@ -79,6 +84,7 @@ module _ (h : History) (e : Entry) (a : ℕ) (within : IsUpTo h.last h) (after :
       or_no true = refl
       or_no false = refl
 
+  -- an entry that holds nothing, or that this one doesn't settle, holds as much as before
   held_either : (x : Entry) (holding done : Bool) → holds x.kind ≡ holding → resolves x.transfer e ≡ done
       → (holding ≡ true → done ≡ true → false ≡ true) → held (pushed h e) e.timestamp x ≡ held h h.last x
   held_either x holding false is settled never = kept x settled
@@ -101,6 +107,7 @@ module _ (h : History) (e : Entry) (a : ℕ) (within : IsUpTo h.last h) (after :
       (held_either x (holds x.kind) (resolves x.transfer e) refl refl
       (λ holding settled. absurd (other (sides holding settled ∙ eqb-true (side x.transfer) a is))))
 
+  -- so the pending sum of an account on a side that the entry doesn't name stays
   all_shares : (side : Transfer → ℕ) → side e.transfer ≢ a
       → AllByRecursion (λ x. holds x.kind ≡ true → resolves x.transfer e ≡ true → side e.transfer ≡ side x.transfer)
       h.entries
@@ -119,6 +126,7 @@ module _ (h : History) (e : Entry) (a : ℕ) (within : IsUpTo h.last h) (after :
       (and_right (nat_le e.timestamp e.timestamp) (side e.transfer == a) (ne_eqb (side e.transfer) a other)))
       ∙ add-zero (sum_by (before side) h.entries))
 
+  -- and so does the posted one
   all_moved : (side : Transfer → ℕ) → side e.transfer ≢ a
       → sum_by (share moved side a e.timestamp) (h.entries ++ e ∷ []) ≡ sum_by (share moved side a h.last) h.entries
   all_moved side other =

@@ -32,12 +32,15 @@ position_in xs ys id found now at same is =
 
 -- the account at its place
 module _ (accounts : List Account) (id place : ℕ) (d : Account) (at : IsPlace accounts id place) where
+  -- it is one of the accounts, so that reading it is in bounds
   pub place-inside : place < length accounts
   place-inside = (position-Some (λ a. a.id == id) accounts place d at).0
 
+  -- it has the id that was looked for
   pub place-id : (get_or accounts place d).id ≡ id
   place-id = eqb-true (get_or accounts place d).id id (position-Some (λ a. a.id == id) accounts place d at).1
 
+  -- it is the account that a search for the id gives
   pub place-find : find (λ a. a.id == id) accounts ≡ Some (get_or accounts place d)
   place-find =
       let same : position_or_len (λ (a : Account). a.id == id) accounts ≡ place =
@@ -118,6 +121,7 @@ pub same_sums : {x y z w x' y' z' w' : ℕ} → x ≡ x' → y ≡ y' → z ≡ 
 same_sums a b c d = cc
 
 module _ (f : Effect) (debit credit : ℕ) (apart : debit ≢ credit) (a : Account) where
+  -- the account that the code debits is the account after the effect
   pub changed-debited : a.id ≡ debit → debited f a ≡ account_changed f debit credit a
   changed-debited at =
       let b : Balances = a.balances in
@@ -129,6 +133,7 @@ module _ (f : Effect) (debit credit : ℕ) (apart : debit ≢ credit) (a : Accou
       (h, r) (omega arith))
       (let m = part-other credit a.id f.moved not_credit in rw m (omega arith)))
 
+  -- the same of the one that is credited
   pub changed-credited : a.id ≡ credit → credited f a ≡ account_changed f debit credit a
   changed-credited at =
       let not_debit : a.id ≢ debit = λ same. apart (sym same ∙ at) in
@@ -139,6 +144,7 @@ module _ (f : Effect) (debit credit : ℕ) (apart : debit ≢ credit) (a : Accou
       (let h = part-same credit a.id f.held at in let r = part-same credit a.id f.released at in rw (h, r) refl)
       (let m = part-same credit a.id f.moved at in rw m refl))
 
+  -- any other account stays as it was
   pub changed-neither : a.id ≢ debit → a.id ≢ credit → account_changed f debit credit a ≡ a
   changed-neither not_debit not_credit =
       ap (λ (sums : Balances). record a { balances = sums }) (same_sums
@@ -151,6 +157,7 @@ module _ (f : Effect) (debit credit : ℕ) (apart : debit ≢ credit) (a : Accou
 
 module _ (accounts : List Account) (m : Movement) (placed : IsPlaced accounts m)
     (apart : m.entry.transfer.debit_account_id ≢ m.entry.transfer.credit_account_id) (d : Account) where
+  -- the two accounts stand at two places, since their ids differ
   places_apart : m.debit ≢ m.credit
   places_apart same =
       apart (sym (place-id accounts m.entry.transfer.debit_account_id m.debit d placed.debit)

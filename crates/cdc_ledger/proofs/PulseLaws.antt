@@ -57,6 +57,7 @@ in_order_ids (p ∷ ps) own = placed_ids p (in_order_of_end ps) (All-in_order (�
 
 -- the transfers of the entries that pass a test
 module _ (test : Entry → Bool) where
+  -- what holds of the transfer of each entry that passes holds of the list of these transfers
   passing_all : (P : Transfer → Type 0) (es : List Entry) → AllByRecursion (λ e. test e ≡ true → P e.transfer) es
       → AllByRecursion P (map (λ e. e.transfer) (filter test es))
   passing_all P [] all = tt
@@ -67,6 +68,7 @@ module _ (test : Entry → Bool) where
       either true passes more = (all.0 passes, more)
       either false passes more = more
 
+  -- where entries that pass stored their transfers, no two of these have one id
   passing_ids : ((e : Entry) → test e ≡ true → stores e.kind ≡ true) → (es : List Entry) → AreApart (stored_ids es)
       → HaveOwnIds (map (λ e. e.transfer) (filter test es))
   passing_ids storing [] apart = tt

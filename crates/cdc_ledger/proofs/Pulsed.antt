@@ -32,11 +32,13 @@ never_memory false false true wrong = cc
 never_memory false false false wrong = cc
 
 module _ (h : History) (now count : ℕ) (counted : count ≡ length (due h now)) where
+  -- the pulse is answered by the count of what is due, which the index gives
   by_refusal : submit h (Pulse now)
       ≡ answered (refusal_at h false now count) (Pulsed (length (due h now)), expiries_from h (base h now) (due h now))
   by_refusal = ap (λ n. answered (refusal_at h false now n)
       (Pulsed (length (due h now)), expiries_from h (base h now) (due h now))) (sym counted)
 
+  -- a refusal that the count leads to is the answer, and the history stays
   pub pulse-refused : (e : BatchError) → refusal_at h false now count ≡ Some e → Answers Pulsed h (Pulse now) (Err e) h
   pulse-refused LedgerClosed refused = (
     by_refusal
@@ -55,15 +57,18 @@ module _ (h : History) (now count : ℕ) (counted : count ≡ length (due h now)
   )
   pulse-refused OutOfMemory refused = absurd (never_memory h.closed false (is_past_the_end h now count) refused)
 
+  -- where none does, all that is due expires
   taken : refusal_at h false now count ≡ None
       → submit h (Pulse now) ≡ Ok (Pulsed (length (due h now)), expiries_from h (base h now) (due h now))
   taken unrefused = by_refusal ∙ ap (λ r. answered r
       (Pulsed (length (due h now)), expiries_from h (base h now) (due h now))) unrefused
 
+  -- so the count is the answer, once all of them have expired
   pub pulse-taken : (g : History) → refusal_at h false now count ≡ None → g ≡ expiries_from h (base h now) (due h now)
       → submit h (Pulse now) ≡ Ok (Pulsed count, g)
   pulse-taken g unrefused made = taken unrefused ∙ ap₂ (λ n after. Ok (Pulsed n, after)) (sym counted) (sym made)
 
+  -- where memory runs out before that, the history stays
   pub pulse-unmade : (g : History) (result : Result ℕ BatchError) → refusal_at h false now count ≡ None → g ≡ h
       → IsErrAnd result (λ e. e ≡ OutOfMemory)
       → Answers Pulsed h (Pulse now) result g

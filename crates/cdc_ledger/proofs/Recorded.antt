@@ -38,9 +38,11 @@ use Rattle.cdc_ledger.proofs.SoundLaws.{both_fit, IsSound-pushed}
 
 -- the sums of the two accounts take the entry's effect
 module _ (h : History) (e : Entry) (sound : IsSound h) (follows : Follows h e) (after : h.last < e.timestamp) where
+  -- what the entry does to balances
   abbrev f : Effect
   f = effect_of h e
 
+  -- sums that fit together take the effect each by itself
   side_fits : (pending posted held moved released : ℕ) (g : Effect) → g.held ≡ held → g.moved ≡ moved
       → g.released ≡ released
       → pending + posted + held + moved ≤ max_128 + released → released ≤ pending → SideFits g pending posted
@@ -50,6 +52,7 @@ module _ (h : History) (e : Entry) (sound : IsSound h) (follows : Follows h e) (
     moved = omega (arith, b);
   }
 
+  -- the debited account's sums do
   debit_fits : (id : ℕ) → id ≡ e.transfer.debit_account_id
       → SideFits f (balances h id h.last).debits_pending (balances h id h.last).debits_posted
   debit_fits id same =
@@ -58,6 +61,7 @@ module _ (h : History) (e : Entry) (sound : IsSound h) (follows : Follows h e) (
       (side_fits b.debits_pending b.debits_posted f.held f.moved f.released f refl refl refl
       (both_fit h e sound follows (settles e.kind) refl).0 (released_debit h e sound follows after))
 
+  -- and so do those of the credited one
   credit_fits : (id : ℕ) → id ≡ e.transfer.credit_account_id
       → SideFits f (balances h id h.last).credits_pending (balances h id h.last).credits_posted
   credit_fits id same =
@@ -66,6 +70,7 @@ module _ (h : History) (e : Entry) (sound : IsSound h) (follows : Follows h e) (
       (side_fits b.credits_pending b.credits_posted f.held f.moved f.released f refl refl refl
       (both_fit h e sound follows (settles e.kind) refl).1 (released_credit h e sound follows after))
 
+  -- so every account does, whichever of the two it is, if any
   takes_each : All (Takes f e.transfer.debit_account_id e.transfer.credit_account_id) (accounts_now h)
   takes_each =
       All-map (Takes f e.transfer.debit_account_id e.transfer.credit_account_id) (account_now h) h.accounts
@@ -98,19 +103,23 @@ AreApart-kept t kept = subst AreApart (sym (ids_opened t.accounts.items)) kept.s
 
 -- a change of balances opens no account and moves none
 module _ (m : Movement) where
+  -- accounts keep everything but their balances
   opened_as-changed : (xs : List Account) → map opened_as (accounts_changed m xs) ≡ map opened_as xs
   opened_as-changed [] = refl
   opened_as-changed (a ∷ rest) = ap (λ os. opened_as a ∷ os) (opened_as-changed rest)
 
+  -- an id is found as far down the list as before
   before_changed : (id : ℕ) (xs : List Account)
       → position_or_len (λ a. a.id == id) (accounts_changed m xs) ≡ position_or_len (λ a. a.id == id) xs
   before_changed id [] = refl
   before_changed id (a ∷ rest) = ap (λ n. cond (not (a.id == id)) (1 + n) 0) (before_changed id rest)
 
+  -- so it keeps its place
   place_changed : (id place : ℕ) (xs : List Account) → IsPlace xs id place → IsPlace (accounts_changed m xs) id place
   place_changed id place xs at =
       ap₂ (λ n l. cond (nat_lt n l) (Some n) None) (before_changed id xs) (length-map xs _) ∙ at
 
+  -- so the movement's places still hold when its event is made of the changed accounts
   pub IsPlaced-changed : (xs ys : List Account) → ys ≡ accounts_changed m xs → IsPlaced xs m → IsPlaced ys m
   IsPlaced-changed xs ys same placed =
       subst (λ zs. IsPlaced zs m) (sym same) (record {
@@ -118,6 +127,7 @@ module _ (m : Movement) where
         credit = place_changed m.entry.transfer.credit_account_id m.credit xs placed.credit;
       })
 
+  -- so the tables hold the history with one more entry, and nothing else new
   pub history-recorded : (t t' : Tables) → t'.accounts.items ≡ accounts_changed m t.accounts.items
       → t'.entries.items ≡ t.entries.items ++ m.entry ∷ [] → t'.last ≡ m.entry.timestamp → t'.closed ≡ t.closed
       → history_of t' ≡ pushed (history_of t) m.entry

@@ -157,14 +157,17 @@ one_amount TwoPhaseExpired n = omega arith
 
 -- what joins the sums of an account fits in the place of what leaves them
 module _ (h : History) (e : Entry) (sound : IsSound h) (follows : Follows h e) where
+  -- on the debit side of an account
   abbrev pub DebitFits : ℕ → Type 0
   DebitFits a = (balances h a h.last).debits_pending + (balances h a h.last).debits_posted + (effect_of h e).held +
       (effect_of h e).moved ≤ max_128 + (effect_of h e).released
 
+  -- on its credit side
   abbrev pub CreditFits : ℕ → Type 0
   CreditFits a = (balances h a h.last).credits_pending + (balances h a h.last).credits_posted + (effect_of h e).held +
       (effect_of h e).moved ≤ max_128 + (effect_of h e).released
 
+  -- so it is on both, whether the entry settles a transfer or takes new room
   pub both_fit : (b : Bool) → settles e.kind ≡ b
       → DebitFits e.transfer.debit_account_id × CreditFits e.transfer.credit_account_id
   both_fit true is =

@@ -38,6 +38,7 @@ stored-pushed_new h e stored_now free =
     (and_from (stores e.kind) (e.transfer.id == e.transfer.id) stored_now (eq-eqb e.transfer.id e.transfer.id refl)))
 
 module _ {X : Type 0} (test : X → Bool) where
+  -- the first element is found, or a later one: either way it passes and has what all have
   found_from : (P : X → Type 0) (b : Bool) (x found : X) (rest : Option X) → test x ≡ b → P x
       → (rest ≡ Some found → (test found ≡ true) × P found)
       → (if b then Some x else rest) ≡ Some found → (test found ≡ true) × P found
@@ -52,6 +53,7 @@ module _ {X : Type 0} (test : X → Bool) where
   find_all P (x ∷ xs) found all e =
       found_from P (test x) x found (find test xs) refl all.0 (find_all P xs found all.1) e
 
+  -- where none is found, the first one fails and none of the others is found
   not_found_from : (b : Bool) (x : X) (rest : Option X) → test x ≡ b → (if b then Some x else rest) ≡ None
       → (test x ≡ false) × (rest ≡ None)
   not_found_from true x rest is e = cc
@@ -115,7 +117,7 @@ none_stored id (e ∷ es) others =
     (subst (AllByRecursion (λ m. id ≢ m)) (stored_ids-cons e es) others) in
     (both.0, none_stored id es both.1)
 
--- an id that the first entry didn't store is unlike the stored ids with that entry's too
+-- an id that neither the first entry nor a later one stored is unlike the ids of them all
 none_id : (id : ℕ) (b : Bool) (e : Entry) (ns : List ℕ) → stores e.kind ≡ b → is_stored id e ≡ false
     → AllByRecursion (λ m. m ≢ id) ns → AllByRecursion (λ m. m ≢ id) (if b then e.transfer.id ∷ ns else ns)
 none_id id true e ns is other others =
