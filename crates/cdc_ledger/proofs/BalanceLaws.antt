@@ -139,7 +139,7 @@ balances-pushed_before h e a t after =
     same_balances _ _ _ _ _ _ _ _ (held_same debit_side) (moved_same debit_side) (held_same credit_side)
     (moved_same credit_side)
 
--- two of the four sums are what is left of the others
+-- the balances after an entry, where each pending sum is known with what was released put back to it
 same_changed : (x y z w dr dh dm cr ch cm : ℕ) (b : Balances) → x + dr ≡ b.debits_pending + dh
     → y ≡ b.debits_posted + dm → z + cr ≡ b.credits_pending + ch → w ≡ b.credits_posted + cm
     → ◌≡◌ {A = Balances} (record { debits_pending = x; debits_posted = y; credits_pending = z; credits_posted = w })
@@ -334,7 +334,7 @@ module _ (h : History) (e : Entry) (a : ℕ) (sound : IsSound h) (follows : Foll
   abbrev right_after : (Transfer → ℕ) → Entry → ℕ
   right_after side x = share (held (pushed h e) e.timestamp) side a e.timestamp x
 
-  -- its own amount
+  -- a pending transfer isn't resolved by its own entry
   own_unresolved : holds e.kind ≡ true → resolved (pushed h e) e.transfer e.timestamp ≡ false
   own_unresolved is =
       resolved_then h e e.transfer sound.past after

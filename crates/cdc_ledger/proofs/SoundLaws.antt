@@ -35,7 +35,7 @@ IsUpTo-later : (h : History) (s t : ℕ) → IsUpTo s h → s ≤ t → IsUpTo t
 IsUpTo-later h s t within later =
     AllByRecursion-weaker (λ e. e.timestamp ≤ s) (λ e. e.timestamp ≤ t) (λ e at. omega arith) h.entries within
 
--- a change that stores no transfer, or stores one more
+-- an entry settles what it did where the entries are the same
 Settles-again : (h g : History) (e x : Entry) → g.entries ≡ h.entries → Settles h e x → Settles g e x
 Settles-again h g e x same of = record {
   named = cc;
