@@ -356,7 +356,7 @@ IsOrderly-confirmed base_of w course confirm is there among =
 
 -- ---- it saves its progress
 
--- an event such that it and each earlier one is confirmed was taken
+-- every event up to a moment was taken, and the moment isn't past the last timestamp
 record Reaches (es : List Event) (taken : List Item) (t last : ℕ) : Type 0 where
   front : List Event
   back : List Event

@@ -194,7 +194,7 @@ with_held p w held honest failed' held' st same = record {
   seats = st.seats;
 }
 
--- a save is tried where there is a session
+-- a save is done where there is a session, and its progress is held then
 saves_next : (w : WorldState) (course : Course) → w.session ≡ Some course
     → next_by offered w Save ≡ done (record w { held = Some (progress_of course) })
 saves_next w course is =

@@ -15,7 +15,7 @@ length_from : (p : ℕ) (items : List Item) → length (deliveries_from p items)
 length_from p [] = refl
 length_from p (item ∷ items) = ap suc (length_from (p + 1) items)
 
--- a queue has as many positions as items, so a cursor is at most one past its length
+-- a queue gives out as many positions as it has items
 pub length-deliveries : (items : List Item) → length (deliveries items) ≡ length items
 length-deliveries items = length_from 1 items
 
