@@ -96,6 +96,7 @@ followed h es = record h { entries = h.entries ++ es; last = end_of h.last es }
 abbrev before_all : History → History
 before_all h = record h { entries = []; last = 0 }
 
+-- what holds of each entry of a ledger holds of the first of them, which are all that a subscriber may know of yet
 all_front : (P : Entry → Type 0) (xs ys : List Entry) → AllByRecursion P (xs ++ ys) → AllByRecursion P xs
 all_front P [] ys all = tt
 all_front P (x ∷ xs) ys all = (all.0, all_front P xs ys all.1)
@@ -160,6 +161,7 @@ record Front {X Y : Type 0} (f : X → Y) (xs : List X) (start : List Y) : Type 
   whole : front ++ back ≡ xs
   made : map f front ≡ start
 
+-- so that the events that a subscriber has applied are those of the ledger's first entries
 front_of : {X Y : Type 0} (f : X → Y) (xs : List X) (start rest : List Y) → start ++ rest ≡ map f xs → Front f xs start
 front_of f xs [] rest same = record { front = []; back = xs; whole = refl; made = refl }
 front_of f [] (y ∷ start) rest same = cc
@@ -174,10 +176,12 @@ front_of f (x ∷ xs) (y ∷ start) rest same =
       made = ap₂ (λ z zs. z ∷ zs) first more.made;
     }
 
+-- the entries behind the first ones are later than where these end, so they change no balances as of then
 rise_back : (t : ℕ) (xs ys : List Entry) → RiseFrom t (xs ++ ys) → RiseFrom (end_of t xs) ys
 rise_back t [] ys rise = rise
 rise_back t (x ∷ xs) ys rise = rise_back x.timestamp xs ys rise.1
 
+-- and the first ones rise by themselves
 rise_front : (t : ℕ) (xs ys : List Entry) → RiseFrom t (xs ++ ys) → RiseFrom t xs
 rise_front t [] ys rise = tt
 rise_front t (x ∷ xs) ys rise = (rise.0, rise_front x.timestamp xs ys rise.1)

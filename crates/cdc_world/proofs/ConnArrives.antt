@@ -32,18 +32,22 @@ use Rattle.cdc_world.proofs.ConnReplays.{IsReplay-in_turn}
 -- ---- where more was taken
 
 module _ (before after : List Item) (more : (item : Item) → Contains before item → Contains after item) where
+  -- what was taken under a tag stays taken as more is
   IsTakenAt-more : (items : List Item) (k : ℕ) → IsTakenAt before items k → IsTakenAt after items k
   IsTakenAt-more items k is = (is.0, is.1, more is.0 is.2)
 
+  -- so does what an answer of the broker confirms
   IsTakenBy-more : (items : List Item) (answer : Answer) → IsTakenBy before items answer → IsTakenBy after items answer
   IsTakenBy-more items (Confirmed tag) is = IsTakenAt-more items tag is
   IsTakenBy-more items Connected is = tt
   IsTakenBy-more items Ignored is = tt
   IsTakenBy-more items Broken is = tt
 
+  -- and every event up to a moment
   HasTakenUpTo-more : (h : History) (t : ℕ) → HasTakenUpTo h before t → HasTakenUpTo h after t
   HasTakenUpTo-more h t has event there low = more (OfEvent event) (has event there low)
 
+  -- and the session still keeps to the history, since what was confirmed to it stays taken
   IsCurrent-more : (base_of : ℕ → ℕ) (number : ℕ) (h : History) (course : Course)
       → IsCurrent base_of number h before course → IsCurrent base_of number h after course
   IsCurrent-more base_of number h course current = record {
@@ -58,14 +62,17 @@ module _ (before after : List Item) (more : (item : Item) → Contains before it
 
 -- ---- what a taken packet makes of those before it
 
+-- a packet that the broker takes adds its item, if it has one, behind those taken before
 items_of-push : (packets : List Packet) (packet : Packet)
     → items_of (packets ++ packet ∷ []) ≡ items_of packets ++ items_of (packet ∷ [])
 items_of-push packets packet = filter_map-append packet_item packets (packet ∷ [])
 
+-- a connect that is taken makes its session the current one, and a publish leaves it
 current_session-push : (packets : List Packet) (packet : Packet)
     → current_session (packets ++ packet ∷ []) ≡ session_after (current_session packets) packet
 current_session-push packets packet = fold-append session_after 0 packets (packet ∷ [])
 
+-- a connect that is taken begins the tags at 1 again, and a publish makes the tag after its own the next
 expected_tag-push : (packets : List Packet) (packet : Packet)
     → expected_tag (packets ++ packet ∷ []) ≡ expected_after (expected_tag packets) packet
 expected_tag-push packets packet = fold-append expected_after None packets (packet ∷ [])
@@ -75,11 +82,14 @@ is_tag-some : (expected : Option ℕ) (tag : ℕ) → is_tag expected tag ≡ tr
 is_tag-some None tag is = cc
 is_tag-some (Some next) tag is = ap (λ n. Some n) (eqb-true next tag is)
 
+-- tags count up by one, so no tag is passed over between two items that are taken
 tag_after-is : (tag next : ℕ) → tag_after tag ≡ Some next → next ≡ tag + 1
 tag_after-is tag next is = sym (cond_some (nat_lt (tag + 1) max_64) (tag + 1) next is).1
 
 -- ---- the item of a publish that is taken comes in turn
 
+-- what holds of the item of each event holds of each item of the line before its end,
+-- so that all before the base of a session are known to have been taken
 each_of_map : (P : Item → Type 0) (es : List Event) → AllByRecursion (λ e. P (OfEvent e)) es
     → AllByRecursion P (map OfEvent es)
 each_of_map P [] all = tt
@@ -200,6 +210,8 @@ module _ (base_of : ℕ → ℕ) (w : WorldState) (is : IsOrderly base_of w) whe
             )
       ]
 
+  -- the item stands in the line behind what was taken before it, so what was taken stays a replay,
+  -- and its confirm tells the truth
   arrived_publish : (session tag : ℕ) (item : Item) → session ≤ held_number w.held
       → session ≡ current_session w.accepted
       → expected_tag w.accepted ≡ Some tag → IsOfLine w.history base_of (Publish session tag item)
@@ -255,6 +267,7 @@ module _ (base_of : ℕ → ℕ) (w : WorldState) (is : IsOrderly base_of w) whe
             (replay_after session tag item same expected of_line);
       }
 
+  -- either packet keeps the order, since it was sent: its number is held and its item is of the line
   arrived_taken : (packet : Packet) → Contains w.packets packet → is_taken w.accepted packet ≡ true
       → IsOrderly base_of (taking_in w packet true)
   arrived_taken (Connect session) there takes = arrived_connect session (is.packet_numbers (Connect session) there)

@@ -112,6 +112,7 @@ IsOrderly-sent base_of w packet is low of_line = record {
 abbrev pub with_base : ℕ → ℕ → (ℕ → ℕ) → ℕ → ℕ
 with_base number base base_of session = if session == number then base else base_of session
 
+-- a new session's base leaves those of the sessions before it as they were
 with_base-other : (number base : ℕ) (base_of : ℕ → ℕ) (session : ℕ) → session < number
     → with_base number base base_of session ≡ base_of session
 with_base-other number base base_of session below =
@@ -120,6 +121,7 @@ with_base-other number base base_of session below =
       | inr not ↦ rw not refl
     ]
 
+-- and is the new number's own
 pub with_base-new : (number base : ℕ) (base_of : ℕ → ℕ) → with_base number base base_of number ≡ base
 with_base-new number base base_of =
     elim (cases_Bool (number == number)) [
@@ -136,6 +138,7 @@ with_base-all P number base base_of old new session =
       | inr not ↦ rw not (old session)
     ]
 
+-- so the packets of earlier sessions, which may still come, are of the line as before
 IsOfLine-base : (h : History) (number base : ℕ) (base_of : ℕ → ℕ) (packet : Packet) → session_of packet < number
     → IsOfLine h base_of packet → IsOfLine h (with_base number base base_of) packet
 IsOfLine-base h number base base_of (Connect session) below is = tt

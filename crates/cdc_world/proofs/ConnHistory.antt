@@ -29,10 +29,12 @@ module _ (h g : History) (on : GoesOn h g) where
       let more = line_after-goes_on h g t on early in
       subst (λ items. numbered items k ≡ Some item) (sym more.1) (numbered-append (line_after h t) more.0 k item there)
 
+  -- so what was taken under a tag stays taken
   IsTakenAt-goes_on : (taken : List Item) (t k : ℕ) → t ≤ h.last → IsTakenAt taken (line_after h t) k
       → IsTakenAt taken (line_after g t) k
   IsTakenAt-goes_on taken t k early is = (is.0, numbered-goes_on t k is.0 early is.1, is.2)
 
+  -- and a confirm that is on its way stays true
   IsTakenBy-goes_on : (taken : List Item) (t : ℕ) (answer : Answer) → t ≤ h.last
       → IsTakenBy taken (line_after h t) answer → IsTakenBy taken (line_after g t) answer
   IsTakenBy-goes_on taken t (Confirmed tag) early is = IsTakenAt-goes_on taken t tag early is
@@ -40,6 +42,7 @@ module _ (h g : History) (on : GoesOn h g) where
   IsTakenBy-goes_on taken t Ignored early is = tt
   IsTakenBy-goes_on taken t Broken early is = tt
 
+  -- and a packet that was sent, and may come late, stays of the line
   IsOfLine-goes_on : (base_of : ℕ → ℕ) → ((session : ℕ) → base_of session ≤ h.last) → (packet : Packet)
       → IsOfLine h base_of packet → IsOfLine g base_of packet
   IsOfLine-goes_on base_of bases (Connect session) is = tt
@@ -56,6 +59,8 @@ module _ (h g : History) (on : GoesOn h g) where
             absurd (omega (arith, later))
       ]
 
+  -- a session has still been offered the first events after its base when later ones join them;
+  -- one that knows of the end sees none join, since the ledger is closed
   KeepsTo-goes_on : (taken : List Item) (course : Course) → course.base ≤ h.last → KeepsTo h taken course
       → KeepsTo g taken course
   KeepsTo-goes_on taken course early keeps =
@@ -80,6 +85,7 @@ module _ (h g : History) (on : GoesOn h g) where
         confirmed = λ tag is. IsTakenAt-goes_on taken course.base tag early (keeps.confirmed tag is);
       }
 
+  -- the same of the connector's session, whose base isn't past the last timestamp
   IsCurrent-goes_on : (base_of : ℕ → ℕ) → ((session : ℕ) → base_of session ≤ h.last) → (number : ℕ)
       (taken : List Item) (course : Course)
       → IsCurrent base_of number h taken course → IsCurrent base_of number g taken course
@@ -89,6 +95,7 @@ module _ (h g : History) (on : GoesOn h g) where
     keeps = KeepsTo-goes_on taken course (subst (λ t. t ≤ h.last) current.base (bases course.number)) current.keeps;
   }
 
+-- so connector and broker stay in order when the ledger takes a batch, or closes
 pub IsOrderly-history : (base_of : ℕ → ℕ) (w : WorldState) (g : History) → IsOrderly base_of w → GoesOn w.history g
     → IsSound g → IsOrderly base_of (record w { history = g })
 IsOrderly-history base_of w g is on sound =

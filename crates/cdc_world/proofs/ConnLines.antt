@@ -23,28 +23,34 @@ use Rattle.cdc_world.proofs.ConnSplits.{SplitsAt, split_at, events_after-all}
 
 -- ---- the events of a sound history
 
+-- events have the timestamps of their entries, and so rise as these do
 rise_entries : (h : History) (t : ℕ) (es : List Entry) → sound.RiseFrom t es → RiseFrom t (map (event_of h) es)
 rise_entries h t [] rise = tt
 rise_entries h t (e ∷ es) rise = (rise.0, rise_entries h e.timestamp es rise.1)
 
+-- each event of a ledger is later than the one before it
 pub events_rise : (h : History) → sound.IsSound h → RiseFrom 0 (events h)
 events_rise h is = rise_entries h 0 h.entries is.rising
 
+-- an event is as late as its entry, so events of entries up to a moment are up to it
 past_entries : (h : History) (t : ℕ) (es : List Entry) → AllByRecursion (λ e. e.timestamp ≤ t) es
     → AllByRecursion (λ e. e.timestamp ≤ t) (map (event_of h) es)
 past_entries h t [] past = tt
 past_entries h t (e ∷ es) past = (past.0, past_entries h t es past.1)
 
+-- no event is later than the ledger's last timestamp, and so neither is what a session saves
 pub events_past : (h : History) → sound.IsSound h → AllByRecursion (λ e. e.timestamp ≤ h.last) (events h)
 events_past h is = past_entries h h.last h.entries is.past
 
 -- ---- their timestamps rise, and no item of the line stands in it twice
 
+-- an event of a rising list is later than the moment that the list rises from, wherever it stands
 all_above : (t : ℕ) (es : List Event) → RiseFrom t es → All (λ e. t < e.timestamp) es
 all_above t [] rise k d below = absurd (omega arith)
 all_above t (e ∷ es) rise zero d below = rise.0
 all_above t (e ∷ es) rise (suc k) d below = omega (arith, rise.0, all_above e.timestamp es rise.1 k d (omega arith))
 
+-- and it is later than every event before it, not only than the one next to it
 in_turn : (t : ℕ) (es : List Event) → RiseFrom t es → AllPairs (λ earlier later. earlier.timestamp < later.timestamp) es
 in_turn t [] rise i j d before below = absurd (omega arith)
 in_turn t (e ∷ es) rise zero zero d before below = absurd (omega arith)
@@ -52,6 +58,7 @@ in_turn t (e ∷ es) rise zero (suc j) d before below = all_above e.timestamp es
 in_turn t (e ∷ es) rise (suc i) zero d before below = absurd (omega arith)
 in_turn t (e ∷ es) rise (suc i) (suc j) d before below = in_turn e.timestamp es rise.1 i j d (omega arith) (omega arith)
 
+-- so a ledger's events can be told apart, and put in order, by their timestamps alone
 pub TimestampsRise-events : (h : History) → sound.IsSound h → TimestampsRise (events h)
 TimestampsRise-events h is =
     record { above_zero = all_above 0 (events h) (events_rise h is); rising = in_turn 0 (events h) (events_rise h is) }
@@ -60,20 +67,25 @@ TimestampsRise-events h is =
 abbrev pub told : List Event → Bool → List Item
 told es ended = map OfEvent es ++ (if ended then EndMark ∷ [] else [])
 
+-- the end mark is no event: all that is told is these events, whether or not it stands behind them
 events_of-told : (es : List Event) (ended : Bool) → events_of (told es ended) ≡ es
 events_of-told es true = events_of-push_end (map OfEvent es) ∙ events_of-map es
 events_of-told es false = ap events_of (append-nil (map OfEvent es)) ∙ events_of-map es
 
+-- the line of a ledger tells all of its events, in their order
 pub events_of-line : (h : History) → events_of (line h) ≡ events h
 events_of-line h = events_of-told (events h) h.closed
 
+-- and it tells them with timestamps that rise
 pub TimestampsRise-line : (h : History) → sound.IsSound h → TimestampsRise (events_of (line h))
 TimestampsRise-line h is = subst TimestampsRise (sym (events_of-line h)) (TimestampsRise-events h is)
 
+-- no item is told twice, the end mark included
 none_twice : (es : List Event) (ended : Bool) → TimestampsRise es → HasNoneTwice (told es ended)
 none_twice es true rise = HasNoneTwice-line es rise
 none_twice es false rise = rw (append-nil (map OfEvent es)) (HasNoneTwice-events es rise)
 
+-- a ledger's line has no item twice, so the first of each item of its replay are a beginning of it
 pub HasNoneTwice-of_line : (h : History) → sound.IsSound h → HasNoneTwice (line h)
 HasNoneTwice-of_line h is = none_twice (events h) h.closed (TimestampsRise-events h is)
 
@@ -88,6 +100,7 @@ line_splits h t front cut =
     (map-append OfEvent front (events_after t (events h)))
     ∙ append_assoc (map OfEvent front) (map OfEvent (events_after t (events h))) (if h.closed then EndMark ∷ [] else [])
 
+-- a ledger's events can be cut at any moment, as at the base of a session or at the moment that it saves
 pub split_events : (h : History) (t : ℕ) → sound.IsSound h
     → (front : List Event) × SplitsAt (events h) t front (events_after t (events h))
 split_events h t is = split_at t 0 (events h) (events_rise h is)
@@ -102,6 +115,7 @@ pub record GoesOn (h g : History) : Type 0 where
   pub last : h.last ≤ g.last
   pub shut : h.closed ≡ true → (g.closed ≡ true) × (new ≡ [])
 
+-- what is told grows at its back alone, and once an end mark stands there it doesn't grow
 told_more : (es new : List Event) (b c : Bool) → (b ≡ true → (c ≡ true) × (new ≡ []))
     → (more : List Item) × (told (es ++ new) c ≡ told es b ++ more)
 told_more es new true c shut =
@@ -135,6 +149,7 @@ events_after-goes_on h g t on early =
     (AllByRecursion-weaker (λ e. h.last < e.timestamp) (λ e. t < e.timestamp) (λ e later. omega (arith, later))
     on.new on.later))
 
+-- so does the line after a moment, and its items keep their tags
 pub line_after-goes_on : (h g : History) (t : ℕ) → GoesOn h g → t ≤ h.last
     → (more : List Item) × (line_after g t ≡ line_after h t ++ more)
 line_after-goes_on h g t on early =

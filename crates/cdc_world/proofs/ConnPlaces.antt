@@ -30,11 +30,14 @@ slice_get-before [] ys i below = absurd (omega arith)
 slice_get-before (x ∷ xs) ys zero below = refl
 slice_get-before (x ∷ xs) ys (suc i) below = slice_get-before xs ys i (omega arith)
 
+-- what is found at a place stands in the list
 pub Contains_slice_get : {X : Type 0} (xs : List X) (i : ℕ) (x : X) → slice_get xs i ≡ Some x → Contains xs x
 Contains_slice_get xs i x h = (i, slice_get_within xs i x h, get_or_from_slice_get xs i x x h)
 
 -- ---- numbers
 
+-- a number that names something is at least 1 and names what stands at the place before it,
+-- so that a tag gives its item's place in the line
 pub numbered_parts : {X : Type 0} (xs : List X) (k : ℕ) (x : X) → numbered xs k ≡ Some x
     → (0 < k) × (slice_get xs (k - 1) ≡ Some x)
 numbered_parts xs k x h =
@@ -43,6 +46,7 @@ numbered_parts xs k x h =
       | inr not ↦ let above : 0 < k = omega (arith, eqb-false k 0 not) in (above, rw not at h)
     ]
 
+-- and what stands at a place is named by the number after it
 pub numbered_from : {X : Type 0} (xs : List X) (k : ℕ) (x : X) → 0 < k → slice_get xs (k - 1) ≡ Some x
     → numbered xs k ≡ Some x
 numbered_from xs k x above h =
@@ -51,17 +55,20 @@ numbered_from xs k x above h =
       | inr not ↦ rw not h
     ]
 
+-- an element keeps its number where its list grows at the back, as the line of a ledger does
 pub numbered-append : {X : Type 0} (xs ys : List X) (k : ℕ) (x : X) → numbered xs k ≡ Some x
     → numbered (xs ++ ys) k ≡ Some x
 numbered-append xs ys k x h =
     let parts = numbered_parts xs k x h in
     numbered_from (xs ++ ys) k x parts.0 (slice_get-append xs ys (k - 1) x parts.1)
 
+-- a packet that a step names by its number is one that was sent, and so is a confirm
 pub Contains_numbered : {X : Type 0} (xs : List X) (k : ℕ) (x : X) → numbered xs k ≡ Some x → Contains xs x
 Contains_numbered xs k x h = Contains_slice_get xs (k - 1) x (numbered_parts xs k x h).1
 
 -- ---- each element
 
+-- nothing stands in an empty list, as nothing was sent or taken before the first step
 pub none_there : {X : Type 0} (x : X) → Contains [] x → ⊥
 none_there x h = omega (arith, h.1)
 
@@ -83,6 +90,7 @@ each_has P (y ∷ xs) x all there =
       | inr later ↦ each_has P xs x all.1 later
     ]
 
+-- and what holds of whatever stands in a list holds of each element in turn
 pub each_from : {X : Type 0} (P : X → Type 0) (xs : List X) → ((x : X) → Contains xs x → P x) → AllByRecursion P xs
 each_from P [] has = tt
 each_from P (x ∷ xs) has =

@@ -42,6 +42,7 @@ HasOrder w = (base_of : ℕ → ℕ) × IsOrderly base_of w
 
 -- ---- parts of a step that is done
 
+-- a step that is done has one answer and leaves one world
 same_answer : (a b : Did × WorldState) → ◌≡◌ {A = Outcome} (Ok a) (Ok b) → a ≡ b
 same_answer a b is = cc
 
@@ -49,6 +50,7 @@ same_answer a b is = cc
 world_is : (did did' : Did) (w w' : WorldState) → ◌≡◌ {A = Outcome} (Ok (did, w)) (Ok (did', w')) → w ≡ w'
 world_is did did' w w' is = ap (λ (a : Did × WorldState). a.1) (same_answer (did, w) (did', w') is)
 
+-- a step that is refused isn't done
 no_answer : (why : StepError) (answer : Did × WorldState) → ◌≡◌ {A = Outcome} (Err why) (Ok answer) → ⊥
 no_answer why answer is = cc
 
@@ -58,12 +60,14 @@ there_is : {A : Type 0} (o : Option A) {rest : A → Outcome} {answer : Did × W
 there_is None {rest} {answer} is = absurd (no_answer NotEnabled answer is)
 there_is (Some x) is = (x, refl, is)
 
+-- an offered step acts on what is there in any case, be it a session, a packet or a confirm
 so_it_is : {A : Type 0} (test : Bool) (o : Option A) (x : A) → where_so test o ≡ Some x → o ≡ Some x
 so_it_is true o x is = is
 so_it_is false o x is = absurd (none-some x is)
 
 -- ---- the steps
 
+-- a batch that the ledger takes keeps the order: its events are later than all that was told
 HasOrder-submitted : (w w' : WorldState) (batch : Batch) (did : Did)
     (answer : Result (BatchResults × History) BatchError)
     → HasOrder w → submit w.history batch ≡ answer → submitted w answer ≡ Ok (did, w') → HasOrder w'
@@ -76,6 +80,7 @@ HasOrder-submitted w w' batch did (Ok answered) order answers is =
     )
 HasOrder-submitted w w' batch did (Err why) order answers is = absurd (no_answer (Refused why) (did, w') is)
 
+-- so does the close of the ledger, which puts an end mark behind all that there is to tell
 HasOrder-closed : (w : WorldState) → HasOrder w → HasOrder (record w { history = record w.history { closed = true } })
 HasOrder-closed w order = (
   order.0,
@@ -83,12 +88,14 @@ HasOrder-closed w order = (
       (IsSound-closed w.history order.1.sound),
 )
 
+-- a session that starts keeps it: its number is new, and it begins after the held timestamp
 HasOrder-started : (w w' : WorldState) (did : Did) (saved : Option Saved) → HasOrder w → w.session ≡ None
     → begun w.held ≡ saved → started w saved ≡ Ok (did, w') → HasOrder w'
 HasOrder-started w w' did (Some saved) order none new is =
     subst HasOrder (world_is Done did _ w' is) (_, IsOrderly-started order.0 w saved order.1 none new)
 HasOrder-started w w' did None order none new is = absurd (no_answer SessionsExhausted (did, w') is)
 
+-- the same of the step, which starts a session only where the connector is down
 HasOrder-starting : (w w' : WorldState) (did : Did) (session : Option Course) → HasOrder w → w.session ≡ session
     → starting w session ≡ Ok (did, w') → HasOrder w'
 HasOrder-starting w w' did None order none is = HasOrder-started w w' did (begun w.held) order none refl is
@@ -100,10 +107,12 @@ HasOrder-subscriptions : (w : WorldState) (subscriptions : List Subscription) �
 HasOrder-subscriptions w subscriptions order =
     (order.0, IsOrderly-others order.0 w w.arrivals w.answers subscriptions order.1)
 
+-- a crash keeps it: the session is lost, while all that was sent, taken and held stays
 HasOrder-crashed : (w : WorldState) → HasOrder w → HasOrder (record w { session = None })
 HasOrder-crashed w order =
     (order.0, IsOrderly-session order.0 w None order.1 (λ course there. absurd (none-some course there)))
 
+-- so each step that is done keeps the order
 HasOrder-done : (offers : Offered) (w w' : WorldState) (step : Step) (did : Did) → HasOrder w
     → next_by offers w step ≡ Ok (did, w') → HasOrder w'
 HasOrder-done offers w w' (Submit batch) did order is =
@@ -206,9 +215,11 @@ HasOrder-written offers w (Take i) saved order tried is = absurd (none-some save
 HasOrder-written offers w (Ack i k) saved order tried is = absurd (none-some saved is)
 HasOrder-written offers w (Close i) saved order tried is = absurd (none-some saved is)
 
+-- a step that leaves the world as it was keeps it, as each refused one does but for a failed store
 HasOrder-same : (w w' : WorldState) → HasOrder w → w' ≡ w → HasOrder w'
 HasOrder-same w w' order same = subst HasOrder (sym same) order
 
+-- a failed store keeps it too, whether or not it has the new record in the end
 HasOrder-failed : (offers : Offered) (w w' : WorldState) (step : Step) (why : StoreError) → HasOrder w
     → IsTried (next_by offers w step) → AfterFailure w step why w' → HasOrder w'
 HasOrder-failed offers w w' step store.ReadFault order tried after = HasOrder-same w w' order after.1
@@ -231,12 +242,14 @@ HasOrder-next offers w w' step (Err OutOfMemory) order next = HasOrder-same w w'
 HasOrder-next offers w w' step (Err (Store why)) order next =
     HasOrder-failed offers w w' step why order next.1.0 next.1.1
 
+-- so do steps in a row
 pub HasOrder-leads : (offers : Offered) (w w' : WorldState) (steps : List Step) → HasOrder w
     → LeadsBy offers w steps w' → HasOrder w'
 HasOrder-leads offers w w' [] order leads = HasOrder-same w w' order leads
 HasOrder-leads offers w w' (step ∷ steps) order (answer, between, next, leads) =
     HasOrder-leads offers between w' steps (HasOrder-next offers w between step answer order next) leads
 
+-- a store at the start holds no moment past the last timestamp of a new ledger, which is 0
 none_yet : (held : Option Saved) → IsAtStart held → held_timestamp held ≤ 0
 none_yet None start = omega arith
 none_yet (Some saved) start = omega (arith, start)
@@ -282,5 +295,6 @@ IsSound-reached_by offers w reached = (HasOrder-reached_by offers w reached).1.s
 pub IsReplay-reached : (w : WorldState) → IsReached w → IsReplay (taken_items w) (line w.history)
 IsReplay-reached w reached = IsReplay-reached_by offered w reached
 
+-- and the history that today's steps make is sound
 pub IsSound-reached : (w : WorldState) → IsReached w → IsSound w.history
 IsSound-reached w reached = IsSound-reached_by offered w reached

@@ -15,6 +15,7 @@ from_take m f x (i, below, is) =
     let within : i < length f = omega (arith, length-take m f) in
     (i, low, within, sym (get_or-take m f i x low) ∙ is)
 
+-- what stands before the end of a beginning is in it, and may come again once that beginning has come
 in_take : {X : Type 0} (m i : ℕ) (f : List X) (x : X) → i < m → i < length f → get_or f i x ≡ x → Contains (take m f) x
 in_take m i f x low within is = (i, omega (arith, length-take m f), get_or-take m f i x low ∙ is)
 

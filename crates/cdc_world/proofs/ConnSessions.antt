@@ -104,6 +104,7 @@ KeepsTo-new h taken saved window = record {
   confirmed = λ tag is. cc;
 }
 
+-- so a session that starts is in order: it has that number, and has been offered and confirmed nothing yet
 pub IsOrderly-started : (base_of : ℕ → ℕ) (w : WorldState) (saved : Saved) → IsOrderly base_of w → w.session ≡ None
     → begun w.held ≡ Some saved
     → IsOrderly (with_base saved.session saved.timestamp base_of)
@@ -147,9 +148,12 @@ rest_is h taken course sound keeps =
     keeps.offered.rest
     (SplitsAt-later (events h) course.base cut.0 course.offered keeps.offered.rest back)
 
+-- a read that has room for all the later events leaves none of them out
 all_taken : (es : List Event) (n : ℕ) → nat_le (length es) n ≡ true → take n es ≡ es
 all_taken es n fits = let few : length es ≤ n = grind (arith, nat_tests) in take_all n es few
 
+-- a session that is offered the events after its last one still has the first events after its base,
+-- without a gap; and it has all of them where it learns that none follow
 KeepsTo-offer : (h : History) (taken : List Item) (course : Course) (poll : Poll) → IsSound h → KeepsTo h taken course
     → poll.after ≡ last_timestamp_from course.base course.offered
     → KeepsTo h taken (with_offer (take poll.limit (events_after poll.after (events h))) (none_follow h poll) course)
@@ -172,6 +176,7 @@ KeepsTo-offer h taken course poll sound keeps after =
       confirmed = keeps.confirmed;
     }
 
+-- so connector and broker stay in order when a session is offered the events that it wants
 pub IsOrderly-polled : (base_of : ℕ → ℕ) (w : WorldState) (course : Course) (poll : Poll) → IsOrderly base_of w
     → w.session ≡ Some course → wanted course ≡ Some poll → IsOrderly base_of (polled w course poll)
 IsOrderly-polled base_of w course poll is there wants =
@@ -222,6 +227,7 @@ module _ (base_of : ℕ → ℕ) (number : ℕ) (h : History) (taken : List Item
             (numbered-end h course.base course.sent all.0 some (sent ∙ ap length all.1));
       }
 
+  -- so what a session publishes is its oldest unsent event, or else the end mark, under the tag that comes next
   publish_fits : (event : Option Event) (packet : Packet) → slice_get course.offered (course.sent - 1) ≡ event
       → publish_packet course event ≡ Some packet → IsFit h base_of course packet
   publish_fits (Some event) packet there is =
@@ -237,6 +243,7 @@ module _ (base_of : ℕ → ℕ) (number : ℕ) (h : History) (taken : List Item
       subst (IsFit h base_of course) ends.1
       (end_fits complete (eqb-true (tags_sent course) (length course.offered) tests.1))
 
+-- whatever packet a session sends next is of its own number, and has the item that stands under its tag
 packet_fits : (base_of : ℕ → ℕ) (number : ℕ) (h : History) (taken : List Item) (course : Course) (packet : Packet)
     → IsCurrent base_of number h taken course → next_packet course ≡ Some packet → IsFit h base_of course packet
 packet_fits base_of number h taken course packet current is =
@@ -250,6 +257,7 @@ packet_fits base_of number h taken course packet current is =
           refl (rw later at is)
     ]
 
+-- so connector and broker stay in order when a session sends a packet, whenever that may come
 pub IsOrderly-sending : (base_of : ℕ → ℕ) (w : WorldState) (course : Course) (packet : Packet) → IsOrderly base_of w
     → w.session ≡ Some course → next_packet course ≡ Some packet → IsOrderly base_of (sending w course packet)
 IsOrderly-sending base_of w course packet is there next =
@@ -264,14 +272,17 @@ IsOrderly-sending base_of w course packet is there next =
 
 -- ---- a confirm comes to it
 
+-- a tag that is found confirmed was so before, or it is the one that is added
 or_cases : (b c : Bool) → (b || c) ≡ true → (b ≡ true) ⊎ (c ≡ true)
 or_cases true c is = inl refl
 or_cases false c is = inr is
 
+-- behind the tag that is added there is no other to look at
 or_false : (b : Bool) → (b || false) ≡ b
 or_false true = refl
 or_false false = refl
 
+-- with the tag of a taken item confirmed to it, a session has still no tag confirmed whose item wasn't taken
 KeepsTo-confirmed : (h : History) (taken : List Item) (course : Course) (tag : ℕ) → KeepsTo h taken course
     → IsTakenAt taken (line_after h course.base) tag
     → KeepsTo h taken (record course { confirmed = course.confirmed ++ tag ∷ [] })
@@ -309,6 +320,8 @@ record IsNext (h : History) (taken : List Item) (course next : Course) : Type 0 
   base : next.base ≡ course.base
   keeps : KeepsTo h taken next
 
+-- whatever the broker says of a packet, of this session or one before it, the session keeps to the history;
+-- a confirm for another number isn't counted, so one that comes late does no harm
 IsNext-confirmed : (base_of : ℕ → ℕ) (number : ℕ) (h : History) (taken : List Item) (course : Course) (session : ℕ)
     (answer : Answer)
     → IsCurrent base_of number h taken course → IsTakenBy taken (line_after h (base_of session)) answer
@@ -330,6 +343,7 @@ IsNext-confirmed base_of number h taken course session Ignored current has =
 IsNext-confirmed base_of number h taken course session Broken current has =
     record { number = refl; base = refl; keeps = current.keeps }
 
+-- so connector and broker stay in order when a confirm comes to the session
 pub IsOrderly-confirmed : (base_of : ℕ → ℕ) (w : WorldState) (course : Course) (confirm : Confirm)
     → IsOrderly base_of w → w.session ≡ Some course → Contains w.confirms confirm
     → IsOrderly base_of (record w { session = Some (confirmed course confirm.session confirm.answer) })
@@ -342,7 +356,7 @@ IsOrderly-confirmed base_of w course confirm is there among =
 
 -- ---- it saves its progress
 
--- an event such that it and each earlier one is confirmed was taken
+-- every event up to a moment was taken, and the moment isn't past the last timestamp
 record Reaches (es : List Event) (taken : List Item) (t last : ℕ) : Type 0 where
   front : List Event
   back : List Event
@@ -360,6 +374,8 @@ module _ (es : List Event) (taken items : List Item) (last : ℕ) (course : Cour
       let has = confirms tag is in
       subst (Contains taken) (same_Some has.0 (OfEvent e) (sym has.1 ∙ there)) has.2
 
+  -- the progress of a session goes on from one confirmed event to the next,
+  -- and ends at the first that isn't confirmed, so that no event up to it was missed
   reaches_from : (tag moment : ℕ) (front tail rest : List Event) → SplitsAt es moment front (tail ++ rest)
       → AllByRecursion (λ e. Contains taken (OfEvent e)) front → moment ≤ last
       → ((i : ℕ) (e : Event) → slice_get tail i ≡ Some e → numbered items (tag + i) ≡ Some (OfEvent e))
@@ -404,6 +420,7 @@ reaches_progress w course last sound past pasts has keeps =
     ∙ ap (λ es. slice_get es i) (sym keeps.offered.whole)
     ∙ slice_get-append course.offered keeps.offered.rest i e at))
 
+-- so what a session saves is a moment up to which every event was taken: the next one may begin after it
 pub IsOrderly-saved : (base_of : ℕ → ℕ) (w : WorldState) (course : Course) → IsOrderly base_of w
     → w.session ≡ Some course → IsOrderly base_of (record w { held = Some (progress_of course) })
 IsOrderly-saved base_of w course is there =

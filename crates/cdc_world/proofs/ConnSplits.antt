@@ -16,15 +16,19 @@ pub record SplitsAt (es : List Event) (t : ℕ) (front back : List Event) : Type
   pub low : AllByRecursion (λ e. e.timestamp ≤ t) front
   pub rise : RiseFrom t back
 
+-- an event that is later than the moment is among those read after it
 is_later : (t n : ℕ) → t < n → nat_lt t n ≡ true
 is_later t n later = grind (arith, nat_tests)
 
+-- one that isn't later isn't among them
 is_not_later : (t n : ℕ) → n ≤ t → nat_lt t n ≡ false
 is_not_later t n early = grind (arith, nat_tests)
 
+-- what is read after the moment is later
 later_from : (t n : ℕ) → nat_lt t n ≡ true → t < n
 later_from t n is = grind (arith, nat_tests)
 
+-- and what isn't read is up to the moment
 early_from : (t n : ℕ) → nat_lt t n ≡ false → n ≤ t
 early_from t n is = grind (arith, nat_tests)
 

@@ -43,9 +43,11 @@ record Adds (h g : History) : Type 0 where
   later : AllByRecursion (λ e. h.last < e.timestamp) new
   last : h.last ≤ g.last
 
+-- what leaves the events as they are adds none, and only time goes on
 Adds-none : (h g : History) → events g ≡ events h → h.last ≤ g.last → Adds h g
 Adds-none h g same last = record { new = []; whole = same ∙ sym (append-nil (events h)); later = tt; last = last }
 
+-- what is added first stands before what is added then, so that requests may be taken one by one
 Adds-trans : (h g k : History) → Adds h g → Adds g k → Adds h k
 Adds-trans h g k first second = record {
   new = first.new ++ second.new;
@@ -58,18 +60,22 @@ Adds-trans h g k first second = record {
 
 -- ---- a single request
 
+-- entries up to the last timestamp are up to any later one
 past-later : (h : History) (t : ℕ) → IsRegular h → h.last ≤ t → AllByRecursion (λ e. e.timestamp ≤ t) h.entries
 past-later h t is before =
     AllByRecursion-weaker (λ e. e.timestamp ≤ h.last) (λ e. e.timestamp ≤ t) (λ e past. omega (arith, past))
     h.entries is.past
 
+-- a refused request takes its timestamp and tells nothing
 Adds-timed : (h : History) (t : ℕ) → h.last < t → Adds h (timed h t)
 Adds-timed h t later = Adds-none h (timed h t) refl (omega (arith, later))
 
+-- an account that is opened has no event, and leaves those that there are
 Adds-with_account : (h : History) (o : Opened) → IsRegular h → h.last < o.timestamp → Adds h (with_account h o)
 Adds-with_account h o is later =
     Adds-none h (with_account h o) (events-with_account h o is.known) (omega (arith, later))
 
+-- an accepted transfer and an expiry each add their own event, later than all before
 Adds-pushed : (h : History) (e : Entry) → AllByRecursion (λ x. x.timestamp ≤ h.last) h.entries → h.last < e.timestamp
     → Adds h (pushed h e)
 Adds-pushed h e past later = record {
@@ -83,6 +89,7 @@ Adds-pushed h e past later = record {
 IsRegular-timed : (h : History) (t : ℕ) → IsRegular h → h.last < t → IsRegular (timed h t)
 IsRegular-timed h t is later = record { past = past-later h t is (omega (arith, later)); known = is.known }
 
+-- an account that is opened takes none away, so both accounts of each entry are still there
 IsRegular-with_account : (h : History) (o : Opened) → IsRegular h → h.last < o.timestamp → IsRegular (with_account h o)
 IsRegular-with_account h o is later = record {
   past = past-later h o.timestamp is (omega (arith, later));
@@ -90,6 +97,7 @@ IsRegular-with_account h o is later = record {
       h.entries is.known;
 }
 
+-- a new entry is the last one, and the next request begins after it
 past-pushed : (h : History) (e : Entry) → AllByRecursion (λ x. x.timestamp ≤ h.last) h.entries → h.last < e.timestamp
     → AllByRecursion (λ x. x.timestamp ≤ e.timestamp) (h.entries ++ e ∷ [])
 past-pushed h e past later =
@@ -117,6 +125,7 @@ next_account h a t is later true = record {
 next_account h a t is later false =
     record { regular = IsRegular-timed h t is later; adds = Adds-timed h t later; at = refl }
 
+-- a batch of accounts keeps the events that were there, whichever of its requests are accepted
 Adds-accounts_from : (h : History) (t : ℕ) (rs : List NewAccount) → IsRegular h → h.last < t
     → Adds h (accounts_from features h t rs).1
 Adds-accounts_from h t [] is later = Adds-none h h refl (omega arith)
@@ -133,6 +142,7 @@ record IsNextTransfer (h : History) (t : ℕ) (g : History) : Type 0 where
   adds : Adds h g
   at : g.last ≡ t
 
+-- an accepted request is an entry at its timestamp; a refused one takes the timestamp alone
 next_transfer : (h : History) (r : NewTransfer) (t : ℕ) → AllByRecursion (λ e. e.timestamp ≤ h.last) h.entries
     → h.last < t → (b : Bool)
     → IsNextTransfer h t (if b then pushed h (entry_of h r t) else timed h t)
@@ -148,6 +158,7 @@ next_transfer h r t past later false = record {
   at = refl;
 }
 
+-- a batch of transfers keeps the events that were there, and what it adds is later
 Adds-transfers_from : (h : History) (t : ℕ) (rs : List NewTransfer)
     → AllByRecursion (λ e. e.timestamp ≤ h.last) h.entries → h.last < t
     → Adds h (transfers_from features h t rs).1
@@ -159,6 +170,7 @@ Adds-transfers_from h t (r ∷ rest) past later =
     Adds-trans h g (transfers_from features g (t + 1) rest).1 next.adds
     (Adds-transfers_from g (t + 1) rest next.past (omega (arith, next.at)))
 
+-- so does a pulse, with an expiry for each transfer that is due
 Adds-expiries_from : (h : History) (t : ℕ) (ps : List Transfer) → AllByRecursion (λ e. e.timestamp ≤ h.last) h.entries
     → h.last < t → Adds h (expiries_from h t ps)
 Adds-expiries_from h t [] past later = Adds-none h h refl (omega arith)
@@ -170,6 +182,7 @@ Adds-expiries_from h t (p ∷ ps) past later =
 
 -- ---- a batch
 
+-- so every batch that a ledger takes adds later events to those that were there, or none
 Adds-taken : (h : History) (b : Batch) → IsSound h → Adds h (taken features h b).1
 Adds-taken h (batch.Accounts now items) sound =
     Adds-accounts_from h (base h now) items (record { past = sound.past; known = sound.known }) (omega arith)
@@ -177,6 +190,7 @@ Adds-taken h (batch.Transfers now items) sound =
     Adds-transfers_from h (base h now) items sound.past (omega arith)
 Adds-taken h (batch.Pulse now) sound = Adds-expiries_from h (base h now) (due h now) sound.past (omega arith)
 
+-- a batch that is answered wasn't refused, and what it leaves is what its requests make
 answered_is : (refusal : Option BatchError) (answer found : BatchResults × History) → answered refusal answer ≡ Ok found
     → answer ≡ found
 answered_is None answer found e = cc

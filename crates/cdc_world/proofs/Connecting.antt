@@ -33,10 +33,12 @@ pub record IsCourse (kept : Kept) (session : Option Course) : Type 0 where
   pub is : session ≡ Some course
   pub stands : StandsFor kept course
 
+-- a session that is kept stands for a course that is there
 course_found : (kept : Kept) (session : Option Course) → SessionStands (Some kept) session → IsCourse kept session
 course_found kept None stands = absurd stands
 course_found kept (Some course) stands = record { course = course; is = refl; stands = stands }
 
+-- so a step finds the course that the kept session stands for
 course_of : (p : Parts) (w : WorldState) (kept : Kept) → Stands p w → p.session ≡ Some kept → IsCourse kept w.session
 course_of p w kept st is =
     course_found kept w.session (subst (λ (s : Option Kept). SessionStands s w.session) is st.session)
@@ -46,6 +48,7 @@ no_course_found : (session : Option Course) → SessionStands None session → s
 no_course_found None stands = refl
 no_course_found (Some course) stands = absurd stands
 
+-- so a start finds that the connector is down where no session is kept
 no_course : (p : Parts) (w : WorldState) → Stands p w → p.session ≡ None → w.session ≡ None
 no_course p w st is = no_course_found w.session (subst (λ (s : Option Kept). SessionStands s w.session) is st.session)
 
@@ -191,7 +194,7 @@ with_held p w held honest failed' held' st same = record {
   seats = st.seats;
 }
 
--- a save is tried where there is a session
+-- a save is done where there is a session, and its progress is held then
 saves_next : (w : WorldState) (course : Course) → w.session ≡ Some course
     → next_by offered w Save ≡ done (record w { held = Some (progress_of course) })
 saves_next w course is =
@@ -210,6 +213,7 @@ save_done p kept held honest' failed' is saved honest w st =
       ),
     )
 
+-- where a session runs, nothing but the store or memory can keep it from saving its progress
 save_tried : (w : WorldState) (course : Course) → w.session ≡ Some course → IsTried (next_by offered w Save)
 save_tried w course is = subst IsTried (sym (saves_next w course is)) tt
 
@@ -265,14 +269,17 @@ starts_next : (w : WorldState) (saved : Option Saved) → w.session ≡ None →
     → next_by offered w Start ≡ started w saved
 starts_next w saved down begins = ap (starting w) down ∙ ap (started w) begins
 
+-- a session that is about to start is refused only where there is no further number for it
 started_tried : (w : WorldState) (saved : Option Saved) → IsTried (started w saved)
 started_tried w None = tt
 started_tried w (Some saved) = tt
 
+-- so where the connector is down a start may fail for the store's sake or for want of memory
 start_tried : (w : WorldState) → w.session ≡ None → IsTried (next_by offered w Start)
 start_tried w down =
     subst IsTried (sym (starts_next w (begun w.held) down refl)) (started_tried w (begun w.held))
 
+-- a session starts over an honest store: it stands for a new course under the record that is now held
 pub start_done : (p : Parts) (kept : Kept) (held : Option Saved) (honest : Bool) (failed' : ℕ) → p.session ≡ None
     → HasStarted p.honest p.held held p.failed failed' p.window kept
     → Moves p Start (Ok Done) (record p { held = held; honest = honest; failed = failed'; session = Some kept })

@@ -54,9 +54,11 @@ connected transfers =
 abbrev sent : List Step
 sent = Poll ∷ Publish ∷ []
 
+-- and that packet, under its number, comes to the broker
 abbrev taken : ℕ → List Step
 taken packet = sent ++ Arrive packet ∷ []
 
+-- and the broker's confirm of it, under its number, comes to the session
 abbrev told : ℕ → ℕ → List Step
 told packet confirm = taken packet ++ Answer confirm ∷ []
 
@@ -80,6 +82,7 @@ abbrev empty_and_closed : List Step
 empty_and_closed =
     CloseLedger ∷ Start ∷ Publish ∷ Arrive 1 ∷ told 2 1 ++ Send 1 ∷ Take 1 ∷ []
 
+-- the subscriber has ended with an empty book, and the first session is held with moment 0
 tells_end : shown (plays offered start empty_and_closed) ≡ (
   (10, None),
   Some (record { session = 1; timestamp = 0 }),
@@ -99,11 +102,13 @@ tells_no_end = refl
 abbrev two_transfers : List NewTransfer
 two_transfers = transfer 1 5 ∷ transfer 2 7 ∷ []
 
+-- its steps: the ledger closes only once both events are confirmed, and all three entries go out at the end
 abbrev whole_way : List Step
 whole_way =
     connected two_transfers ++ told 2 1 ++ told 3 2 ++ Save ∷ CloseLedger ∷ told 4 3
     ++ Send 1 ∷ Send 1 ∷ Send 1 ∷ Take 1 ∷ Take 1 ∷ Take 1 ∷ []
 
+-- the book shows both amounts, the subscriber has ended, and the second event's moment is held
 tells_all : shown (plays offered start whole_way) ≡ (
   (25, None),
   Some (record { session = 1; timestamp = 2001 }),
@@ -117,6 +122,7 @@ tells_all = refl
 abbrev refused : WorldState → List Step → ℕ × Option StepError
 refused w steps = (plays offered w steps).0
 
+-- each with the number of steps that were done before it
 refuses : (refused start (CloseLedger ∷ Submit (batch.Pulse 5) ∷ []) ≡ (1, Some (Refused LedgerClosed)))
     × (refused start (Start ∷ Start ∷ []) ≡ (1, Some NotEnabled))
     × (refused (record start { held = Some (record { session = 18446744073709551615; timestamp = 7 }) }) (Start ∷ [])
@@ -138,6 +144,7 @@ late_packets =
     connected (transfer 1 100 ∷ []) ++ sent ++ Crash ∷ Start ∷ Publish ∷ Arrive 3 ∷ Arrive 1 ∷ Arrive 2 ∷ taken 4
     ++ Send 1 ∷ Take 1 ∷ Send 1 ∷ []
 
+-- the event is in the queue once, as the second session sent it: there is nothing to hand out after it
 passes_over_late : shown (plays all_offered start late_packets) ≡ (
   (18, Some NotEnabled),
   Some (record { session = 2; timestamp = 0 }),
@@ -151,6 +158,7 @@ saved_early =
     connected two_transfers ++ sent ++ Save ∷ Crash ∷ Start ∷ Publish ∷ Arrive 3 ∷ told 4 1 ++ told 5 2
     ++ Save ∷ Send 1 ∷ Take 1 ∷ Send 1 ∷ Take 1 ∷ []
 
+-- the first save holds moment 0, so both events come from the second session; its own save has the last one
 saves_confirmed_alone : shown (plays all_offered start saved_early) ≡ (
   (25, None),
   Some (record { session = 2; timestamp = 2001 }),
@@ -162,12 +170,14 @@ saves_confirmed_alone = refl
 abbrev four_transfers : List NewTransfer
 four_transfers = transfer 1 1 ∷ transfer 2 2 ∷ transfer 3 3 ∷ transfer 4 4 ∷ []
 
+-- its steps: three entries go out, the queue goes back, all four go out, and seven deliveries are taken
 abbrev handed_out_again : List Step
 handed_out_again =
     connected four_transfers ++ told 2 1 ++ told 3 2 ++ told 4 3 ++ told 5 4
     ++ Send 1 ∷ Send 1 ∷ Send 1 ∷ Rewind 1 ∷ Send 1 ∷ Send 1 ∷ Send 1 ∷ Send 1
     ∷ Take 1 ∷ Take 1 ∷ Take 1 ∷ Take 1 ∷ Take 1 ∷ Take 1 ∷ Take 1 ∷ []
 
+-- of the seven deliveries four are applied, and each amount is in the book once
 applies_once : shown (plays all_offered start handed_out_again) ≡ (
   (36, None),
   Some (record { session = 1; timestamp = 0 }),
@@ -181,12 +191,15 @@ abbrev eight_transfers : List NewTransfer
 eight_transfers =
     four_transfers ++ transfer 5 5 ∷ transfer 6 6 ∷ transfer 7 7 ∷ transfer 8 8 ∷ []
 
+-- its steps: the first session saves after two events and crashes when the fifth was taken;
+-- the second begins with the third, and has sent the seventh when the late confirm has the same tag
 abbrev crashed_between : List Step
 crashed_between =
     connected eight_transfers ++ told 2 1 ++ told 3 2 ++ Save ∷ told 4 3 ++ told 5 4 ++ taken 6
     ++ Crash ∷ Start ∷ Publish ∷ Arrive 7 ∷ told 8 6 ++ told 9 7 ++ told 10 8 ++ told 11 9
     ++ sent ++ Answer 5 ∷ Save ∷ []
 
+-- the sixth event's moment is held, not the seventh's
 goes_on_from_saved : shown (plays all_offered start crashed_between) ≡ (
   (49, None),
   Some (record { session = 2; timestamp = 2005 }),
@@ -199,6 +212,7 @@ abbrev closed_between : List Step
 closed_between =
     connected two_transfers ++ told 2 1 ++ taken 3 ++ Send 1 ∷ Send 1 ∷ Take 1 ∷ Close 1 ∷ Take 1 ∷ Ack 1 2 ∷ []
 
+-- the second event is taken, but book, count and last timestamp are those of the first
 stays_closed : shown (plays all_offered start closed_between) ≡ (
   (18, None),
   Some (record { session = 1; timestamp = 0 }),
@@ -213,6 +227,7 @@ broken_off =
     connected two_transfers ++ told 2 1 ++ taken 3 ++ Send 1 ∷ Send 1 ∷ Take 1 ∷ Break 1 ∷ Send 1 ∷ Ack 1 1 ∷ Send 1
     ∷ Take 1 ∷ Take 1 ∷ Rewind 1 ∷ Ack 1 3 ∷ Send 1 ∷ []
 
+-- the last hand-out isn't enabled, and of the three deliveries that were taken two are applied
 lifts_cursor : shown (plays all_offered start broken_off) ≡ (
   (23, Some NotEnabled),
   Some (record { session = 1; timestamp = 0 }),

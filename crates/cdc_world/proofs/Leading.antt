@@ -25,6 +25,7 @@ LeadsBy-push offers w v w' [] step answer leads next =
 LeadsBy-push offers w v w' (s ∷ steps) step answer (first, between, here, rest) next =
     (first, between, here, LeadsBy-push offers between v w' steps step answer rest next)
 
+-- so a step leads on to a world that is reached too, whatever its answer
 pub IsReached-next : (offers : Offered) (w : WorldState) (step : Step) (answer : Result Did StepError)
     (w' : WorldState) → IsReachedBy offers w → NextBy offers w step answer w' → IsReachedBy offers w'
 IsReached-next offers w step answer w' reached next = record {

@@ -31,16 +31,19 @@ pub record IsPlace (i count place : ℕ) : Type 0 where
   pub here : place ≡ i - 1
   pub inside : i - 1 < count
 
+-- a number above 0 has a place where the list is long enough
 place_above : (i count : ℕ) → place_in (suc i) count ≡ (if nat_lt (suc i - 1) count then Some (suc i - 1) else None)
 place_above i count =
     ap (λ (b : Bool). if b then None else (if nat_lt (suc i - 1) count then Some (suc i - 1) else None)) (above_none i)
 
+-- a place that was found is the one before the number, and within the list
 place_cases : (i count place : ℕ) (b : Bool) → nat_lt (suc i - 1) count ≡ b
     → (if b then Some (suc i - 1) else None) ≡ Some place → IsPlace (suc i) count place
 place_cases i count place true below found =
     record { above = omega arith; here = cc; inside = grind arith }
 place_cases i count place false below found = cc
 
+-- so where the code finds a place for a subscriber's number, that subscriber is there
 pub place_is : (i count place : ℕ) → place_in i count ≡ Some place → IsPlace i count place
 place_is zero count place found = cc
 place_is (suc i) count place found =

@@ -33,6 +33,7 @@ DoesAll_push w between w' [] step did does next =
 DoesAll_push w between w' (first ∷ steps) step did does next =
     (does.0, does.1, (does.2.0, DoesAll_push does.1 between w' steps step did does.2.1 next))
 
+-- so the loop of a play may go on once another step is done
 pub HasDone-more : (p p' p'' : Parts) (steps : List Step) (done : ℕ) (step : Step) (did : Did) → done < length steps
     → step ≡ get_or steps done step → HasDone p p' steps done → Moves p' step (Ok did) p'' → p''.honest ≡ p'.honest
     → HasDone p p'' steps (done + 1)
@@ -82,6 +83,7 @@ Plays-stopped p p' p'' steps done step why inside here has moves honest w st =
       ),
     )
 
+-- once all steps are done none is left to be refused
 drop_whole : {X : Type 0} (xs : List X) → drop (length xs) xs ≡ []
 drop_whole [] = refl
 drop_whole (x ∷ xs) = drop_whole xs

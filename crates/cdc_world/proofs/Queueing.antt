@@ -17,6 +17,7 @@ use Rattle.cdc_world.specs.Worlds.{Subscription}
 abbrev requeued : Item → QueueView → QueueView
 requeued item v = record v { items = v.items ++ (if takes_item v.binding item then item ∷ [] else []) }
 
+-- a queue is seen with the item at its back where its binding takes it, and else as it was
 with_item_view : (b : Bool) (item : Item) (q : QueueState)
     → view_of (with_item (if b then Some item else None) q)
     ≡ record (view_of q) { items = q.items ++ (if b then item ∷ [] else []) }
@@ -50,6 +51,7 @@ pub items_of-published : (accepted : List Packet) (session tag : ℕ) (item : It
     → items_of (accepted ++ Publish session tag item ∷ []) ≡ items_of accepted ++ item ∷ []
 items_of-published accepted session tag item = filter_map-append packet_item accepted (Publish session tag item ∷ [])
 
+-- a connect has no item, so nothing joins the queues
 pub items_of-connected : (accepted : List Packet) (session : ℕ)
     → items_of (accepted ++ Connect session ∷ []) ≡ items_of accepted
 items_of-connected accepted session =
@@ -60,6 +62,7 @@ pub current_session-push : (accepted : List Packet) (packet : Packet)
     → current_session (accepted ++ packet ∷ []) ≡ session_after (current_session accepted) packet
 current_session-push accepted packet = fold-append session_after 0 accepted (packet ∷ [])
 
+-- the same of the tag that is taken next
 pub expected_tag-push : (accepted : List Packet) (packet : Packet)
     → expected_tag (accepted ++ packet ∷ []) ≡ expected_after (expected_tag accepted) packet
 expected_tag-push accepted packet = fold-append expected_after None accepted (packet ∷ [])

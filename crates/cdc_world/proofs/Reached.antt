@@ -30,6 +30,7 @@ pub faithful-reached : (w : WorldState) (i : ℕ) (s : Subscription) → IsReach
     → numbered w.subscriptions i ≡ Some s → IsFaithful w s
 faithful-reached = faithful-reached_by offered
 
+-- and of what a subscriber keeps, so that its readers tell what it has applied
 pub kept-reached : (w : WorldState) (i : ℕ) (s : Subscription) → IsReached w
     → numbered w.subscriptions i ≡ Some s → kept_of s.heard ≡ kept_from s
 kept-reached = kept-reached_by offered

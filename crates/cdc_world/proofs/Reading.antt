@@ -29,6 +29,7 @@ pub events_after-later : (after : ℕ) (e : Event) (es : List Event) → after <
 events_after-later after e es later =
     let t : nat_lt after e.timestamp ≡ true = grind arith in rw t refl
 
+-- an event that isn't later than the moment isn't read
 pub events_after-earlier : (after : ℕ) (e : Event) (es : List Event) → e.timestamp ≤ after
     → events_after after (e ∷ es) ≡ events_after after es
 events_after-earlier after e es earlier =
@@ -60,6 +61,7 @@ take_rise low (suc n) (e ∷ es) rise = (rise.0, take_rise e.timestamp n es rise
 abbrev FitsTime : Event → Type 0
 FitsTime e = e.timestamp < 2 ^ 63
 
+-- no event's timestamp is past 63 bits, since the last one that the ledger gave out isn't
 events_fit : (last : ℕ) (es : List Event) (entries : List Entry)
     → map (λ e. e.timestamp) es ≡ map (λ e. e.timestamp) entries
     → AllByRecursion (λ e. e.timestamp ≤ last) entries → last ≤ max_timestamp → AllByRecursion FitsTime es
@@ -70,6 +72,7 @@ events_fit last (e ∷ es) (x ∷ entries) same past within =
     let rest : map (λ e. e.timestamp) es ≡ map (λ e. e.timestamp) entries = cc in
     (omega (arith, past.0), events_fit last es entries rest past.1 within)
 
+-- nor is that of any that is read after a moment
 fit_after : (after : ℕ) (es : List Event) → AllByRecursion FitsTime es → AllByRecursion FitsTime (events_after after es)
 fit_after after [] fit = tt
 fit_after after (e ∷ es) fit =
@@ -79,11 +82,13 @@ fit_after after (e ∷ es) fit =
     (λ earlier. subst (AllByRecursion FitsTime) (sym (events_after-earlier after e es (grind arith)))
     (fit_after after es fit.1))
 
+-- nor that of any of the first of these, which are all that a session is offered
 fit_take : (n : ℕ) (es : List Event) → AllByRecursion FitsTime es → AllByRecursion FitsTime (take n es)
 fit_take zero es fit = tt
 fit_take (suc n) [] fit = tt
 fit_take (suc n) (e ∷ es) fit = (fit.0, fit_take n es fit.1)
 
+-- so each of them fits, by its place in what is offered
 all_fit : (es : List Event) → AllByRecursion FitsTime es → (k : ℕ) (d : Event) → k < length es
     → FitsTime (get_or es k d)
 all_fit [] fit k d inside = absurd (omega arith)
@@ -151,6 +156,7 @@ read_rises : (t : ℕ) (es : List Event) → RiseAfter t es → t ≤ last_times
 read_rises t [] rise = omega arith
 read_rises t (e ∷ es) rise = omega (arith, read_rises e.timestamp es rise.1, rise.0)
 
+-- one event less, and one less to read, doesn't change whether the read takes them all
 le_suc : (a b : ℕ) → nat_le (suc a) (suc b) ≡ nat_le a b
 le_suc a b = grind arith
 
@@ -167,6 +173,7 @@ take_whole t zero (e ∷ es) rise =
     left ∙ sym right
 take_whole t (suc n) (e ∷ es) rise = take_whole e.timestamp n es rise.1 ∙ sym (le_suc (length es) n)
 
+-- a read ends no earlier than the moment it begins after, so that moment may count as the last event
 max_le : (after last read : ℕ) → after ≤ read → nat_le last read ≡ nat_le (max after last) read
 max_le after last read below = grind arith
 
@@ -217,6 +224,7 @@ pub last_read_some : (t : ℕ) (es : List Event) (e : Event) → slice_get es (l
 last_read_some t [] e found = cc
 last_read_some t (x ∷ es) e found = sym (last_timestamp_from-slice_get (x ∷ es) e found)
 
+-- where nothing was read, the read has come no further than where it began
 pub last_read_none : (t : ℕ) (es : List Event) → slice_get es (length es - 1) ≡ None → t ≡ last_timestamp_from t es
 last_read_none t [] found = refl
 last_read_none t (x ∷ es) found = absurd (found_within (x ∷ es) (length (x ∷ es) - 1) (omega arith) found)

@@ -54,6 +54,7 @@ refusal_is : (answer : Result Did StepError) (why : StepError) → IsErrAnd answ
 refusal_is (Ok did) why is = absurd is
 refusal_is (Err e) why is = ap Err is
 
+-- so a call that gives up on the error of a part is a refused step from what was kept as it began
 pub at_entry_err : {q p new : Parts} (step : Step) (answer : Result Did StepError) (why : StepError)
     → IsErrAnd answer (λ e. e ≡ why) → q ≡ p → Moves q step (Err why) new → Moves p step answer new
 at_entry_err {q} {p} {new} step answer why is same moves =
@@ -121,10 +122,12 @@ connection_after : (b : BrokerState) (packet : Packet) → (after_packet b packe
 connection_after b (Connect session) = refl
 connection_after b (Publish session tag item) = refl
 
+-- the tag that it takes next
 expected_is : (b : BrokerState) (packet : Packet) → (after_packet b packet).expected ≡ expected_after b.expected packet
 expected_is b (Connect session) = refl
 expected_is b (Publish session tag item) = refl
 
+-- its queues, of which each has the packet's item where it belongs to it
 queues_are : (b : BrokerState) (accepted : List Packet) (packet : Packet) (subscriptions : List Subscription)
     → map view_of b.queues ≡ map (queue_for (items_of accepted)) subscriptions
     → map view_of (after_packet b packet).queues ≡ map (queue_for (items_of (accepted ++ packet ∷ []))) subscriptions
@@ -145,6 +148,7 @@ arrives w k packet taken next here is =
     ap₂ (λ (b : Bool) (found : Option Packet). (if b then found else None) >>= arrived w) next there
     ∙ ap (λ (b : Bool). Ok (Arrived b, record (taking_in w packet b) { arrivals = w.arrivals + 1 })) is
 
+-- a packet that comes and is taken: broker and confirms go on as the world's packets and confirms do
 arrive_taken : (p : Parts) (packet : Packet) (k : ℕ) → slice_get p.packets p.arrivals ≡ Some packet
     → (k == p.arrivals + 1) ≡ true
     → takes_packet p.broker packet ≡ true
@@ -180,6 +184,7 @@ arrive_taken p packet k here next takes honest w st = (
   ),
 )
 
+-- one that comes and is passed over: it has come, and nothing else changes
 arrive_passed : (p : Parts) (packet : Packet) (k : ℕ) → slice_get p.packets p.arrivals ≡ Some packet
     → (k == p.arrivals + 1) ≡ true
     → takes_packet p.broker packet ≡ false
@@ -232,6 +237,7 @@ pub record IsOf (p : Parts) (w : WorldState) (i : ℕ) (s : SeatState) : Type 0 
   pub there : slice_get w.subscriptions (i - 1) ≡ Some subscription
   pub seat : seat_of subscription ≡ s
 
+-- so that a step of a subscriber, which acts on a seat, acts on the subscription of the same number
 pub seat_is : (p : Parts) (w : WorldState) (i : ℕ) (s : SeatState) → Stands p w → 0 < i
     → slice_get p.seats (i - 1) ≡ Some s → IsOf p w i s
 seat_is p w i s st above here =
@@ -346,11 +352,13 @@ seats_same seats seats' place s s' here same set =
     set ∙ ap (slice_set seats place) (same ∙ sym (get_or_from_slice_get seats place s s here))
     ∙ set-get_or seats place s
 
+-- so a step may put back the seat that it leaves as it was
 with_seats_same : (p : Parts) (step : Step) (answer : Result Did StepError) (seats' : List SeatState) → seats' ≡ p.seats
     → Moves p step answer p → Moves p step answer (record p { seats = seats' })
 with_seats_same p step answer seats' same moves =
     subst (λ (seats : List SeatState). Moves p step answer (record p { seats = seats })) (sym same) moves
 
+-- where nothing is on its way to a subscriber it can't take anything
 untaken_none : (p : Parts) (i : ℕ) (s : SeatState) → 0 < i → slice_get p.seats (i - 1) ≡ Some s → s.flight ≡ []
     → Moves p (Take i) (Err NotEnabled) p
 untaken_none p i s above here none honest w st =
@@ -369,6 +377,7 @@ untaken_none p i s above here none honest w st =
     (ap (λ (found : Option Subscription). found >>= (λ s. first_flight s.flight >>= after s)) of.numbered_so
     ∙ ap (λ (flight : List Delivery). first_flight flight >>= after sub) empty)
 
+-- where something is, only want of memory keeps it from taking that
 untaken_some : (p : Parts) (i : ℕ) (s : SeatState) (delivery : Delivery) (rest : List Delivery) → 0 < i
     → slice_get p.seats (i - 1) ≡ Some s → s.flight ≡ delivery ∷ rest → Moves p (Take i) (Err OutOfMemory) p
 untaken_some p i s delivery rest above here first honest w st =
@@ -377,6 +386,7 @@ untaken_some p i s delivery rest above here first honest w st =
     let flight : sub.flight ≡ delivery ∷ rest = ap (λ (t : SeatState). t.flight) of.seat ∙ first in
     lacking p w _ (Take i) _ st refl (takes_next w i sub delivery rest of.numbered_so flight)
 
+-- so a take that is refused, for either reason, leaves the seat and all that is kept as they were
 untaken : (p : Parts) (i : ℕ) (s s' : SeatState) (flight : List Delivery) (why : StepError) → 0 < i
     → slice_get p.seats (i - 1) ≡ Some s → s.flight ≡ flight → TakesAt s flight (Err why) s'
     → (s' ≡ s) × Moves p (Take i) (Err why) p
@@ -412,6 +422,7 @@ queue_is p w i s st there =
 abbrev pub delivery_of : QueueView → Option Delivery
 delivery_of v = option_map (λ item. record { position = v.cursor; item = item }) (slice_get v.items (v.cursor - 1))
 
+-- so the broker hands out to a subscriber just what comes next in its queue
 pub deliveries_same : (p : Parts) (w : WorldState) (i : ℕ) (s : Subscription) → Stands p w
     → slice_get w.subscriptions (i - 1) ≡ Some s → next_of_queue (queue_of p.broker i) ≡ next_delivery w s
 deliveries_same p w i s st there = ap delivery_of (queue_is p w i s st there)
@@ -495,6 +506,7 @@ unsent_none p i s above here none honest w st =
     unable p w (Send i) st
     (sends_next w i sub None of.numbered_so (sym (deliveries_same p w i sub st of.there) ∙ none))
 
+-- one that has something at its cursor doesn't for want of memory alone
 unsent_some : (p : Parts) (i : ℕ) (s : SeatState) (delivery : Delivery) → 0 < i → slice_get p.seats (i - 1) ≡ Some s
     → next_of_queue (queue_of p.broker i) ≡ Some delivery → Moves p (Send i) (Err OutOfMemory) p
 unsent_some p i s delivery above here some honest w st =
@@ -503,6 +515,7 @@ unsent_some p i s delivery above here some honest w st =
     lacking p w _ (Send i) _ st refl
     (sends_next w i sub (Some delivery) of.numbered_so (sym (deliveries_same p w i sub st of.there) ∙ some))
 
+-- so a hand-out that is refused, for either reason, leaves broker, seat and all that is kept as they were
 unsent : (p : Parts) (i : ℕ) (s s' : SeatState) (b' : BrokerState) (found : Option Delivery) (why : StepError) → 0 < i
     → slice_get p.seats (i - 1) ≡ Some s → next_of_queue (queue_of p.broker i) ≡ found
     → HandsAt i p.broker s found (Err why) b' s' → (b' ≡ p.broker) × ((s' ≡ s) × Moves p (Send i) (Err why) p)
@@ -522,6 +535,7 @@ unsent p i s s' b' (Some delivery) why above here is hands = (
   ),
 )
 
+-- the same of the step, which puts the seat back among the others
 pub send_refused : (p : Parts) (i : ℕ) (s s' : SeatState) (b' : BrokerState) (seats' : List SeatState)
     (why : StepError) → 0 < i
     → slice_get p.seats (i - 1) ≡ Some s → HandsAt i p.broker s (next_of_queue (queue_of p.broker i)) (Err why) b' s'
@@ -535,23 +549,28 @@ send_refused p i s s' b' seats' why above here hands set =
 module _ (p : Parts) (i count place : ℕ) (items : List Seat) (seat seat' : Seat) (same : p.seats ≡ map seat_state items)
     (counted : count ≡ length items) (found : place_in i count ≡ Some place) (got : seat
     ≡ get_or items place seat) where
+  -- the code's place for a subscriber's number
   is_at : IsPlace i count place
   is_at = place_is i count place found
 
+  -- the seat that the code found there is that of the number
   seat_at : slice_get p.seats (i - 1) ≡ Some (seat_state seat)
   seat_at =
       let at = is_at in
       let inside : place < length items = omega (arith, at.inside, at.here, counted) in
       ap₂ (λ (ss : List SeatState) (k : ℕ). slice_get ss k) same (sym at.here) ∙ seat_here items place seat inside got
 
+  -- and the one that it puts there is put under the same number
   seats_set : map seat_state (slice_set items place seat') ≡ slice_set p.seats (i - 1) (seat_state seat')
   seats_set =
       map-set seat_state items place seat'
       ∙ ap₂ (λ (ss : List SeatState) (k : ℕ). slice_set ss k (seat_state seat')) (sym same) is_at.here
 
+  -- the broker is asked under that number too
   number_is : place + 1 ≡ i
   number_is = let at = is_at in omega (arith, at.above, at.here)
 
+  -- so that a queue hands out to the seat that the code found
   pub send_at : (b' : BrokerState)
       → HandsAt (place + 1) p.broker (seat_state seat) (next_of_queue (queue_of p.broker (place + 1))) (Ok tt) b'
       (seat_state seat')
@@ -564,6 +583,7 @@ module _ (p : Parts) (i count place : ℕ) (items : List Seat) (seat seat' : Sea
       number_is hands)
       seats_set
 
+  -- or hands nothing out
   pub send_at_refused : (b' : BrokerState) (why : StepError)
       → HandsAt (place + 1) p.broker (seat_state seat) (next_of_queue (queue_of p.broker (place + 1)))
       (Err why) b' (seat_state seat')
@@ -576,6 +596,7 @@ module _ (p : Parts) (i count place : ℕ) (items : List Seat) (seat seat' : Sea
       number_is hands)
       seats_set
 
+  -- and its subscriber takes a delivery
   pub take_at : (taking : Taking) → TakesAt (seat_state seat) (seat_state seat).flight (Ok taking) (seat_state seat')
       → Moves p (Take i) (Ok (Took taking)) (record p { seats = map seat_state (slice_set items place seat') })
   take_at taking takes =
@@ -583,6 +604,7 @@ module _ (p : Parts) (i count place : ℕ) (items : List Seat) (seat seat' : Sea
       (slice_set items place seat')) taking is_at.above seat_at
       takes seats_set
 
+  -- or takes nothing
   pub take_at_refused : (why : StepError) → TakesAt (seat_state seat) (seat_state seat).flight (Err why)
       (seat_state seat')
       → Moves p (Take i) (Err why) (record p { seats = map seat_state (slice_set items place seat') })
@@ -612,12 +634,14 @@ new_counts bindings count items b counted seats is =
     sym (length-map items seat_state) ∙ (ap length seats ∙ (length-replicate count empty_seat ∙ (counted
     ∙ (sym (length-map bindings empty_queue) ∙ ap (λ (b : BrokerState). length b.queues) (sym is)))))
 
+-- in a new world each queue of the broker is empty, as each subscription's is
 new_queues : (bindings : List Arguments)
     → map view_of (map empty_queue bindings) ≡ map (queue_for []) (map new_subscription bindings)
 new_queues [] = refl
 new_queues (binding ∷ bindings) = ap (λ (vs : List QueueView). queue_for [] (new_subscription binding) ∷ vs)
     (new_queues bindings)
 
+-- and to each seat nothing has come
 new_seats : (bindings : List Arguments)
     → replicate (length bindings) empty_seat ≡ map seat_of (map new_subscription bindings)
 new_seats [] = refl

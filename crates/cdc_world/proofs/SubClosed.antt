@@ -23,9 +23,11 @@ use Rattle.cdc_world.proofs.SubSteps.{Leaves, Leaves_on, next_leaves, slice_get-
 
 -- ---- a subscriber stays
 
+-- one that a step doesn't touch stays
 Stays-same : (s : Subscription) → Stays s s
 Stays-same s = record { binding = refl; closed = λ shut. refl }
 
+-- so does one that takes a delivery: once it is closed it hears nothing of it
 Stays-taking : (first : Delivery × List Delivery) (s : Subscription) → Stays s (with_taking first.0 first.1 s)
 Stays-taking first s =
     let after : Bool → Heard = λ b.
@@ -33,6 +35,7 @@ Stays-taking first s =
     else record { items = s.heard.items ++ first.0.item ∷ []; closed = s.heard.closed } in
     record { binding = refl; closed = λ shut. ap after shut }
 
+-- so does one that closes, perhaps once more
 Stays-close : (s : Subscription) → Stays s (with_close s)
 Stays-close s =
     record { binding = refl; closed = λ shut. ap (λ (b : Bool). record s.heard { closed = b }) (sym shut) }
@@ -48,6 +51,7 @@ set_there (a ∷ xs) zero (suc j) y x t at there = (t, there, inl refl)
 set_there (a ∷ xs) (suc k) zero y x t at there = (t, there, inl refl)
 set_there (a ∷ xs) (suc k) (suc j) y x t at there = set_there xs k j y x t at there
 
+-- where one subscriber changes and stays, all stay, since no other is touched
 AllStay-with : (w : WorldState) (i : ℕ) (s s' : Subscription) → numbered w.subscriptions i ≡ Some s → Stays s s'
     → AllStay w (with_subscription i s' w)
 AllStay-with w i s s' at stays j t found =
@@ -60,29 +64,35 @@ AllStay-with w i s s' at stays j t found =
       | inr new ↦ (after.0, numbered_so, subst (λ x. Stays x after.0) new.0 (subst (Stays s) (sym new.1) stays))
     ]
 
+-- so they do where the ledger, the connector or the broker alone takes a step
 AllStay-same : (w : WorldState) → AllStay w w
 AllStay-same w i s found = (s, found, Stays-same s)
 
 -- ---- each step
 
+-- a packet that comes to the broker, taken or passed over
 AllStay-taking_in : (w : WorldState) (packet : Packet) (taken : Bool)
     → AllStay w (record (taking_in w packet taken) { arrivals = w.arrivals + 1 })
 AllStay-taking_in w packet true = AllStay-same w
 AllStay-taking_in w packet false = AllStay-same w
 
+-- a batch, taken or refused
 AllStay-submitted : (w : WorldState) (answer : Result (BatchResults × History) BatchError)
     → Leaves (AllStay w) (submitted w answer)
 AllStay-submitted w (Ok answered) = AllStay-same w
 AllStay-submitted w (Err why) = tt
 
+-- a session that starts under its record, or finds no further number
 AllStay-started : (w : WorldState) (saved : Option Saved) → Leaves (AllStay w) (started w saved)
 AllStay-started w (Some saved) = AllStay-same w
 AllStay-started w None = tt
 
+-- the same of the step, which isn't enabled while a session runs
 AllStay-starting : (w : WorldState) (session : Option Course) → Leaves (AllStay w) (starting w session)
 AllStay-starting w None = AllStay-started w (begun w.held)
 AllStay-starting w (Some course) = tt
 
+-- so all stay, whichever step is done
 AllStay-step : (offers : Offered) (w : WorldState) (s : Step) → Leaves (AllStay w) (next_by offers w s)
 AllStay-step offers w (step.Submit batch) = AllStay-submitted w (submit w.history batch)
 AllStay-step offers w step.CloseLedger = AllStay-same w

@@ -10,20 +10,25 @@ use Rattle.cdc_world.specs.Queued.{deliveries, deliveries_from, items_in}
 abbrev pub delivery_at : ℕ → Item → Delivery
 delivery_at position item = record { position = position; item = item }
 
+-- each item has one delivery, from whatever position on
 length_from : (p : ℕ) (items : List Item) → length (deliveries_from p items) ≡ length items
 length_from p [] = refl
 length_from p (item ∷ items) = ap suc (length_from (p + 1) items)
 
+-- a queue gives out as many positions as it has items
 pub length-deliveries : (items : List Item) → length (deliveries items) ≡ length items
 length-deliveries items = length_from 1 items
 
+-- deliveries have the items that they were made of, from whatever position on
 items_from : (p : ℕ) (items : List Item) → items_in (deliveries_from p items) ≡ items
 items_from p [] = refl
 items_from p (item ∷ items) = ap (λ more. item ∷ more) (items_from (p + 1) items)
 
+-- so what is heard of all deliveries of a queue is the queue
 pub items_in-deliveries : (items : List Item) → items_in (deliveries items) ≡ items
 items_in-deliveries items = items_from 1 items
 
+-- further items go on with the position behind the last one
 append_from : (p : ℕ) (items more : List Item)
     → deliveries_from p (items ++ more) ≡ deliveries_from p items ++ deliveries_from (p + length items) more
 append_from p [] more = ap (λ n. deliveries_from n more) (omega arith)
@@ -31,10 +36,12 @@ append_from p (item ∷ items) more =
     ap (λ ds. delivery_at p item ∷ ds) (append_from (p + 1) items more)
     ∙ ap (λ n. delivery_at p item ∷ deliveries_from (p + 1) items ++ deliveries_from n more) (omega arith)
 
+-- so a queue that grows keeps the positions of what it has
 pub deliveries-append : (items more : List Item)
     → deliveries (items ++ more) ≡ deliveries items ++ deliveries_from (1 + length items) more
 deliveries-append items more = append_from 1 items more
 
+-- an item's position is as far on from the first one as its place is
 found_from : (p k : ℕ) (items : List Item) (item : Item) → slice_get items k ≡ Some item
     → slice_get (deliveries_from p items) k ≡ Some (delivery_at (p + k) item)
 found_from p k [] item found = cc
@@ -49,6 +56,7 @@ pub slice_get-deliveries : (items : List Item) (k : ℕ) (item : Item) → slice
 slice_get-deliveries items k item found =
     found_from 1 k items item found ∙ ap (λ n. Some (delivery_at n item)) (omega arith)
 
+-- the same of whatever delivery stands at a place
 position_from : (p k : ℕ) (items : List Item) (d : Delivery) → k < length items
     → (get_or (deliveries_from p items) k d).position ≡ p + k
 position_from p k [] d below = absurd (omega arith)

@@ -43,11 +43,13 @@ module _ (w : WorldState) (s : Subscription) (is : IsSound w.history)
       (IsReplay-heard (queue_in w s) s served)
       (IsReplay-filter (takes_item s.binding) (taken_items w) (line w.history) took))
 
+  -- so it has applied the first so many events of its feed
   prefix : IsPrefix (applied s) (feed_of w.history s.binding)
   prefix =
       IsPrefix-told (feed_of w.history s.binding) (feed_rises w.history s.binding is) w.history.closed s.heard.items
       heard_told
 
+  -- so it is faithful, where a book of the ledger's first events has the ledger's balances
   pub IsFaithful-served : ((told : List Event) → IsPrefix told (events w.history) → HoldsBalances w.history told)
       → IsFaithful w s
   IsFaithful-served books = record {

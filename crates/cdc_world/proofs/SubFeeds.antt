@@ -26,10 +26,12 @@ use Rattle.cdc_world.specs.Line.{feed_of, line}
 
 -- ---- the events of a ledger rise, and so do those of a feed
 
+-- events that rise from a moment rise from an earlier one, as when one before them was left out
 rise_later : (s t : ℕ) (es : List Event) → s ≤ t → RiseFrom t es → RiseFrom s es
 rise_later s t [] before rise = tt
 rise_later s t (e ∷ es) before rise = (omega (arith, rise.0), rise.1)
 
+-- so the events that are left of rising ones, where some are left out, still rise
 rise_filter : (p : Event → Bool) (t : ℕ) (es : List Event) → RiseFrom t es → RiseFrom t (filter p es)
 rise_filter p t [] rise = tt
 rise_filter p t (e ∷ es) rise = kept_or_not (p e) (rise_filter p e.timestamp es rise.1)
@@ -39,11 +41,13 @@ rise_filter p t (e ∷ es) rise = kept_or_not (p e) (rise_filter p e.timestamp e
     kept_or_not true rest = (rise.0, rest)
     kept_or_not false rest = rise_later t e.timestamp (filter p es) (omega (arith, rise.0)) rest
 
+-- an event of a rising list is later than the moment that the list rises from, wherever it stands
 all_above : (t : ℕ) (es : List Event) → RiseFrom t es → All (λ e. t < e.timestamp) es
 all_above t [] rise k d below = absurd (omega arith)
 all_above t (e ∷ es) rise zero d below = rise.0
 all_above t (e ∷ es) rise (suc k) d below = omega (arith, rise.0, all_above e.timestamp es rise.1 k d (omega arith))
 
+-- and it is later than every event before it
 in_turn : (t : ℕ) (es : List Event) → RiseFrom t es
     → AllPairs (λ earlier later. earlier.timestamp < later.timestamp) es
 in_turn t [] rise i j d before below = absurd (omega arith)
@@ -53,10 +57,12 @@ in_turn t (e ∷ es) rise (suc i) zero d before below = absurd (omega arith)
 in_turn t (e ∷ es) rise (suc i) (suc j) d before below =
     in_turn e.timestamp es rise.1 i j d (omega arith) (omega arith)
 
+-- events have the timestamps of their entries, and so rise as these do
 rise_events : (h : History) (t : ℕ) (es : List Entry) → sound.RiseFrom t es → RiseFrom t (map (event_of h) es)
 rise_events h t [] rise = tt
 rise_events h t (e ∷ es) rise = (rise.0, rise_events h e.timestamp es rise.1)
 
+-- so a subscriber may tell by its timestamp alone whether an event of its feed has come before
 pub feed_rises : (h : History) (binding : Arguments) → sound.IsSound h → TimestampsRise (feed_of h binding)
 feed_rises h binding is =
     let rise : RiseFrom 0 (feed_of h binding) =
@@ -69,6 +75,7 @@ feed_rises h binding is =
 abbrev pub end_of : Bool → List Item
 end_of closed = if closed then EndMark ∷ [] else []
 
+-- a binding takes just the items of the events that it takes
 queue_events : (binding : Arguments) (es : List Event)
     → filter (takes_item binding) (map OfEvent es) ≡ map OfEvent (feed es binding)
 queue_events binding [] = refl
@@ -81,6 +88,7 @@ queue_events binding (e ∷ es) = kept_or_not (takes_event binding e) (queue_eve
     kept_or_not true rest = ap (λ items. OfEvent e ∷ items) rest
     kept_or_not false rest = rest
 
+-- and every end mark
 queue_end : (binding : Arguments) (closed : Bool) → filter (takes_item binding) (end_of closed) ≡ end_of closed
 queue_end binding true = refl
 queue_end binding false = refl
@@ -101,6 +109,7 @@ Contains-end [] ended = cc
 Contains-end (OfEvent e ∷ items) ended = Contains-append_right (OfEvent e ∷ []) items EndMark (Contains-end items ended)
 Contains-end (EndMark ∷ items) ended = (0, omega arith, refl)
 
+-- as long as the ledger is open no end mark stands behind the events
 none_ends : (es : List Event) → list_any is_end (map OfEvent es ++ []) ≡ false
 none_ends [] = refl
 none_ends (e ∷ es) = none_ends es
@@ -114,10 +123,12 @@ no_end_there es there =
     cc
 
 module _ (es : List Event) (rise : TimestampsRise es) where
+  -- nothing stands twice, so the first of each item of a replay are a beginning
   apart : (closed : Bool) → HasNoneTwice (map OfEvent es ++ end_of closed)
   apart true = HasNoneTwice-line es rise
   apart false = rw (append-nil (map OfEvent es)) (HasNoneTwice-events es rise)
 
+  -- the events among the items are the events, end mark or not
   told : (closed : Bool) → events_of (map OfEvent es ++ end_of closed) ≡ es
   told true = events_of-push_end (map OfEvent es) ∙ events_of-map es
   told false = ap events_of (append-nil (map OfEvent es)) ∙ events_of-map es

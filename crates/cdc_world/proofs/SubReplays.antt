@@ -36,10 +36,12 @@ IsReplay-found w f x n replay found before =
 
 -- ---- a function of all elements
 
+-- so that the item of each delivery is among the items
 pub Contains-map : {X Y : Type 0} (g : X → Y) (xs : List X) (x : X) → Contains xs x → Contains (map g xs) (g x)
 Contains-map g xs x (k, below, is) =
     (k, omega (arith, length-map xs g), get_or-map g xs k x (g x) below ∙ ap g is)
 
+-- and each acknowledged position is that of some delivery
 pub Contains-unmap : {X Y : Type 0} (g : X → Y) (xs : List X) (y : Y) → Contains (map g xs) y
     → (x : X) × Contains xs x × (g x ≡ y)
 Contains-unmap g [] y (k, below, is) = absurd (omega arith)
@@ -50,18 +52,21 @@ Contains-unmap g (x ∷ xs) y (k, below, is) =
       sym (get_or-map g (x ∷ xs) k x y within) ∙ is,
     )
 
+-- where two lists have the same deliveries, each item of the one is an item of the other
 map_forth : {X Y : Type 0} (g : X → Y) (xs ys : List X) → HaveSame xs ys → (y : Y) → Contains (map g xs) y
     → Contains (map g ys) y
 map_forth g xs ys same y there =
     let found = Contains-unmap g xs y there in
     subst (Contains (map g ys)) found.2 (Contains-map g ys found.0 (same.forth found.0 found.1))
 
+-- so they have the same items
 HaveSame-map : {X Y : Type 0} (g : X → Y) (xs ys : List X) → HaveSame xs ys → HaveSame (map g xs) (map g ys)
 HaveSame-map g xs ys same = record {
   forth = map_forth g xs ys same;
   back = map_forth g ys xs (record { forth = same.back; back = same.forth });
 }
 
+-- so the items of a replay of deliveries are a replay of the items
 pub IsReplay-map : {X Y : Type 0} (g : X → Y) (w f : List X) → IsReplay w f → IsReplay (map g w) (map g f)
 IsReplay-map g w f replay = record {
   beginnings = λ n.

@@ -18,11 +18,13 @@ use Rattle.cdc_world.specs.Worlds.{Subscription, new_subscription}
 use Rattle.cdc_world.proofs.SubDeliveries.{HasNoneTwice-deliveries, deliveries-append, delivery_at, length-deliveries, position-deliveries, slice_get-deliveries}
 use Rattle.cdc_world.proofs.SubReplays.{Contains-unmap, IsReplay-found}
 
+-- nothing stands in an empty list
 none_there : {X : Type 0} (x : X) → Contains [] x → ⊥
 none_there x h = omega (arith, h.1)
 
 -- ---- at the start
 
+-- to a new subscriber nothing was handed out, and it has missed nothing
 pub IsServed-new : (binding : Arguments) → IsServed [] (new_subscription binding)
 IsServed-new binding = record {
   replay = IsReplay-nil [];
@@ -38,6 +40,7 @@ IsServed-new binding = record {
 
 -- ---- the queue grows
 
+-- items that join a queue stand behind all that was handed out, and change nothing for that
 pub IsServed-longer : (items more : List Item) (s : Subscription) → IsServed items s → IsServed (items ++ more) s
 IsServed-longer items more s served =
     let longer = deliveries-append items more in
@@ -58,6 +61,7 @@ IsServed-longer items more s served =
 
 -- ---- the queue hands out its next entry
 
+-- the entry at the cursor goes on its way, so the cursor is still past nothing that wasn't handed out
 pub IsServed-sending : (items : List Item) (s : Subscription) (item : Item) → IsServed items s
     → slice_get items (s.cursor - 1) ≡ Some item → IsServed items (with_sending (delivery_at s.cursor item) s)
 IsServed-sending items s item served found =
@@ -108,6 +112,7 @@ record TakenAt (items : List Item) (taken : List Delivery) (p : ℕ) : Type 0 wh
   position : place + 1 ≡ p
   here : get_or (deliveries items) place delivery ≡ delivery
 
+-- the subscriber acknowledges only what it took, so each acknowledgement names an entry of the queue
 TakenAt-acked : (items : List Item) (s : Subscription) → IsServed items s → (p : ℕ) → Contains s.acks p
     → TakenAt items s.taken p
 TakenAt-acked items s served p there =
@@ -126,12 +131,14 @@ TakenAt-acked items s served p there =
       here = found.2;
     }
 
+-- so the broker isn't told of a position behind the last entry
 acked_within : (items : List Item) (s : Subscription) → IsServed items s → (p : ℕ) → (p ≡ 0) ⊎ Contains s.acks p
     → p ≤ length items
 acked_within items s served p (inl none) = omega (arith, none)
 acked_within items s served p (inr there) =
     let at = TakenAt-acked items s served p there in omega (arith, at.within, at.position)
 
+-- and whatever stands up to such a position was taken too, since the queue leaves nothing out
 acked_taken : (items : List Item) (s : Subscription) → IsServed items s → (p : ℕ) → (p ≡ 0) ⊎ Contains s.acks p
     → (y : Delivery) → Contains (take p (deliveries items)) y → Contains s.taken y
 acked_taken items s served p (inl none) y before =
@@ -155,6 +162,7 @@ acked_sent items s served p n is known flight y before =
 
 -- ---- the queue goes back
 
+-- all that stands before the place that a queue goes back to was taken, so nothing is left out
 pub IsServed-rewound : (items : List Item) (s : Subscription) → IsServed items s → IsServed items (rewound s)
 IsServed-rewound items s served = record {
   replay = served.replay;
@@ -196,6 +204,7 @@ later_acked acks old position before there =
       | inr older ↦ let is : max old position ≡ old = omega (arith, older) in rw is before
     ]
 
+-- an acknowledgement lifts the cursor past nothing but what was taken
 pub IsServed-ack : (items : List Item) (s : Subscription) (position : ℕ) → IsServed items s → Contains s.acks position
     → IsServed items (with_ack position s)
 IsServed-ack items s position served there =
@@ -224,6 +233,7 @@ IsServed-ack items s position served there =
 
 -- ---- the subscriber closes
 
+-- a subscriber that closes has heard what it has; what it takes from then on it needn't hear
 pub IsServed-close : (items : List Item) (s : Subscription) → IsServed items s → IsServed items (with_close s)
 IsServed-close items s served = record {
   replay = served.replay;
@@ -244,9 +254,11 @@ record HearsSo (heard : Heard) (taken : List Delivery) : Type 0 where
   some : (n : ℕ) × (heard.items ≡ items_in (take n taken))
   all : heard.closed ≡ false → has_ended heard ≡ false → heard.items ≡ items_in taken
 
+-- a subscriber that is neither closed nor ended listens
 or_false : (a b : Bool) → a ≡ false → b ≡ false → (a || b) ≡ false
 or_false a b not_a not_b = rw (not_a, not_b) refl
 
+-- one that is closed or has ended doesn't hear what it takes: it still heard the first of all that it took
 HearsSo-settled : (heard : Heard) (taken : List Delivery) (d : Delivery) → HearsSo heard taken
     → (heard.closed || has_ended heard) ≡ true → HearsSo heard (taken ++ d ∷ [])
 HearsSo-settled heard taken d so settled =
@@ -262,6 +274,7 @@ HearsSo-settled heard taken d so settled =
           cc;
     }
 
+-- one that listens hears it: it still heard all that it took
 HearsSo-listening : (heard : Heard) (taken : List Delivery) (d : Delivery) → heard.items ≡ items_in taken
     → HearsSo (record { items = heard.items ++ d.item ∷ []; closed = heard.closed }) (taken ++ d ∷ [])
 HearsSo-listening heard taken d is =
@@ -270,10 +283,12 @@ HearsSo-listening heard taken d is =
     let whole = take_all (length (taken ++ d ∷ [])) (taken ++ d ∷ []) (omega arith) in
     record { some = (length (taken ++ d ∷ []), all ∙ ap items_in (sym whole)); all = λ open_yet before_end. all }
 
+-- and one that listens is neither closed nor ended
 or_parts : (a b : Bool) → (a || b) ≡ false → (a ≡ false) × (b ≡ false)
 or_parts true b h = cc
 or_parts false b h = (refl, h)
 
+-- so it goes on, whether it listens or not
 HearsSo-next : (heard : Heard) (taken : List Delivery) (d : Delivery) → HearsSo heard taken
     → HearsSo (next heard d.item) (taken ++ d ∷ [])
 HearsSo-next heard taken d so =
@@ -290,6 +305,7 @@ HearsSo-next heard taken d so =
           rw more (HearsSo-listening heard taken d (so.all parts.0 parts.1))
     ]
 
+-- the first delivery on its way and those behind it are all that are
 in_flight : (flight : List Delivery) (first : Delivery × List Delivery) → first_flight flight ≡ Some first
     → flight ≡ first.0 ∷ first.1
 in_flight [] first found = cc
@@ -297,6 +313,7 @@ in_flight (d ∷ rest) first found =
     let is : ◌≡◌ {A = Delivery × List Delivery} (d, rest) first = cc in
     ap₂ (λ x xs. x ∷ xs) (ap (λ (p : Delivery × List Delivery). p.0) is) (ap (λ (p : Delivery × List Delivery). p.1) is)
 
+-- a delivery that is taken was on its way: all that was handed out is the same, and one more is acknowledged
 pub IsServed-taking : (items : List Item) (s : Subscription) (first : Delivery × List Delivery) → IsServed items s
     → first_flight s.flight ≡ Some first → IsServed items (with_taking first.0 first.1 s)
 IsServed-taking items s first served found =

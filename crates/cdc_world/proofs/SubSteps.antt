@@ -28,6 +28,7 @@ use Rattle.cdc_world.proofs.SubServed.{IsServed-ack, IsServed-broken, IsServed-c
 
 -- ---- elements by their numbers
 
+-- nothing stands under the number 0, so what is found under a number stands at a place
 pub unless : {X : Type 0} (b : Bool) (o : Option X) (x : X) → (if b then None else o) ≡ Some x
     → (b ≡ false) × (o ≡ Some x)
 unless true o x h = cc
@@ -38,11 +39,13 @@ pub slice_get-numbered : {X : Type 0} (xs : List X) (k : ℕ) (x : X) → number
     → slice_get xs (k - 1) ≡ Some x
 slice_get-numbered xs k x found = (unless (k == 0) (slice_get xs (k - 1)) x found).1
 
+-- an acknowledgement that a step names by its number is one that the subscriber gave
 pub Contains-numbered : {X : Type 0} (xs : List X) (k : ℕ) (x : X) → numbered xs k ≡ Some x → Contains xs x
 Contains-numbered xs k x found =
     let there = slice_get-numbered xs k x found in
     (k - 1, slice_get_within xs (k - 1) x there, get_or_from_slice_get xs (k - 1) x x there)
 
+-- after one element is replaced, what stands at a place is the new one, or stood there before
 get_set : {X : Type 0} (xs : List X) (k j : ℕ) (y t : X) → slice_get (slice_set xs k y) j ≡ Some t
     → (y ≡ t) ⊎ (slice_get xs j ≡ Some t)
 get_set [] k j y t found = inr found
@@ -61,6 +64,7 @@ numbered-set xs k j y t found =
       | inr old ↦ inr (ap (λ b. if b then None else slice_get xs (j - 1)) there.0 ∙ old)
     ]
 
+-- each subscription of a new world was made of a binding
 get_map : {X Y : Type 0} (f : X → Y) (xs : List X) (k : ℕ) (y : Y) → slice_get (map f xs) k ≡ Some y
     → (x : X) × (f x ≡ y)
 get_map f [] k y found = cc
@@ -69,6 +73,7 @@ get_map f (x ∷ xs) (suc k) y found = get_map f xs k y found
 
 -- ---- the start
 
+-- in a new world nothing was handed out to anyone, from queues that are empty
 pub AreQueued-new : (bindings : List Arguments) (window : ℕ) (held : Option Saved)
     → AreQueued (new_world bindings window held)
 AreQueued-new bindings window held i s found =
@@ -83,12 +88,14 @@ abbrev pub Leaves : (WorldState → Type 0) → Outcome → Type 0
 Leaves P (Ok after) = P after.1
 Leaves P (Err why) = Unit {0}
 
+-- what a step leaves where it is done holds of the world that came of it
 Leaves_so : (P : WorldState → Type 0) (outcome : Outcome) (did : Did) (w : WorldState) → Leaves P outcome
     → outcome ≡ Ok (did, w) → P w
 Leaves_so P (Ok after) did w holds is =
     let same : after ≡ (did, w) = cc in subst P (ap (λ (x : Did × WorldState). x.1) same) holds
 Leaves_so P (Err why) did w holds is = cc
 
+-- a step for which there is nothing isn't done, so only what it does with what there is needs to be shown
 pub Leaves_on : {A : Type 0} (P : WorldState → Type 0) (o : Option A) (rest : A → Outcome)
     → ((x : A) → o ≡ Some x → Leaves P (rest x)) → Leaves P (o >>= rest)
 Leaves_on P (Some x) rest further = further x refl
@@ -101,6 +108,7 @@ there_so false o x h = cc
 
 -- ---- one subscriber changes
 
+-- a step that changes one subscriber touches no other, so what holds of all of them is kept
 AreQueued-with : (w : WorldState) (i : ℕ) (s : Subscription) → AreQueued w → IsQueued w s
     → AreQueued (with_subscription i s w)
 AreQueued-with w i s are served j t found =
@@ -109,6 +117,7 @@ AreQueued-with w i s are served j t found =
       | inr old ↦ are j t old
     ]
 
+-- a delivery that a queue hands out has the item at the cursor, under the cursor's position
 sending_found : (w : WorldState) (s : Subscription) (d : Delivery) (o : Option Item)
     → option_map (λ item. record { position = s.cursor; item = item }) o ≡ Some d
     → (item : Item) × (o ≡ Some item) × (d ≡ record { position = s.cursor; item = item })
@@ -116,6 +125,7 @@ sending_found w s d (Some item) found =
     (item, refl, sym (same_Some (record { position = s.cursor; item = item }) d found))
 sending_found w s d None found = cc
 
+-- so a subscriber and its queue keep what holds of them when a delivery goes on its way
 IsQueued-sending : (w : WorldState) (s : Subscription) (d : Delivery) → IsQueued w s → next_delivery w s ≡ Some d
     → IsQueued w (with_sending d s)
 IsQueued-sending w s d served found =
@@ -125,6 +135,7 @@ IsQueued-sending w s d served found =
 
 -- ---- a packet comes
 
+-- one that is taken adds its item at the back of each queue that it belongs to
 AreQueued-accepted : (w w' : WorldState) (packet : Packet) → w'.subscriptions ≡ w.subscriptions
     → w'.accepted ≡ w.accepted ++ packet ∷ [] → AreQueued w → AreQueued w'
 AreQueued-accepted w w' packet same more are i s found =
@@ -137,6 +148,7 @@ AreQueued-accepted w w' packet same more are i s found =
     (IsServed-longer (queue_in w s) (queue (items_of (packet ∷ [])) s.binding) s
     (are i s (ap (λ subscriptions. numbered subscriptions i) (sym same) ∙ found)))
 
+-- so whether it is taken or passed over, each queue keeps what it handed out
 AreQueued-taking_in : (w : WorldState) (packet : Packet) (taken : Bool) → AreQueued w
     → AreQueued (record (taking_in w packet taken) { arrivals = w.arrivals + 1 })
 AreQueued-taking_in w packet true are =
@@ -145,15 +157,18 @@ AreQueued-taking_in w packet false are = are
 
 -- ---- each step
 
+-- a batch touches no queue, taken or refused
 AreQueued-submitted : (w : WorldState) (answer : Result (BatchResults × History) BatchError) → AreQueued w
     → Leaves AreQueued (submitted w answer)
 AreQueued-submitted w (Ok answered) are = are
 AreQueued-submitted w (Err why) are = tt
 
+-- nor does a session that starts
 AreQueued-started : (w : WorldState) (saved : Option Saved) → AreQueued w → Leaves AreQueued (started w saved)
 AreQueued-started w (Some saved) are = are
 AreQueued-started w None are = tt
 
+-- nor the step that starts it, which isn't enabled while one runs
 AreQueued-starting : (w : WorldState) (session : Option Course) → AreQueued w → Leaves AreQueued (starting w session)
 AreQueued-starting w None are = AreQueued-started w (begun w.held) are
 AreQueued-starting w (Some course) are = tt
@@ -164,6 +179,7 @@ on_one : (w : WorldState) (i : ℕ) (o : Option Subscription) (rest : Subscripti
     → ((s : Subscription) → IsQueued w s → Leaves AreQueued (rest s)) → Leaves AreQueued (o >>= rest)
 on_one w i o rest are its further = Leaves_on AreQueued o rest (λ s found. further s (are i s (its s found)))
 
+-- so each step that is done keeps what holds of subscribers and queues
 AreQueued-step : (offers : Offered) (w : WorldState) (s : Step) → AreQueued w → Leaves AreQueued (next_by offers w s)
 AreQueued-step offers w (step.Submit batch) are = AreQueued-submitted w (submit w.history batch) are
 AreQueued-step offers w step.CloseLedger are = are
@@ -228,11 +244,13 @@ next_leaves P offers w s (Err (Store store.WriteFault)) w' (uses, (tried, (saved
 next_leaves P offers w s (Err (Store store.BadRecord)) w' next before held holds = absurd next.1.1
 next_leaves P offers w s (Err (Store store.OutOfMemory)) w' next before held holds = absurd next.1.1
 
+-- and so does every step, whatever its answer
 AreQueued-next : (offers : Offered) (w : WorldState) (s : Step) (answer : Result Did StepError) (w' : WorldState)
     → NextBy offers w s answer w' → AreQueued w → AreQueued w'
 AreQueued-next offers w s answer w' next are =
     next_leaves AreQueued offers w s answer w' next are (λ saved. are) (AreQueued-step offers w s are)
 
+-- and steps in a row
 AreQueued-leads : (offers : Offered) (w : WorldState) (steps : List Step) (w' : WorldState)
     → LeadsBy offers w steps w' → AreQueued w → AreQueued w'
 AreQueued-leads offers w [] w' leads are = subst AreQueued (sym leads) are
