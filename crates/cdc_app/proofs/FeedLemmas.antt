@@ -99,7 +99,7 @@ queue_of-with_queue s i q inside =
     unwrap_or-slice_get (slice_set s.queues (i - 1) q) (i - 1) (empty_queue nobody)
     ∙ get_or-set_same s.queues (i - 1) q (empty_queue nobody) inside
 
--- before anything is taken, the broker has its queue as it was
+-- a queue put back as it was changes nothing: so a broker is before anything is taken
 pub with_queue_same : (s : BrokerState) (i : ℕ) → with_queue i (queue_of s i) s ≡ s
 with_queue_same s i = ap (λ (qs : List QueueState). record s { queues = qs })
     (ap (λ q. slice_set s.queues (i - 1) q) (unwrap_or-slice_get s.queues (i - 1) (empty_queue nobody))

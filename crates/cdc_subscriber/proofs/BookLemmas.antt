@@ -78,7 +78,7 @@ eqb_same a = elim (eqb_tells a a) [ inl e ↦ e.0 | inr e ↦ absurd (e.1 refl) 
 eqb_swap : (a b : ℕ) → (a == b) ≡ false → (b == a) ≡ false
 eqb_swap a b h = ne_eqb b a (λ same. let back : (a == b) ≡ true = rw same (eqb_same a) in cc)
 
--- a number that is new may join
+-- the numbers of a book stay distinct where a new one joins
 distinct-push : (ids : List ℕ) (id : ℕ) → AreDistinct ids → is_among id ids ≡ false → AreDistinct (ids ++ id ∷ [])
 distinct-push [] id distinct new = (refl, tt)
 distinct-push (x ∷ ids) id distinct new =
