@@ -35,10 +35,12 @@ use Rattle.cdc_app.specs.Printed.{history_after, history_of}
 
 -- ---- the events of a ledger rise, and so do those of a feed
 
+-- events that rise after a moment rise after any earlier one
 rise_later : (s t : ℕ) (es : List Event) → s ≤ t → RiseFrom t es → RiseFrom s es
 rise_later s t [] before rise = tt
 rise_later s t (e ∷ es) before rise = (omega (arith, rise.0), rise.1)
 
+-- the events that a binding takes out of a rising list rise too
 rise_filter : (p : Event → Bool) (t : ℕ) (es : List Event) → RiseFrom t es → RiseFrom t (filter p es)
 rise_filter p t [] rise = tt
 rise_filter p t (e ∷ es) rise = kept_or_not (p e) (rise_filter p e.timestamp es rise.1)
@@ -48,11 +50,13 @@ rise_filter p t (e ∷ es) rise = kept_or_not (p e) (rise_filter p e.timestamp e
     kept_or_not true rest = (rise.0, rest)
     kept_or_not false rest = rise_later t e.timestamp (filter p es) (omega (arith, rise.0)) rest
 
+-- in a list that rises from a moment every event is later than it
 all_above : (t : ℕ) (es : List Event) → RiseFrom t es → All (λ e. t < e.timestamp) es
 all_above t [] rise k d below = absurd (omega arith)
 all_above t (e ∷ es) rise zero d below = rise.0
 all_above t (e ∷ es) rise (suc k) d below = omega (arith, rise.0, all_above e.timestamp es rise.1 k d (omega arith))
 
+-- and every event is later than all before it
 in_turn : (t : ℕ) (es : List Event) → RiseFrom t es → AllPairs (λ earlier later. earlier.timestamp < later.timestamp) es
 in_turn t [] rise i j d before below = absurd (omega arith)
 in_turn t (e ∷ es) rise zero zero d before below = absurd (omega arith)
@@ -60,15 +64,18 @@ in_turn t (e ∷ es) rise zero (suc j) d before below = all_above e.timestamp es
 in_turn t (e ∷ es) rise (suc i) zero d before below = absurd (omega arith)
 in_turn t (e ∷ es) rise (suc i) (suc j) d before below = in_turn e.timestamp es rise.1 i j d (omega arith) (omega arith)
 
+-- so events that rise as a log has them rise as the laws of subscribers ask
 rising : (es : List Event) → RiseFrom 0 es → TimestampsRise es
 rising es rise = record { above_zero = all_above 0 es rise; rising = in_turn 0 es rise }
 
+-- the events of a ledger rise as its entries do
 rise_events : (h : History) (t : ℕ) (es : List Entry) → sound.RiseFrom t es → RiseFrom t (map (event_of h) es)
 rise_events h t [] rise = tt
 rise_events h t (e ∷ es) rise = (rise.0, rise_events h e.timestamp es rise.1)
 
 -- ---- they are few: no two have one timestamp
 
+-- entries that rise are no more than the moments up to the last
 few_entries : (t most : ℕ) (es : List Entry) → t ≤ most → sound.RiseFrom t es
     → AllByRecursion (λ e. e.timestamp ≤ most) es
     → t + length es ≤ most
@@ -76,6 +83,7 @@ few_entries t most [] within rise past = omega arith
 few_entries t most (e ∷ es) within rise past =
     omega (arith, rise.0, few_entries e.timestamp most es past.0 rise.1 past.1)
 
+-- so a ledger has no more events than there are timestamps
 few_events : (h : History) → sound.IsSound h → length (events h) ≤ max_timestamp
 few_events h is =
     omega (
@@ -101,10 +109,12 @@ heard_more before (e ∷ es) none =
     ∙ ap (λ (items : List Item). record { items = items; closed = false })
     (append_assoc before (OfEvent e ∷ []) (map OfEvent es))
 
+-- among the messages of events there is no end mark
 no_end : (es : List Event) → list_any is_end (map OfEvent es) ≡ false
 no_end [] = refl
 no_end (e ∷ es) = no_end es
 
+-- so that an end mark counts as heard whatever came before it
 or_true : (b : Bool) → (b || true) ≡ true
 or_true true = refl
 or_true false = refl
@@ -117,6 +127,7 @@ heard_line es =
     ∙ ap (λ (b : Bool). if b then record { items = map OfEvent es; closed = false }
     else record { items = map OfEvent es ++ EndMark ∷ []; closed = false }) (no_end es)
 
+-- of the messages of events a queue has those of its feed, in order
 queue_events : (binding : Arguments) (es : List Event)
     → filter (takes_item binding) (map OfEvent es) ≡ map OfEvent (feed es binding)
 queue_events binding [] = refl
@@ -151,14 +162,17 @@ kept_line es rise few =
 
 -- ---- the histories of scripts
 
+-- what holds of every history that batches and a close make holds of a script's
 sound_script : (script : Script) → sound.IsSound (history_of script)
 sound_script script =
     IsSound-closed (history_after empty_history script.batches)
     (IsSound-after_batches empty_history (map (λ b. b.batch) script.batches) IsSound-empty)
 
+-- a script's events never use up the tags of their one connection
 pub few_of_script : (script : Script) → length (events (history_of script)) < 2 ^ 63
 few_of_script script = omega (arith, few_events (history_of script) (sound_script script))
 
+-- a feed has no more events than the ledger, so that a subscriber's count of them is exact
 length_filter : (p : Event → Bool) (es : List Event) → length (filter p es) ≤ length es
 length_filter p [] = omega arith
 length_filter p (e ∷ es) = kept_or_not (p e) (length_filter p es)
@@ -168,6 +182,7 @@ length_filter p (e ∷ es) = kept_or_not (p e) (length_filter p es)
     kept_or_not true rest = omega (arith, rest)
     kept_or_not false rest = omega (arith, rest)
 
+-- of a closed ledger a subscriber has applied every event that its binding takes, each once, and heard the end
 whole_feed : (h : History) → sound.IsSound h → (binding : Arguments) → HasWholeFeed h binding
 whole_feed h is binding =
     let rise : RiseFrom 0 (feed (events h) binding) =
@@ -177,11 +192,13 @@ whole_feed h is binding =
     ap kept_of (ap hearing (queue_line (events h) binding) ∙ heard_line (feed (events h) binding))
     ∙ kept_line (feed (events h) binding) (rising (feed (events h) binding) rise) few
 
+-- so it has of the ledger that a script makes, which is what `books` promises of each subscriber line
 pub whole_feeds : (script : Script) (binding : Arguments) → HasWholeFeed (history_of script) binding
 whole_feeds script binding = whole_feed (history_of script) (sound_script script) binding
 
 -- ---- a subscriber of every event
 
+-- the binding `all` without pairs takes every event
 every_one : (es : List Event) → feed es every_event ≡ es
 every_one [] = refl
 every_one (e ∷ es) = ap (λ more. e ∷ more) (every_one es)
@@ -190,6 +207,7 @@ every_one (e ∷ es) = ap (λ more. e ∷ more) (every_one es)
 all_told : (h : History) → IsPrefix (events h) (events h)
 all_told h = record { rest = []; whole = append-nil (events h) }
 
+-- so one that takes every event has the ledger's balances in its book, as `books` promises too
 pub holds_balances : (script : Script) → HoldsBalances (history_of script)
 holds_balances script =
     let h : History = history_of script in

@@ -30,6 +30,7 @@ filled_if : (b : Bool) (item : Item) (q : QueueState)
 filled_if true item q = refl
 filled_if false item q = ap (λ (items : List Item). record q { items = items }) (sym (append-nil q.items))
 
+-- a queue that was filled with some items and then takes one more is filled with all of them
 filled-push : (items : List Item) (item : Item) (binding : Arguments)
     → queued item (filled items binding) ≡ filled (items ++ item ∷ []) binding
 filled-push items item binding =
@@ -98,11 +99,13 @@ queue_of-with_queue s i q inside =
     unwrap_or-slice_get (slice_set s.queues (i - 1) q) (i - 1) (empty_queue nobody)
     ∙ get_or-set_same s.queues (i - 1) q (empty_queue nobody) inside
 
+-- a queue put back as it was changes nothing: so a broker is before anything is taken
 pub with_queue_same : (s : BrokerState) (i : ℕ) → with_queue i (queue_of s i) s ≡ s
 with_queue_same s i = ap (λ (qs : List QueueState). record s { queues = qs })
     (ap (λ q. slice_set s.queues (i - 1) q) (unwrap_or-slice_get s.queues (i - 1) (empty_queue nobody))
     ∙ set-get_or s.queues (i - 1) (empty_queue nobody))
 
+-- of a queue that changes twice the later state counts
 pub with_queue_twice : (s : BrokerState) (i : ℕ) (p q : QueueState)
     → with_queue i q (with_queue i p s) ≡ with_queue i q s
 with_queue_twice s i p q = ap (λ (qs : List QueueState). record s { queues = qs }) (set-set s.queues (i - 1) p q)
@@ -115,6 +118,7 @@ pub record IsTaking (i counter : ℕ) (old now : BrokerState) (subscriber : Kept
   pub cursor : queue.cursor ≡ counter + 1
   pub heard : subscriber ≡ kept_of (hearing (take counter (queue_of old i).items))
 
+-- nothing was taken yet, and nothing heard
 pub IsTaking-none : (i : ℕ) (old : BrokerState) (subscriber : Kept) → (queue_of old i).cursor ≡ 1
     → subscriber ≡ kept_of nothing
     → IsTaking i 0 old old subscriber
@@ -138,6 +142,7 @@ next_at q counter item at found =
 hearing-push : (items : List Item) (item : Item) → hearing (items ++ item ∷ []) ≡ next (hearing items) item
 hearing-push items item = fold-append next nothing items (item ∷ [])
 
+-- one more item is taken off the queue, and its subscriber has heard one more
 pub IsTaking-more : (i counter : ℕ) (old now new : BrokerState) (before after : Kept) (item : Item)
     → i - 1 < length old.queues
     → IsTaking i counter old now before → slice_get (queue_of old i).items counter ≡ Some item

@@ -16,6 +16,7 @@ found_within [] i below h = omega arith
 found_within (x ∷ xs) zero below h = cc
 found_within (x ∷ xs) (suc i) below h = found_within xs i (omega arith) h
 
+-- and can be named, so that a loop has an element to go on with
 pub found_at : {X : Type 0} (xs : List X) (i : ℕ) → i < length xs → (x : X) × (slice_get xs i ≡ Some x)
 found_at [] i below = absurd (omega arith)
 found_at (x ∷ xs) zero below = (x, refl)

@@ -103,6 +103,7 @@ refused_count : (before : Stage) (want : Option (Step × ℕ)) (why : StepError)
 refused_count before None why after answers = ap (λ (x : Stage). x.done) answers.1
 refused_count before (Some want) why after answers = ap (λ (x : Stage). x.done) answers.1.1
 
+-- so where a simulation stops, it has done the acts up to the one that was refused
 pub stopped_count : (batches : List ClientBatch) (acts : List Act) (before : Stage) (place : ℕ) (old : Simulation)
     (a : Act) (why : StepError) (end : Stage) → (come : HasCome batches acts before place old)
     → ActsTo batches come.here a (Some why) end → end.done ≡ place

@@ -34,6 +34,7 @@ pub record ArePrinted (place : ℕ) (all queues : List QueueState) (old new : Li
   pub rest : drop place queues ≡ drop place all
   pub count : length queues ≡ length all
 
+-- before the first queue is taken nothing is printed
 pub ArePrinted-none : (all : List QueueState) (old : List ℕ) → ArePrinted 0 all all old old
 ArePrinted-none all old = record { text = sym (append-nil old); rest = refl; count = refl }
 
@@ -51,6 +52,7 @@ queue_of_next place all s old new inside printed =
     unwrap_or-slice_get s.queues (place + 1 - 1) (empty_queue nobody)
     ∙ ap (λ k. get_or s.queues k (empty_queue nobody)) place' ∙ same
 
+-- so nothing was taken from it yet, and its subscriber hears it from its first item on
 pub IsUntaken_next : (place : ℕ) (all : List QueueState) (s : BrokerState) (old new : List ℕ) → place < length all
     → All IsUntaken all
     → ArePrinted place all s.queues old new → IsUntaken (queue_of s (place + 1))

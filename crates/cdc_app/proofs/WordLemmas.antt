@@ -22,6 +22,7 @@ split_found p bytes i true h e = let same : position_or_len p bytes ≡ i = cc i
     rw (← same) (slice_split_first p bytes 0 (ltb-true _ _ h))
 split_found p bytes i false h e = cc
 
+-- where there is no such place the text is one part
 split_missing : (p : ℕ → Bool) (bytes : List ℕ) (t : Bool) → nat_lt (position_or_len p bytes) (length bytes) ≡ t
     → cond t (Some (position_or_len p bytes)) None ≡ None → slice_split p bytes ≡ bytes ∷ []
 split_missing p bytes true h e = cc
@@ -42,6 +43,7 @@ onto_first_some : (x : ℕ) (parts : List (List ℕ)) → (y : List ℕ) × (mor
 onto_first_some x [] = (_, _, refl)
 onto_first_some x (part ∷ parts) = (_, _, refl)
 
+-- so the text behind a line feed has a first line too, if only an empty one
 some_part : (p : ℕ → Bool) (bytes : List ℕ) → (y : List ℕ) × (more : List (List ℕ)) × (slice_split p bytes ≡ y ∷ more)
 some_part p [] = (_, _, refl)
 some_part p (x ∷ xs) =

@@ -20,16 +20,19 @@ pub filter_push : (p : Item → Bool) (items : List Item) (item : Item)
     → filter p (items ++ item ∷ []) ≡ filter p items ++ (if p item then item ∷ [] else [])
 filter_push p items item = filter-append p items (item ∷ [])
 
+-- an item that is taken comes last of a queue, and one that isn't leaves the items as they were
 queued_items : (b : Bool) (items : List Item) (item : Item) (q : QueueState)
     → (with_item (if b then Some item else None) q).items ≡ q.items ++ (if b then item ∷ [] else [])
 queued_items true items item q = refl
 queued_items false items item q = sym (append-nil q.items)
 
+-- either way the queue keeps its binding
 queued_binding : (b : Bool) (item : Item) (q : QueueState)
     → (with_item (if b then Some item else None) q).binding ≡ q.binding
 queued_binding true item q = refl
 queued_binding false item q = refl
 
+-- so a queue that holds its own still does when one more item is accepted
 pub Holds-queued : (accepted : List Item) (item : Item) (q : QueueState) → Holds accepted q
     → Holds (accepted ++ item ∷ []) (queued item q)
 Holds-queued accepted item q holds =
@@ -67,6 +70,7 @@ HasAccepted-acknowledged s i position true accepted inside has =
     (Holds-queue_of s i accepted inside has)
 HasAccepted-acknowledged s i position false accepted inside has = has
 
+-- an item that is handed out stays in its queue
 Holds-moved_on : (accepted : List Item) (delivery : Option Delivery) (q : QueueState) → Holds accepted q
     → Holds accepted (moved_on delivery q)
 Holds-moved_on accepted None q holds = holds

@@ -10,9 +10,11 @@ use Rattle.cdc_match.specs.Arguments.{Arguments}
 use Rattle.cdc_match.specs.Matching.{matches}
 use Rattle.cdc_match.specs.Parsing.{arguments_of}
 
+-- a binding that wants every one of these pairs
 abbrev under_all : List Pair → Arguments
 under_all pairs = record { mode = All; pairs = pairs }
 
+-- a binding that wants some one of them
 abbrev under_any : List Pair → Arguments
 under_any pairs = record { mode = Any; pairs = pairs }
 
@@ -37,6 +39,7 @@ two_faults = refl
 
 -- ---- headers
 
+-- the headers of a post in ledger 700
 abbrev posted : Headers
 posted = record {
   kind = TwoPhasePosted;
@@ -50,9 +53,11 @@ posted = record {
 abbrev half_met : List Pair
 half_met = EventType TwoPhasePosted ∷ TransferCode 2 ∷ []
 
+-- the kind is right and the code isn't, so `all` leaves the message out
 all_of_half : matches (under_all half_met) posted ≡ false
 all_of_half = refl
 
+-- and `any` takes it
 any_of_half : matches (under_any half_met) posted ≡ true
 any_of_half = refl
 
@@ -64,5 +69,6 @@ both_ledgers = refl
 all_of_none : matches (under_all []) posted ≡ true
 all_of_none = refl
 
+-- `all` takes every message then, and `any` none
 any_of_none : matches (under_any []) posted ≡ false
 any_of_none = refl

@@ -10,6 +10,7 @@ use Rattle.cdc_message.specs.Replays.{HaveSame, IsReplay}
 filtered_passes : {X : Type 0} (p : X → Bool) (xs : List X) (x : X) → Contains (filter p xs) x → p x ≡ true
 filtered_passes p xs x h = All-contains (λ y. p y ≡ true) (filter p xs) x (filter_passes p xs) h
 
+-- so nothing is in a queue that wasn't told
 filtered_was_there : {X : Type 0} (p : X → Bool) (xs : List X) (x : X) → Contains (filter p xs) x → Contains xs x
 filtered_was_there p xs x h =
     All-contains (Contains xs) (filter p xs) x (All-filter p (Contains xs) xs (All-contains_itself xs)) h
@@ -25,6 +26,7 @@ kept_first : {X : Type 0} (p : X → Bool) (first x : X) (rest : List X) → fir
     → Contains (cond (p first) (first ∷ rest) rest) x
 kept_first p first x rest is passes = rw (is, passes) (Contains-append_left (x ∷ []) rest x (Contains-push [] x))
 
+-- in an empty list nothing stands
 none_there : {X : Type 0} (x : X) → Contains [] x → ⊥
 none_there x h = omega (arith, h.1)
 
@@ -41,6 +43,7 @@ stays p (y ∷ ys) x h passes =
       | inr later ↦ kept_after y (filter p ys) x (p y) (stays p ys x later passes)
     ]
 
+-- so of two lists with the same elements the queues have the same ones too
 HaveSame-filter : {X : Type 0} (p : X → Bool) (xs ys : List X) → HaveSame xs ys → HaveSame (filter p xs) (filter p ys)
 HaveSame-filter p xs ys same = record {
   forth = λ x h. stays p ys x (same.forth x (filtered_was_there p xs x h)) (filtered_passes p xs x h);
@@ -91,6 +94,7 @@ filtered_begins p (x ∷ xs) (suc m) =
 
 -- ---- the law
 
+-- the queue of a replay is a replay of the queue, whatever a binding takes
 pub IsReplay-filter : {X : Type 0} (p : X → Bool) (w f : List X) → IsReplay w f → IsReplay (filter p w) (filter p f)
 IsReplay-filter p w f replay = record {
   beginnings = λ n.

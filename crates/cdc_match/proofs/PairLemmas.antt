@@ -117,9 +117,11 @@ spares-then : {A B : Type 0} (first : Read A) (then : A → Read B) → SparesMe
 spares-then (Ok value) then one two h = two value h
 spares-then (Err error) then one two h = one (cc)
 
+-- a word that names no known header is told as that, not as want of memory
 spares-key : {A : Type 0} (value : Option A) → SparesMemory (ok_or value UnknownKey)
 spares-key value = spares-ok_or value UnknownKey (λ h. absurd (cc))
 
+-- so is one whose value can't be read
 spares-value : {A : Type 0} (value : Option A) → SparesMemory (ok_or value BadValue)
 spares-value value = spares-ok_or value BadValue (λ h. absurd (cc))
 

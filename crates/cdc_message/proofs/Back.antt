@@ -22,37 +22,46 @@ use Rattle.cdc_message.specs.Values.{wide, narrow, account_value, transfer_value
 use Rattle.cdc_message.specs.Widths.{AccountFits, TransferFits, EventFits}
 use Rattle.cdc_message.proofs.DecimalTexts.{own_digits}
 
+-- so that a number's digits count as a text that isn't empty
 no_zero : (n : ℕ) → 0 < n → not (n == 0) ≡ true
 no_zero n h = grind arith
 
+-- the digits that a number is written with are a decimal text, as a reader of bodies asks
 is_decimal-decimal : (n : ℕ) → n < 10 ^ 64 → is_decimal (decimal n) ≡ true
 is_decimal-decimal n h =
     let numeral = (decimal_is_IsNumeral_wide n h).0 in
     let digits : list_all is_ascii_digit (decimal n) ≡ true = own_digits.from (decimal n) numeral.1 in
     rw (no_zero (length (decimal n)) numeral.0, digits)
 
+-- an amount or an id written as a decimal string is read as that number
 whole_number-wide : (n : ℕ) → n < 10 ^ 64 → whole_number (wide n) ≡ Some n
 whole_number-wide n h = rw (is_decimal-decimal n h, (decimal_is_IsNumeral_wide n h).1)
 
+-- a number that fits the bits of its field isn't refused as out of range
 up_to_width : (bits : ℕ) (at : Field) (n : ℕ) → n < 2 ^ bits → up_to (2 ^ bits - 1) at n ≡ Ok n
 up_to_width bits at n h = let le : n ≤ 2 ^ bits - 1 = omega arith in rw (le-leb n (2 ^ bits - 1) le)
 
+-- a field that was written as a decimal string gives back its number
 number_at-wide : (bits : ℕ) (at : Field) (value : Data) (n : ℕ) → get (key_of at.name) value ≡ Some (wide n)
     → n < 2 ^ bits → n < 10 ^ 64 → number_at bits at value ≡ Ok n
 number_at-wide bits at value n found fits short = rw (found, whole_number-wide n short) (up_to_width bits at n fits)
 
+-- the same of a field that was written as a JSON number
 number_at-narrow : (bits : ℕ) (at : Field) (value : Data) (n : ℕ) → get (key_of at.name) value ≡ Some (narrow n)
     → n < 2 ^ bits → number_at bits at value ≡ Ok n
 number_at-narrow bits at value n found fits = rw found (up_to_width bits at n fits)
 
+-- the case of ids, amounts and balances, which have 128 bits
 at_128 : (at : Field) (value : Data) (n : ℕ) → get (key_of at.name) value ≡ Some (wide n) → n < 2 ^ 128
     → number_at 128 at value ≡ Ok n
 at_128 at value n found fits = number_at-wide 128 at value n found fits (omega arith)
 
+-- the case of timestamps and of the 64 bits of user data
 at_64 : (at : Field) (value : Data) (n : ℕ) → get (key_of at.name) value ≡ Some (wide n) → n < 2 ^ 64
     → number_at 64 at value ≡ Ok n
 at_64 at value n found fits = number_at-wide 64 at value n found fits (omega arith)
 
+-- the transfer of an event is read back field by field as it was written
 pub transfer_of-transfer_value : (transfer : EventTransfer) → TransferFits transfer
     → transfer_of (transfer_value transfer) ≡ Ok transfer
 transfer_of-transfer_value transfer fits =
@@ -70,6 +79,7 @@ transfer_of-transfer_value transfer fits =
       at_64 (field Transfer name.Timestamp) value transfer.timestamp refl fits.timestamp,
     )
 
+-- so is either account of an event
 pub account_of-account_value : (part : Part) (account : EventAccount) → AccountFits account
     → account_of part (account_value account) ≡ Ok account
 account_of-account_value part account fits =
@@ -88,6 +98,7 @@ account_of-account_value part account fits =
       at_64 (field part name.Timestamp) value account.timestamp refl fits.timestamp,
     )
 
+-- so is the kind: no two of the five are written alike
 pub kind_named-kind_text : (kind : EventKind) → kind_named (kind_text kind) ≡ Some kind
 kind_named-kind_text SinglePhase = refl
 kind_named-kind_text TwoPhasePending = refl

@@ -7,16 +7,19 @@ use Rattle.serde_json.specs.Read as json
 use Rattle.cdc_message.specs.declared.errors.DecodeError.TheVariants.{NotJson}
 use Rattle.cdc_message.specs.Reading.{read, event_of, value_of}
 
+-- where the bytes are JSON, a body is read as their value is
 pub read_some : (bytes : List ℕ) (value : Data) → IsUtf8 bytes → json.read bytes ≡ Some value
     → read bytes ≡ event_of value
 unfolding read
 read_some bytes value text is = rw (is_utf8-from_IsUtf8 bytes text, is)
 
+-- bytes have no value where they aren't UTF-8, or where the JSON crate reads none from them
 value_none : (bytes : List ℕ) (b : Bool) → is_utf8 bytes ≡ b → (IsUtf8 bytes → json.read bytes ≡ None)
     → value_of bytes ≡ None
 value_none bytes true e none = rw (e, none (IsUtf8-from_is_utf8 bytes e))
 value_none bytes false e none = rw e
 
+-- such bytes are refused as no JSON before any field is looked for
 pub read_none : (bytes : List ℕ) → (IsUtf8 bytes → json.read bytes ≡ None) → read bytes ≡ Err NotJson
 unfolding read
 read_none bytes none = rw (value_none bytes (is_utf8 bytes) refl none)

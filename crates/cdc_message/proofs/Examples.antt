@@ -14,6 +14,7 @@ use Rattle.cdc_message.specs.Fields.{field}
 use Rattle.cdc_message.specs.Bodies.{body}
 use Rattle.cdc_message.specs.Reading.{read}
 
+-- the transfer of 100 from account 1 to account 2
 abbrev first_transfer : EventTransfer
 first_transfer = record {
   id = 1;
@@ -28,6 +29,7 @@ first_transfer = record {
   timestamp = 2000;
 }
 
+-- account 1 after it, with 100 debited
 abbrev debited : EventAccount
 debited = record {
   id = 1;
@@ -43,6 +45,7 @@ debited = record {
   timestamp = 1000;
 }
 
+-- account 2 after it, with 100 credited
 abbrev credited : EventAccount
 credited = record {
   id = 2;
@@ -58,6 +61,7 @@ credited = record {
   timestamp = 1001;
 }
 
+-- the event that tells of the transfer, with both accounts as they are after it
 abbrev pub first_event : Event
 first_event = record {
   timestamp = 2000;
@@ -95,22 +99,27 @@ first_in_order =
     ++ codes "\"credits_pending\":\"0\",\"credits_posted\":\"100\",\"user_data_128\":\"0\","
     ++ codes "\"user_data_64\":\"0\",\"user_data_32\":0,\"code\":10,\"flags\":0,\"timestamp\":\"1001\"}}"
 
+-- the event is written as that body, to the byte
 first_is_written : body first_event ≡ first_body
 unfolding body digits
 first_is_written = refl
 
+-- and the body is read as the event
 first_is_read : read first_body ≡ Ok first_event
 unfolding read serde_json_on_literals is_utf8 chars
 first_is_read = refl
 
+-- a body whose members stand in another order is read as the same event
 order_is_free : read first_in_order ≡ Ok first_event
 unfolding read serde_json_on_literals is_utf8 chars
 order_is_free = refl
 
+-- a body that is JSON but no object is refused before any member is missed
 a_list_is_no_object : read (codes "[]") ≡ Err NotAnObject
 unfolding read serde_json_on_literals is_utf8 chars
 a_list_is_no_object = refl
 
+-- a number's string has digits alone: with a plus sign it is of the wrong type
 a_sign_is_no_digit : read (codes "{\"timestamp\":\"+700\"}") ≡ Err (WrongType (field Top Timestamp))
 unfolding read serde_json_on_literals is_utf8 chars
 a_sign_is_no_digit = refl

@@ -27,6 +27,7 @@ use Rattle.cdc_message.proofs.Utf8.{IsUtf8-body}
 
 -- ---- the JSON crate reads the compact text of a value as that value
 
+-- so that a body is read as the value of its event, once that value is known to come back and not to nest too deep
 read-compact_text : (d : Data) → HasNumbers (outline d) → of_json (outline d) ≡ Some d
     → tree.depth (outline d) ≤ max_depth → values.read (compact_text d) ≡ Some d
 read-compact_text d numbers back shallow =
@@ -39,6 +40,7 @@ read-compact_text d numbers back shallow =
 
 -- ---- the values of an event and its parts
 
+-- the numbers in an account's value are numbers by the grammar of JSON, so that its text can be read
 account_numbers : (account : EventAccount) → AccountFits account → HasNumbers (outline (account_value account))
 account_numbers account fits =
     let code = IsNumber-decimal account.code (omega (arith, fits.code)) in
@@ -46,6 +48,7 @@ account_numbers account fits =
     let own = IsNumber-decimal account.user_data_32 (omega (arith, fits.user_data_32)) in
     (code, (tt, (tt, (tt, (tt, (flags, (tt, (tt, (tt, (own, (tt, tt)))))))))))
 
+-- the same of a transfer's value
 transfer_numbers : (transfer : EventTransfer) → TransferFits transfer → HasNumbers (outline (transfer_value transfer))
 transfer_numbers transfer fits =
     let code = IsNumber-decimal transfer.code (omega (arith, fits.code)) in
@@ -54,6 +57,7 @@ transfer_numbers transfer fits =
     let own = IsNumber-decimal transfer.user_data_32 (omega (arith, fits.user_data_32)) in
     (tt, (code, (flags, (tt, (tt, (timeout, (tt, (tt, (own, (tt, tt))))))))))
 
+-- the same of a whole event's
 event_numbers : (event : Event) → EventFits event → HasNumbers (outline (event_value event))
 event_numbers event fits =
     let ledger = IsNumber-decimal event.ledger (omega (arith, fits.ledger)) in (
@@ -64,6 +68,7 @@ event_numbers event fits =
       ),
     )
 
+-- an account's value comes back from its JSON: its codes, flags and narrow user data fit 64 bits
 account_back : (account : EventAccount) → AccountFits account
     → of_json (outline (account_value account)) ≡ Some (account_value account)
 account_back account fits =
@@ -76,6 +81,7 @@ account_back account fits =
       number_of-decimal account.user_data_32 own,
     )
 
+-- so does a transfer's
 transfer_back : (transfer : EventTransfer) → TransferFits transfer
     → of_json (outline (transfer_value transfer)) ≡ Some (transfer_value transfer)
 transfer_back transfer fits =
@@ -90,6 +96,7 @@ transfer_back transfer fits =
       number_of-decimal transfer.user_data_32 own,
     )
 
+-- an event's value comes back where those of its accounts and its transfer do
 back_by_parts : (event : Event) (credit debit transfer : Data) → event.ledger < 2 ^ 64
     → of_json (outline credit) ≡ Some credit → of_json (outline debit) ≡ Some debit
     → of_json (outline transfer) ≡ Some transfer
@@ -98,6 +105,7 @@ back_by_parts : (event : Event) (credit debit transfer : Data) → event.ledger 
 back_by_parts event credit debit transfer ledger is_credit is_debit is_transfer =
     rw (is_credit, is_debit, number_of-decimal event.ledger ledger, is_transfer)
 
+-- so the value of every event whose numbers fit comes back
 event_back : (event : Event) → EventFits event → of_json (outline (event_value event)) ≡ Some (event_value event)
 event_back event fits =
     back_by_parts event (account_value event.credit_account) (account_value event.debit_account)
@@ -106,6 +114,7 @@ event_back event fits =
     (account_back event.debit_account fits.debit_account)
     (transfer_back event.transfer fits.transfer)
 
+-- what a publisher writes for an event, a subscriber reads as that event
 pub read-body : BodiesReadBack
 read-body event fits =
     let parsed : values.read (body event) ≡ Some (event_value event) =

@@ -44,6 +44,7 @@ rises-all w f apart rise replay ended =
 
 -- ---- the first ones of items and of their events
 
+-- an event's message came before just where the event did, whatever end marks stand between
 has_same-events : (e : Event) (items : List Item)
     → has_same same_item (OfEvent e) items ≡ has_same same_event e (events_of items)
 has_same-events e [] = refl
@@ -79,6 +80,7 @@ firsts_push w (OfEvent e) so_far =
           ∙ sym (rw missing at more)
     ]
 
+-- and any number of further items
 firsts_from : (before w : List Item) → events_of (firsts same_item before) ≡ firsts same_event (events_of before)
     → events_of (firsts same_item (before ++ w)) ≡ firsts same_event (events_of (before ++ w))
 firsts_from before [] so_far = rw (append-nil before) so_far
@@ -93,12 +95,14 @@ events_of-firsts w = firsts_from [] w refl
 
 -- ---- timestamps that rise
 
+-- where nothing has been told yet, timestamps rise
 pub TimestampsRise-nil : TimestampsRise []
 TimestampsRise-nil = record {
   above_zero = λ k d below. absurd (omega arith);
   rising = λ i j d before below. absurd (omega arith);
 }
 
+-- the last timestamp of events is that of the event at their last place
 last_is : (t : ℕ) (es : List Event) (k : ℕ) (d : Event) → k + 1 ≡ length es
     → last_timestamp_from t es ≡ (get_or es k d).timestamp
 last_is t [] k d h = absurd (omega arith)
@@ -140,6 +144,7 @@ TimestampsRise-one_more before e rise =
           rw stays rise
     ]
 
+-- and any number of further events
 rises_from : (before es : List Event) → TimestampsRise (rises before) → TimestampsRise (rises (before ++ es))
 rises_from before [] rise = rw (append-nil before) rise
 rises_from before (e ∷ es) rise =
@@ -151,6 +156,7 @@ rises_from before (e ∷ es) rise =
 pub TimestampsRise-rises : (es : List Event) → TimestampsRise (rises es)
 TimestampsRise-rises es = rises_from [] es TimestampsRise-nil
 
+-- where timestamps rise, each event that comes joins those that rise
 rising_from : (before es : List Event) → TimestampsRise (before ++ es) → rises before ≡ before
     → rises (before ++ es) ≡ before ++ es
 rising_from before [] rise so_far = rw (append-nil before) so_far
@@ -168,10 +174,12 @@ rises-rising es rise = rising_from [] es rise refl
 
 -- ---- the items of events
 
+-- the events of a line told of some events are those events
 pub events_of-map : (es : List Event) → events_of (map OfEvent es) ≡ es
 events_of-map [] = refl
 events_of-map (e ∷ es) = ap (λ more. e ∷ more) (events_of-map es)
 
+-- at each place of such a line stands an event's message
 event_at : (es : List Event) (i : ℕ) (d : Item) → i < length es
     → (e : Event) × (get_or (map OfEvent es) i d ≡ OfEvent e)
 event_at [] i d below = absurd (omega arith)

@@ -8,10 +8,12 @@ use Rattle.cdc_message.specs.Headers.{headers_of_event, AreProperties}
 use Rattle.cdc_message.specs.Messages.{event_in, BelongTo}
 use Rattle.cdc_message.specs.Reading.{read}
 
+-- a message is seen as the event that its body reads as
 pub event_in_is : (text : List ℕ) (event : Event) → read text ≡ Ok event → event_in text ≡ event
 unfolding event_in
 event_in_is text event e = rw e
 
+-- so that a message built of an event is known to have headers, properties and body of that one event
 pub belong : (headers : Headers) (properties : Properties) (text : List ℕ) (event : Event)
     → headers ≡ headers_of_event event → AreProperties properties event → text ≡ body event → read text ≡ Ok event
     → BelongTo headers properties text (event_in text)

@@ -11,6 +11,7 @@ use Rattle.cdc_message.proofs.Examples.{first_event}
 abbrev at : ℕ → Event
 at t = record first_event { timestamp = t }
 
+-- with a ledger of its own, so that two events may share a timestamp
 abbrev on : ℕ → ℕ → Event
 on t ledger = record first_event { timestamp = t; ledger = ledger }
 
@@ -18,9 +19,11 @@ on t ledger = record first_event { timestamp = t; ledger = ledger }
 abbrev sent_again : List Item
 sent_again = OfEvent (at 5) ∷ OfEvent (at 8) ∷ OfEvent (at 5) ∷ OfEvent (at 8) ∷ OfEvent (at 9) ∷ EndMark ∷ EndMark ∷ []
 
+-- without the repeats, each event stands once and so does the end mark
 each_once : firsts same_item sent_again ≡ OfEvent (at 5) ∷ OfEvent (at 8) ∷ OfEvent (at 9) ∷ EndMark ∷ []
 each_once = refl
 
+-- by timestamps alone the same events are new
 by_timestamps : rises (events_of sent_again) ≡ at 5 ∷ at 8 ∷ at 9 ∷ []
 by_timestamps = refl
 
@@ -28,6 +31,7 @@ by_timestamps = refl
 two_of_a_time : firsts same_item (OfEvent (on 5 1) ∷ OfEvent (on 5 2) ∷ []) ≡ OfEvent (on 5 1) ∷ OfEvent (on 5 2) ∷ []
 two_of_a_time = refl
 
+-- by timestamps alone the second of them is taken for a repeat
 one_rises : rises (on 5 1 ∷ on 5 2 ∷ []) ≡ on 5 1 ∷ []
 one_rises = refl
 

@@ -11,9 +11,11 @@ use Rattle.cdc_message.specs.Replays.{HaveSame, IsReplay, IsPrefix, HasNoneTwice
 
 -- ---- lists with the same elements
 
+-- a list has what it has itself, so that nothing sent and everything sent once are replays
 pub HaveSame-refl : {X : Type 0} (xs : List X) → HaveSame xs xs
 HaveSame-refl xs = record { forth = λ x h. h; back = λ x h. h }
 
+-- so that what replays a replay can be compared with the first list
 pub HaveSame-trans : {X : Type 0} {xs ys zs : List X} → HaveSame xs ys → HaveSame ys zs → HaveSame xs zs
 HaveSame-trans p q = record { forth = λ x h. q.forth x (p.forth x h); back = λ x h. p.back x (q.back x h) }
 
@@ -28,6 +30,7 @@ HaveSame-again xs ys x same there = record {
   back = λ y h. Contains-append_left xs (x ∷ []) y (same.back y h);
 }
 
+-- one direction of the next, which takes it both ways
 push_forth : {X : Type 0} (xs ys : List X) (x : X) → HaveSame xs ys → (y : X) → Contains (xs ++ x ∷ []) y
     → Contains (ys ++ x ∷ []) y
 push_forth xs ys x same y h =
@@ -45,14 +48,17 @@ HaveSame-push xs ys x same = record {
 
 -- ---- replays
 
+-- before anything has come, that is a replay of anything
 pub IsReplay-nil : {X : Type 0} (f : List X) → IsReplay [] f
 IsReplay-nil f = record {
   beginnings = λ n. let none = take_all n (take 0 f) (omega arith) in (0, rw none (HaveSame-refl (take 0 f)));
 }
 
+-- what is sent once and in order is a replay of itself
 pub IsReplay-refl : {X : Type 0} (f : List X) → IsReplay f f
 IsReplay-refl f = record { beginnings = λ n. (n, HaveSame-refl (take n f)) }
 
+-- a replay of a replay is one: what a subscriber hears of its queue, and the queue of what the ledger tells
 pub IsReplay-trans : {X : Type 0} (w v f : List X) → IsReplay w v → IsReplay v f → IsReplay w f
 IsReplay-trans w v f of_v of_f = record {
   beginnings = λ n.
@@ -127,6 +133,7 @@ IsReplay-longer w f g replay = record {
 
 -- ---- elements of a beginning
 
+-- an element of a beginning stands at a place before its end
 Contains-take : {X : Type 0} (m : ℕ) (f : List X) (x : X) → Contains (take m f) x
     → (i : ℕ) × (i < m) × (i < length f) × (get_or f i x ≡ x)
 Contains-take m f x (i, below, is) =
@@ -134,6 +141,7 @@ Contains-take m f x (i, below, is) =
     let within : i < length f = omega (arith, length-take m f) in
     (i, low, within, sym (get_or-take m f i x low) ∙ is)
 
+-- and what stands at such a place is in the beginning
 Contains-from_take : {X : Type 0} (m i : ℕ) (f : List X) (x : X) → i < m → i < length f → get_or f i x ≡ x
     → Contains (take m f) x
 Contains-from_take m i f x low within is = (i, omega (arith, length-take m f), get_or-take m f i x low ∙ is)
@@ -147,11 +155,13 @@ IsReplay-Contains w f x replay there =
 
 -- ---- the first of each
 
+-- one more element joins the first ones unless the same one came before
 pub firsts-push : {X : Type 0} (same : X → X → Bool) (w : List X) (x : X)
     → firsts same (w ++ x ∷ []) ≡ cond (has_same same x (firsts same w)) (firsts same w) (firsts same w ++ x ∷ [])
 firsts-push same w x = rw (fold-append (λ seen y. cond (has_same same y seen) seen (seen ++ y ∷ [])) [] w (x ∷ [])) refl
 
 module _ {X : Type 0} (same : X → X → Bool) (decides : (a b : X) → Decides (same a b) (a ≡ b)) where
+  -- the test whether an element came before is right where the test of sameness is
   pub Decides-has_same : (x : X) (seen : List X) → Decides (has_same same x seen) (Contains seen x)
   Decides-has_same x seen =
       Decides-contains seen x (has_same same x seen)
@@ -227,6 +237,7 @@ module _ {X : Type 0} (same : X → X → Bool) (decides : (a b : X) → Decides
         elements = rw more (HaveSame-push v (take b.count f) x b.elements);
       }
 
+  -- so after one more element, new or not, the first ones are still a beginning of f
   HasBegun-push : (v f : List X) (x : X) → HasNoneTwice f → HasBegun same v f → (n : ℕ)
       → HaveSame (v ++ x ∷ []) (take n f)
       → HasBegun same (v ++ x ∷ []) f
@@ -238,6 +249,7 @@ module _ {X : Type 0} (same : X → X → Bool) (decides : (a b : X) → Decides
             HasBegun-next v f x b new next.0 next.1
       ]
 
+  -- before anything has come, it is the empty beginning
   HasBegun-nil : (f : List X) → HasBegun same [] f
   HasBegun-nil f = record { count = 0; within = omega arith; firsts_are = refl; elements = HaveSame-refl [] }
 
@@ -285,6 +297,7 @@ HaveSame-place w f x n i same near below here =
           rw (count, more) (HaveSame-push w (take n f) x same)
     ]
 
+-- so any element up to the one that comes next may be sent, and a replay stays one
 pub IsReplay-place : {X : Type 0} (w f : List X) (x : X) (n i : ℕ) → IsReplay w f → HaveSame w (take n f) → i ≤ n
     → i < length f
     → get_or f i x ≡ x → IsReplay (w ++ x ∷ []) f

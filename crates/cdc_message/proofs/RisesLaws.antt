@@ -25,6 +25,7 @@ behind : (x : Event) (some more end : List Event) (t : Bool) → more ≡ some +
 behind x some more end true is = ap (λ ys. x ∷ ys) is
 behind x some more end false is = is
 
+-- one more event comes last of those that rise or not at all, and changes none before it
 newest_after-push : (before es : List Event) (e : Event)
     → newest_after before (es ++ e ∷ []) ≡ newest_after before es ++ cond (is_newest (before ++ es) e) (e ∷ []) []
 newest_after-push before [] e = rw (append-nil before) refl
@@ -47,9 +48,11 @@ rises-is_newest es e =
 latest_from : ℕ → List Event → ℕ
 latest_from t es = fold (λ latest e. max latest e.timestamp) t es
 
+-- what is later than two moments is later than the greater one
 lt_max : (t b n : ℕ) → nat_lt (max t b) n ≡ (nat_lt t n && nat_lt b n)
 lt_max t b n = grind (arith, nat_tests)
 
+-- so that the tests of an event against each one before it can be taken in turn
 and_assoc : (a b c : Bool) → (a && (b && c)) ≡ ((a && b) && c)
 and_assoc true b c = refl
 and_assoc false b c = refl
@@ -66,21 +69,26 @@ newest-latest_from t (x ∷ es) e =
     ∙ ap (λ b. b && rest) (sym (lt_max t x.timestamp e.timestamp))
     ∙ newest-latest_from (max t x.timestamp) es e
 
+-- the latest timestamp after one more event is the greater of the two
 latest_from-push : (t : ℕ) (es : List Event) (e : Event)
     → latest_from t (es ++ e ∷ []) ≡ max (latest_from t es) e.timestamp
 unfolding latest_from
 latest_from-push t es e = fold-append (λ latest (x : Event). max latest x.timestamp) t es (e ∷ [])
 
+-- where an event comes last, the last timestamp is its own
 last_timestamp_from-push : (t : ℕ) (es : List Event) (e : Event) → last_timestamp_from t (es ++ e ∷ []) ≡ e.timestamp
 last_timestamp_from-push t [] e = refl
 last_timestamp_from-push t (x ∷ es) e = last_timestamp_from-push x.timestamp es e
 
+-- a later event has the latest timestamp from then on
 max_later : (a b : ℕ) → nat_lt a b ≡ true → max a b ≡ b
 max_later a b h = grind (arith, nat_tests)
 
+-- an event that isn't later leaves it
 max_earlier : (a b : ℕ) → nat_lt a b ≡ false → max a b ≡ a
 max_earlier a b h = grind (arith, nat_tests)
 
+-- so that a new event need only be held against the latest timestamp
 is_newest-latest_from : (before : List Event) (e : Event) (t : Bool) → is_newest before e ≡ t
     → nat_lt (latest_from 0 before) e.timestamp ≡ t
 is_newest-latest_from before e t h = sym (newest-latest_from 0 before e) ∙ h
@@ -104,6 +112,7 @@ last-rises-push before e so_far =
           ∙ sym (latest_from-push 0 before e)
     ]
 
+-- so it stays through any number of further events
 last-rises_from : (before es : List Event) → last_timestamp (rises before) ≡ latest_from 0 before
     → last_timestamp (rises (before ++ es)) ≡ latest_from 0 (before ++ es)
 last-rises_from before [] so_far = rw (append-nil before) so_far
@@ -119,6 +128,7 @@ unfolding latest_from
 is_newest-last es e =
     newest-latest_from 0 es e ∙ ap (λ t. nat_lt t e.timestamp) (sym (last-rises_from [] es refl))
 
+-- so a subscriber that knows only the last event it applied can tell whether to apply one more
 pub rises-push : (es : List Event) (e : Event)
     → rises (es ++ e ∷ []) ≡ cond (nat_lt (last_timestamp (rises es)) e.timestamp) (rises es ++ e ∷ []) (rises es)
 rises-push es e = rw (is_newest-last es e) at (rises-is_newest es e)
@@ -137,26 +147,33 @@ Decides-is_newest es e =
 
 -- ---- the events of items
 
+-- one more item adds its event, if it has one
 events_of-push : (items : List Item) (item : Item)
     → events_of (items ++ item ∷ []) ≡ events_of items ++ events_of (item ∷ [])
 events_of-push items item = filter_map-append item_event items (item ∷ [])
 
+-- the message of an event adds the event
 pub events_of-push_event : (items : List Item) (e : Event)
     → events_of (items ++ OfEvent e ∷ []) ≡ events_of items ++ e ∷ []
 events_of-push_event items e = events_of-push items (OfEvent e)
 
+-- the end mark adds none
 pub events_of-push_end : (items : List Item) → events_of (items ++ EndMark ∷ []) ≡ events_of items
 events_of-push_end items = events_of-push items EndMark ∙ append-nil (events_of items)
 
+-- of items sent in two turns the events are those of the first turn and then those of the second
 pub events_of-append : (items more : List Item) → events_of (items ++ more) ≡ events_of items ++ events_of more
 events_of-append items more = filter_map-append item_event items more
 
+-- the first element of a list stands in it
 Contains_here : {X : Type 0} (x : X) (xs : List X) → Contains (x ∷ xs) x
 Contains_here x xs = (0, omega arith, refl)
 
+-- what stands in the rest of a list stands in the list
 Contains_there : {X : Type 0} (y : X) (xs : List X) (x : X) → Contains xs x → Contains (y ∷ xs) x
 Contains_there y xs x (i, below, is) = (suc i, omega arith, is)
 
+-- what stands in a list is its first element or stands in the rest
 Contains_cases : {X : Type 0} (y : X) (xs : List X) (x : X) → Contains (y ∷ xs) x → (y ≡ x) ⊎ Contains xs x
 Contains_cases y xs x (zero, below, is) = inl is
 Contains_cases y xs x (suc i, below, is) = inr (i, omega arith, is)
@@ -173,6 +190,7 @@ event_stands (OfEvent a ∷ items) e h =
 event_stands (EndMark ∷ items) e h =
     elim (Contains_cases EndMark items (OfEvent e) h) [ inl is ↦ cc | inr later ↦ event_stands items e later ]
 
+-- and an event that stands among them has an item
 pub item_stands : (items : List Item) (e : Event) → Contains (events_of items) e → Contains items (OfEvent e)
 item_stands [] e h = absurd (omega (arith, h.1))
 item_stands (OfEvent a ∷ items) e h =
@@ -265,6 +283,7 @@ module _ (f : List Item) (apart : HasNoneTwice f) (rise : TimestampsRise (events
             ∙ sym (rw newest at one_more)
       ]
 
+  -- so it is after each number of items
   rises-firsts_take : (w : List Item) → IsReplay w f → (k : ℕ)
       → events_of (firsts same_item (take k w)) ≡ rises (events_of (take k w))
   rises-firsts_take w replay zero = refl

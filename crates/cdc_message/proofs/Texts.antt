@@ -28,6 +28,7 @@ after_quote s = drop 1 (compact_text (string s))
 abbrev IsPlainByte : ℕ → Type 0
 IsPlainByte d = (ds : List ℕ) → after_quote (d ∷ ds) ≡ d ∷ after_quote ds
 
+-- each of the ten digits stands for itself in a JSON string
 plain_digit : (k : ℕ) → k < 10 → IsPlainByte (48 + k)
 unfolding serde_json_on_literals
 plain_digit zero h ds = refl
@@ -42,6 +43,7 @@ plain_digit (suc (suc (suc (suc (suc (suc (suc (suc zero)))))))) h ds = refl
 plain_digit (suc (suc (suc (suc (suc (suc (suc (suc (suc zero))))))))) h ds = refl
 plain_digit (suc (suc (suc (suc (suc (suc (suc (suc (suc (suc k)))))))))) h ds = absurd (omega arith)
 
+-- so does every row of digits
 plain_digits : (ds : List ℕ) → AllDigits 10 ds → after_quote ds ≡ ds ++ 34 ∷ []
 plain_digits [] h = refl
 plain_digits (d ∷ ds) h =
@@ -66,10 +68,12 @@ abbrev pub HasPlainKeys : Members → Type 0
 HasPlainKeys no_members = ⊤
 HasPlainKeys (member k d ms) = (compact_text (string k) ≡ in_quotes k) × HasPlainKeys ms
 
+-- a member whose name needs no escape is written as the definitions write one
 one_member : (k v rest : List ℕ) → compact_text (string k) ≡ in_quotes k
     → compact_text (string k) ++ 58 ∷ (v ++ rest) ≡ member_text k v ++ rest
 one_member k v rest h = ap (λ s. s ++ 58 ∷ (v ++ rest)) h ∙ simp append_assoc
 
+-- so are the members that follow, each behind a comma
 rest_text : (t : List ℕ) (ms : Members) → HasPlainKeys ms
     → t ++ members_text true ms ≡ join_with_byte 44 (t ∷ texts ms) ++ 125 ∷ []
 rest_text t no_members h = refl
@@ -78,6 +82,7 @@ rest_text t (member k d ms) h =
     (one_member k (compact_text d) (members_text true ms) h.0 ∙ rest_text (member_text k (compact_text d)) ms h.1)
     ∙ sym (append_assoc t (44 ∷ join_with_byte 44 (texts (member k d ms))) (125 ∷ []))
 
+-- so is a whole object whose names need no escape
 pub compact_text-object : (ms : Members) → HasPlainKeys ms → compact_text (object ms) ≡ object_text (texts ms)
 compact_text-object no_members h = refl
 compact_text-object (member k d ms) h =
@@ -86,24 +91,30 @@ compact_text-object (member k d ms) h =
 
 -- ---- the parts of an event
 
+-- no name of an account's members needs an escape
 account_keys : (account : EventAccount) → HasPlainKeys (account_members account)
 unfolding serde_json_on_literals
 account_keys account = (refl, (refl, (refl, (refl, (refl, (refl, (refl, (refl, (refl, (refl, (refl, tt)))))))))))
 
+-- none of a transfer's does
 transfer_keys : (transfer : EventTransfer) → HasPlainKeys (transfer_members transfer)
 unfolding serde_json_on_literals
 transfer_keys transfer = (refl, (refl, (refl, (refl, (refl, (refl, (refl, (refl, (refl, (refl, tt))))))))))
 
+-- none of an event's does
 event_keys : (credit debit transfer : Data) (event : Event) → HasPlainKeys (event_members credit debit transfer event)
 unfolding serde_json_on_literals
 event_keys credit debit transfer event = (refl, (refl, (refl, (refl, (refl, (refl, tt))))))
 
+-- the case of ids, amounts and balances
 plain_128 : (n : ℕ) → n < 2 ^ 128 → after_quote (decimal n) ≡ decimal n ++ 34 ∷ []
 plain_128 n h = plain_decimal n (omega arith)
 
+-- the case of timestamps and of the 64 bits of user data
 plain_64 : (n : ℕ) → n < 2 ^ 64 → after_quote (decimal n) ≡ decimal n ++ 34 ∷ []
 plain_64 n h = plain_decimal n (omega arith)
 
+-- the JSON crate writes an account as the definitions do
 pub compact_text-account : (account : EventAccount) → AccountFits account
     → compact_text (account_value account) ≡ account_text account
 compact_text-account account fits =
@@ -119,6 +130,7 @@ compact_text-account account fits =
       plain_64 account.user_data_64 fits.user_data_64,
     )
 
+-- so it writes a transfer
 pub compact_text-transfer : (transfer : EventTransfer) → TransferFits transfer
     → compact_text (transfer_value transfer) ≡ transfer_text transfer
 compact_text-transfer transfer fits =
@@ -132,6 +144,7 @@ compact_text-transfer transfer fits =
       plain_64 transfer.user_data_64 fits.user_data_64,
     )
 
+-- the name of no kind needs an escape
 plain_kind : (kind : EventKind) → after_quote (kind_text kind) ≡ kind_text kind ++ 34 ∷ []
 unfolding serde_json_on_literals
 plain_kind SinglePhase = refl
@@ -156,6 +169,7 @@ by_parts event credit debit transfer credit_text debit_text of_transfer fits is_
     compact_text-object (event_members credit debit transfer event) (event_keys credit debit transfer event)
     ∙ rw (is_credit, is_debit, is_transfer, plain_64 event.timestamp fits, plain_kind event.kind)
 
+-- what the JSON crate writes for an event is the event's body
 pub compact_text-event : (event : Event) → EventFits event → compact_text (event_value event) ≡ body event
 unfolding body
 compact_text-event event fits =

@@ -15,54 +15,68 @@ use Rattle.cdc_message.specs.Bodies.{in_quotes, member_text, object_text, narrow
 use Rattle.cdc_message.specs.Kinds.{kind_text}
 use Rattle.cdc_message.specs.Widths.{AccountFits, TransferFits, EventFits}
 
+-- each sign that a body is put together with is text: a quotation mark
 quote : IsUtf8 (codes "\"")
 unfolding is_utf8 chars encode_utf8
 quote = IsUtf8-from_is_utf8 _ refl
 
+-- a colon
 colon : IsUtf8 (codes ":")
 unfolding is_utf8 chars encode_utf8
 colon = IsUtf8-from_is_utf8 _ refl
 
+-- a comma
 comma : IsUtf8 (codes ",")
 unfolding is_utf8 chars encode_utf8
 comma = IsUtf8-from_is_utf8 _ refl
 
+-- an opening brace
 opened : IsUtf8 (codes "{")
 unfolding is_utf8 chars encode_utf8
 opened = IsUtf8-from_is_utf8 _ refl
 
+-- a closing brace
 closed : IsUtf8 (codes "}")
 unfolding is_utf8 chars encode_utf8
 closed = IsUtf8-from_is_utf8 _ refl
 
+-- text in quotes is text
 quoted_text : (s : List ℕ) → IsUtf8 s → IsUtf8 (in_quotes s)
 quoted_text s h = IsUtf8-append _ _ (IsUtf8-append _ _ quote h) quote
 
+-- a member is text where its value is
 member_is_text : (name value : List ℕ) → is_utf8 name ≡ true → IsUtf8 value → IsUtf8 (member_text name value)
 member_is_text name value h k =
     IsUtf8-append _ _ (IsUtf8-append _ _ (quoted_text name (IsUtf8-from_is_utf8 name h)) colon) k
 
+-- the digits of a number are text
 number_is_text : (n : ℕ) → n < 10 ^ 64 → IsUtf8 (decimal n)
 number_is_text n h = IsUtf8-from_ascii (decimal n) (IsAscii-decimal_wide n h)
 
+-- so a member that is a JSON number is text
 narrow_is_text : (name : List ℕ) (n : ℕ) → is_utf8 name ≡ true → n < 10 ^ 64 → IsUtf8 (narrow_member name n)
 narrow_is_text name n h short = member_is_text name _ h (number_is_text n short)
 
+-- and one that is a decimal string
 wide_is_text : (name : List ℕ) (n : ℕ) → is_utf8 name ≡ true → n < 10 ^ 64 → IsUtf8 (wide_member name n)
 wide_is_text name n h short = member_is_text name _ h (quoted_text (decimal n) (number_is_text n short))
 
+-- each of these members is text
 abbrev AreTexts : List (List ℕ) → Type 0
 AreTexts [] = ⊤
 AreTexts (t ∷ ts) = IsUtf8 t × AreTexts ts
 
+-- members with commas between them are text
 joined_is_text : (ts : List (List ℕ)) → AreTexts ts → IsUtf8 (join_with_byte 44 ts)
 joined_is_text [] h = IsUtf8-nil
 joined_is_text (t ∷ []) h = h.0
 joined_is_text (t ∷ u ∷ ts) h = IsUtf8-append t _ h.0 (IsUtf8-append (44 ∷ []) _ comma (joined_is_text (u ∷ ts) h.1))
 
+-- so an object is text where its members are
 object_is_text : (ts : List (List ℕ)) → AreTexts ts → IsUtf8 (object_text ts)
 object_is_text ts h = IsUtf8-append _ _ (IsUtf8-append _ _ opened (joined_is_text ts h)) closed
 
+-- the text of an account
 account_is_text : (account : EventAccount) → AccountFits account → IsUtf8 (account_text account)
 unfolding is_utf8 chars encode_utf8
 account_is_text account fits =
@@ -104,6 +118,7 @@ account_is_text account fits =
       ),
     )
 
+-- the text of a transfer
 transfer_is_text : (transfer : EventTransfer) → TransferFits transfer → IsUtf8 (transfer_text transfer)
 unfolding is_utf8 chars encode_utf8
 transfer_is_text transfer fits =
@@ -142,6 +157,7 @@ transfer_is_text transfer fits =
       ),
     )
 
+-- the name of every kind
 kind_is_text : (kind : EventKind) → IsUtf8 (kind_text kind)
 unfolding is_utf8 chars encode_utf8
 kind_is_text SinglePhase = IsUtf8-from_is_utf8 _ refl
@@ -150,6 +166,7 @@ kind_is_text TwoPhasePosted = IsUtf8-from_is_utf8 _ refl
 kind_is_text TwoPhaseVoided = IsUtf8-from_is_utf8 _ refl
 kind_is_text TwoPhaseExpired = IsUtf8-from_is_utf8 _ refl
 
+-- a body is text, without which a reader would take it for no JSON
 pub IsUtf8-body : (event : Event) → EventFits event → IsUtf8 (body event)
 unfolding body is_utf8 chars encode_utf8
 IsUtf8-body event fits =

@@ -14,19 +14,24 @@ third_as_text = refl
 abbrev planned : Memory
 planned = record { held = None; calls = 0; fails_at = 2; keeps_new = true }
 
+-- the plan lets the first call through
 first_call_is_done : fails_next planned ≡ false
 first_call_is_done = refl
 
+-- the second is the one that fails
 second_call_fails : fails_next (called planned) ≡ true
 second_call_fails = refl
 
+-- where that call is a save, it fails and the new record is held all the same
 failing_save_keeps_the_new_record :
     (after_save (called planned) (record { session = 1; timestamp = 0 })).held
     ≡ Some (record { session = 1; timestamp = 0 })
 failing_save_keeps_the_new_record = refl
 
+-- the failure is counted
 it_has_failed_once : failures_of (called (called planned)) ≡ 1
 it_has_failed_once = refl
 
+-- and no later call fails
 later_calls_are_done : fails_next (called (called planned)) ≡ false
 later_calls_are_done = refl

@@ -24,9 +24,11 @@ pub decimal_same : (m n : ℕ) → m < 2 ^ 64 → n < 2 ^ 64 → decimal m ≡ d
 decimal_same m n m_fits n_fits same =
     sym (decimal_is_IsNumeral m m_fits).1 ∙ ap (digits_value 10) same ∙ (decimal_is_IsNumeral n n_fits).1
 
+-- a digit's byte isn't a space
 digit_is_no_space : (digit : ℕ) → ((48 + digit) == 32) ≡ false
 digit_is_no_space digit = grind arith
 
+-- and a text of one such byte has no space
 one_is_no_space : (b : ℕ) → (b == 32) ≡ false → HasNoSpace (b ∷ [])
 one_is_no_space b other = λ k d below. let first : k ≡ 0 = omega (arith, below) in rw first other
 
@@ -42,12 +44,15 @@ split_at : (xs ys : List ℕ) → HasNoSpace xs
     → slice_split (λ b. b == 32) (xs ++ 32 ∷ ys) ≡ xs ∷ slice_split (λ b. b == 32) ys
 split_at xs ys free = slice_split_at (λ b. b == 32) xs 32 ys free refl
 
+-- of two texts that are parted alike the first parts are equal
 first_same : {A : Type 0} {x y : A} {xs ys : List A} → x ∷ xs ≡ y ∷ ys → x ≡ y
 first_same same = cc
 
+-- and so is what comes after them
 rest_same : {A : Type 0} {x y : A} {xs ys : List A} → x ∷ xs ≡ y ∷ ys → xs ≡ ys
 rest_same same = cc
 
+-- so two equal texts have equal parts before their first spaces
 same_front : (xs ys xs' ys' : List ℕ) → HasNoSpace xs → HasNoSpace xs' → xs ++ 32 ∷ ys ≡ xs' ++ 32 ∷ ys' → xs ≡ xs'
 same_front xs ys xs' ys' free free' same =
     first_same (sym (split_at xs ys free) ∙ ap (slice_split (λ b. b == 32)) same ∙ split_at xs' ys' free')

@@ -47,6 +47,7 @@ event timestamp = record {
   credit_account = side 2;
 }
 
+-- what is held of this session, confirmed up to this timestamp
 abbrev saved : ℕ → ℕ → Saved
 saved session timestamp = record { session = session; timestamp = timestamp }
 
@@ -54,6 +55,7 @@ saved session timestamp = record { session = session; timestamp = timestamp }
 next_number : begun (Some (saved 6 2000)) ≡ Some (saved 7 2000)
 next_number = refl
 
+-- after the greatest number no session begins
 no_next_number : begun (Some (saved 18446744073709551615 2000)) ≡ None
 no_next_number = refl
 
@@ -65,12 +67,15 @@ sent_one course = with_sent (next_packet course) course
 abbrev opened : Course
 opened = new_course (saved 7 2000) 3
 
+-- it was offered events 3000 and 3001, and no other follows them
 abbrev offered : Course
 offered = with_offer (event 3000 ∷ event 3001 ∷ []) true opened
 
+-- whatever it was offered, its connect goes first
 it_connects_first : next_packet offered ≡ Some (Connect 7)
 it_connects_first = refl
 
+-- at first it wants three events, those after the timestamp that was held
 three_are_wanted : wanted opened ≡ Some (record { after = 2000; limit = 3 })
 three_are_wanted = refl
 
@@ -78,12 +83,15 @@ three_are_wanted = refl
 abbrev published : Course
 published = sent_one (sent_one (sent_one offered))
 
+-- the connect has no tag, so the second event has tag 2
 the_second_has_tag_2 : next_packet (sent_one (sent_one offered)) ≡ Some (Publish 7 2 (OfEvent (event 3001)))
 the_second_has_tag_2 = refl
 
+-- both tags wait for their confirms
 both_wait : unconfirmed published ≡ 1 ∷ 2 ∷ []
 both_wait = refl
 
+-- the end mark isn't sent while an event waits
 nothing_follows_yet : next_packet published ≡ None
 nothing_follows_yet = refl
 
@@ -91,12 +99,15 @@ nothing_follows_yet = refl
 abbrev second_first : Course
 second_first = with_confirm 7 2 published
 
+-- what may be saved stays where it was: the first event isn't confirmed
 the_first_holds_it_back : confirmed_timestamp second_first ≡ 2000
 the_first_holds_it_back = refl
 
+-- tag 2 was confirmed already
 no_confirm_counts_twice : takes_confirm second_first 7 2 ≡ false
 no_confirm_counts_twice = refl
 
+-- tag 1 is open, but the confirm names the session before
 no_other_session_counts : takes_confirm second_first 6 1 ≡ false
 no_other_session_counts = refl
 
@@ -104,14 +115,18 @@ no_other_session_counts = refl
 abbrev both_confirmed : Course
 both_confirmed = with_confirm 7 1 second_first
 
+-- now the timestamp of the second event may be saved
 both_count : confirmed_timestamp both_confirmed ≡ 3001
 both_count = refl
 
+-- and the end mark is sent, under the tag after theirs
 the_end_follows : next_packet both_confirmed ≡ Some (Publish 7 3 EndMark)
 the_end_follows = refl
 
+-- nothing comes after it
 the_end_is_sent_once : next_packet (sent_one both_confirmed) ≡ None
 the_end_is_sent_once = refl
 
+-- the session is done once the end mark is confirmed
 done_when_it_is_confirmed : is_done (with_confirm 7 3 (sent_one both_confirmed)) ≡ true
 done_when_it_is_confirmed = refl

@@ -27,13 +27,16 @@ waiting_none : (w : Option ℕ) → waiting w ≤ 0 → w ≡ None
 waiting_none None low = refl
 waiting_none (Some tag) low = absurd (omega arith)
 
+-- with no event unsent the end mark may have been sent, and once at most
 flag_at_most : (flag : Bool) → 0 + flag_count flag ≤ 1
 flag_at_most true = omega arith
 flag_at_most false = omega arith
 
+-- where the test says so nothing has been sent, and the connect comes next
 sent_zero : (sent : ℕ) → (sent == 0) ≡ true → sent ≡ 0
 sent_zero sent is = grind (arith, nat_tests)
 
+-- else the connect was sent, and what follows it has a tag
 sent_some : (sent : ℕ) → (sent == 0) ≡ false → 0 < sent
 sent_some sent is = grind (arith, nat_tests)
 
@@ -135,6 +138,7 @@ advance_by kept course stands false None false at_first is_unsent is_ending =
     StandsFor kept (with_sent (if b then Some (Publish kept.number kept.sent EndMark) else None) course))
     (sym is_ending) stands
 
+-- a session that sends its next packet stands for the course that has sent it
 pub advanced_stands : (kept : Kept) (course : Course) → StandsFor kept course
     → StandsFor (advanced kept) (with_sent (next_packet course) course)
 advanced_stands kept course stands =
@@ -142,6 +146,7 @@ advanced_stands kept course stands =
     (packet_is kept course stands)
     (advance_by kept course stands (kept.sent == 0) kept.unsent (ends kept) refl refl refl)
 
+-- a confirm whose tag passes the test is for that tag
 eq_from : (a b : ℕ) → (a == b) ≡ true → a ≡ b
 eq_from a b is = grind (arith, nat_tests)
 
@@ -197,6 +202,7 @@ record IsFree (kept : Kept) (events : List Event) : Type 0 where
   complete : kept.complete ≡ false
   count : length events ≤ 1
 
+-- an offer comes only while nothing is unsent, no tag waits and the end isn't known, and has one event at most
 free_by : (kept : Kept) (events : List Event) (unsent : Option Event) (unconfirmed : Option ℕ) (complete : Bool)
     → kept.unsent ≡ unsent → kept.unconfirmed ≡ unconfirmed → kept.complete ≡ complete
     → IsOffered (if is_none unsent && (is_none unconfirmed && not complete)
@@ -208,9 +214,11 @@ free_by kept events None None true a b c offer = absurd offer
 free_by kept events None (Some tag) complete a b c offer = absurd offer
 free_by kept events (Some event) unconfirmed complete a b c offer = absurd offer
 
+-- so it is whenever a session is offered what it wants
 is_free : (kept : Kept) (events : List Event) → IsOffered (poll_of kept) events → IsFree kept events
 is_free kept events offer = free_by kept events kept.unsent kept.unconfirmed kept.complete refl refl refl offer
 
+-- where the end isn't known, the end mark wasn't sent
 unknown_end : (ended complete : Bool) → (ended ≡ true → complete ≡ true) → complete ≡ false → ended ≡ false
 unknown_end true complete known not_yet = let is = known refl in cc
 unknown_end false complete known not_yet = refl
@@ -221,6 +229,7 @@ last_timestamp_from-push : (moment : ℕ) (events : List Event) (event : Event)
 last_timestamp_from-push moment [] event = refl
 last_timestamp_from-push moment (first ∷ events) event = last_timestamp_from-push first.timestamp events event
 
+-- the event that was just offered is the one to be sent next
 slice_get-push : (events : List Event) (event : Event) (i : ℕ) → i ≡ length events
     → slice_get (events ++ event ∷ []) i ≡ Some event
 slice_get-push [] event zero is = refl
@@ -248,6 +257,7 @@ none_stands kept course complete stands not_yet = record {
   end_known = λ on. cc;
 }
 
+-- so a session that is offered nothing stands for the course that only learns whether none follow
 pub offered_none : (kept : Kept) (course : Course) (events : List Event) (complete : Bool) → StandsFor kept course
     → IsOffered (poll_of kept) events → slice_get events 0 ≡ None
     → StandsFor (record kept { complete = complete }) (with_offer events complete course)
@@ -288,6 +298,7 @@ one_stands kept course event complete stands unsent unconfirmed not_yet =
       end_known = λ on. cc;
     }
 
+-- so a session that is offered an event keeps it to be sent, and stands for the course that was offered it
 pub offered_one : (kept : Kept) (course : Course) (events : List Event) (event : Event) (complete : Bool)
     → StandsFor kept course → IsOffered (poll_of kept) events → slice_get events 0 ≡ Some event
     → StandsFor (record kept { last = event.timestamp; unsent = Some event; complete = complete })

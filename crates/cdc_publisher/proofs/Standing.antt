@@ -29,6 +29,7 @@ confirmed_is kept course stands =
     ∙ sym (confirmed_from-take course k (confirmed_tags kept course stands) course.offered course.base 1 k (omega arith)
     (omega arith))
 
+-- of the tags sent, as many are unconfirmed as the session has waiting: one or none
 waiting_is : (course : Course) (w : Option ℕ) → IsLastTag (tags_sent course) w
     → course.confirmed ≡ numbers_from 1 (confirmed_count course w) → length (unconfirmed course) ≡ waiting w
 waiting_is course None last tags = unconfirmed_none course (tags_sent course - 0) tags (omega arith)
@@ -36,6 +37,7 @@ waiting_is course (Some tag) last tags =
     let above = last.1 in
     unconfirmed_one course (tags_sent course - 1) tags (omega arith)
 
+-- every event that was offered is sent just where the session keeps none unsent
 sent_all : (n tags : ℕ) (unsent : Option Event) (ended : Bool) → tags + unsent_count unsent ≡ n + flag_count ended
     → unsent_count unsent + flag_count ended ≤ 1 → nat_le n tags ≡ is_none unsent
 sent_all n tags None true count one = grind (arith, nat_tests)
@@ -51,6 +53,7 @@ wanted_from after sent count window complete =
     then Some (record { after = after; limit = window - count })
     else None
 
+-- what the session wants by its own fields is what is wanted with a window of 1
 wanted_here : (after : ℕ) (unsent : Option Event) (w : Option ℕ) (complete : Bool)
     → (if is_none unsent && (is_none w && not complete) then Some (record { after = after; limit = 1 }) else None)
     ≡ wanted_from after (is_none unsent) (waiting w) 1 complete
@@ -59,6 +62,7 @@ wanted_here after None None false = refl
 wanted_here after None (Some tag) complete = refl
 wanted_here after (Some event) w complete = refl
 
+-- so that the fields of the session can be put in for those of the course one by one
 wanted_same : (after after' : ℕ) (sent sent' : Bool) (count count' window window' : ℕ) (complete complete' : Bool)
     → after ≡ after' → sent ≡ sent' → count ≡ count' → window ≡ window' → complete ≡ complete'
     → wanted_from after sent count window complete ≡ wanted_from after' sent' count' window' complete'
@@ -73,6 +77,7 @@ wanted_is kept course stands =
     (sym (sent_all (length course.offered) (tags_sent course) kept.unsent kept.ended stands.count stands.end_last))
     (sym (waiting_is course kept.unconfirmed stands.last_tag stands.tags)) (sym stands.window) stands.complete
 
+-- by the session's fields the end mark comes next just where every event is confirmed and it wasn't sent yet
 ends_by : (p : ℕ → Bool) (tags n : ℕ) (complete ended : Bool) (w : Option ℕ) → HoldsUpTo (tags - waiting w) p
     → tags ≡ n + flag_count ended → IsLastTag tags w
     → ((complete && list_all p (numbers_from 1 n)) && (tags == n)) ≡ (complete && (not ended && is_none w))
@@ -99,6 +104,7 @@ ends_is kept course stands none =
     sym same ∙ ap (λ b. (b && list_all (is_confirmed course) (numbers_from 1 (length course.offered)))
     && (tags_sent course == length course.offered)) stands.complete
 
+-- after the connect, session and course send the same: the unsent event, else the end mark if it may go
 publish_is : (kept : Kept) (course : Course) → StandsFor kept course → (unsent : Option Event) → kept.unsent ≡ unsent
     → publish_of kept unsent ≡ publish_packet course unsent
 publish_is kept course stands (Some event) is =
@@ -108,6 +114,7 @@ publish_is kept course stands None is =
     ∙ ap₂ (λ number sent. if may_end course && (tags_sent course == length course.offered)
     then Some (Publish number sent EndMark) else None) stands.number stands.sent
 
+-- so that the numbers of the session can be put in for those of the course
 packet_same : (sent sent' number number' : ℕ) (next next' : Option Packet) → sent ≡ sent' → number ≡ number'
     → next ≡ next'
     → (if sent == 0 then Some (Connect number) else next) ≡ (if sent' == 0 then Some (Connect number') else next')
@@ -119,6 +126,7 @@ packet_is kept course stands =
     packet_same kept.sent course.sent kept.number course.number _ _ stands.sent stands.number
     (publish_is kept course stands kept.unsent refl ∙ ap (publish_packet course) stands.unsent)
 
+-- the end mark was sent and no tag waits just where its tag, the one after the events', is confirmed
 done_by : (p : ℕ → Bool) (tags n : ℕ) (unsent : Option Event) (complete ended : Bool) (w : Option ℕ)
     → HoldsUpTo (tags - waiting w) p → tags + unsent_count unsent ≡ n + flag_count ended
     → unsent_count unsent + flag_count ended ≤ 1 → (ended ≡ true → complete ≡ true) → IsLastTag tags w
@@ -147,6 +155,7 @@ abbrev pub is_waiting : Option ℕ → ℕ → Bool
 is_waiting None tag = false
 is_waiting (Some last) tag = last == tag
 
+-- a tag that was sent and isn't confirmed is the one that waits
 waits_by : (p : Bool) (tags tag : ℕ) (w : Option ℕ) → p ≡ (nat_le 1 tag && nat_le tag (tags - waiting w))
     → IsLastTag tags w → ((nat_lt 0 tag && nat_le tag tags) && not p) ≡ is_waiting w tag
 waits_by p tags tag None up last = grind (arith, nat_tests)

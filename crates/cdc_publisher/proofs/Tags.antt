@@ -17,11 +17,13 @@ numbers_from-suc first (suc n) =
     let last : first + 1 + n ≡ first + suc n = omega arith in
     ap (λ ns. first ∷ ns) (numbers_from-suc (first + 1) n ∙ ap (λ m. numbers_from (first + 1) n ++ m ∷ []) last)
 
+-- a number from a first one on is that one or one of those behind it
 one_or_later : (first n tag : ℕ)
     → ((first == tag) || (nat_le (first + 1) tag && nat_lt tag (first + 1 + n)))
     ≡ (nat_le first tag && nat_lt tag (first + suc n))
 one_or_later first n tag = grind (arith, nat_tests)
 
+-- no number is among none
 none_here : (first tag : ℕ) → false ≡ (nat_le first tag && nat_lt tag (first + zero))
 none_here first tag = grind (arith, nat_tests)
 
@@ -36,6 +38,7 @@ among_numbers first (suc n) tag =
 abbrev pub HoldsUpTo : ℕ → (ℕ → Bool) → Type 0
 HoldsUpTo k p = (tag : ℕ) → p tag ≡ (nat_le 1 tag && nat_le tag k)
 
+-- a tag below the next one is up to this one
 below_next : (k tag : ℕ) → (nat_le 1 tag && nat_lt tag (1 + k)) ≡ (nat_le 1 tag && nat_le tag k)
 below_next k tag = grind (arith, nat_tests)
 
@@ -49,6 +52,7 @@ confirmed_up_to course k are = λ tag.
 holds_at : (k : ℕ) (p : ℕ → Bool) (tag : ℕ) → HoldsUpTo k p → 1 ≤ tag → tag ≤ k → p tag ≡ true
 holds_at k p tag up from to = up tag ∙ grind (arith, nat_tests)
 
+-- a tag past that number isn't confirmed
 fails_past : (k : ℕ) (p : ℕ → Bool) (tag : ℕ) → HoldsUpTo k p → k < tag → p tag ≡ false
 fails_past k p tag up past = up tag ∙ grind (arith, nat_tests)
 
@@ -72,6 +76,7 @@ not_all_from k p first (suc n) up from here past =
     (λ above. ap (λ b. b && list_all p (numbers_from (first + 1) n)) (fails_past k p first up (omega arith)))
     here_or_later
 
+-- so an event past the confirmed tags keeps the end mark back
 pub not_all_hold : (k : ℕ) (p : ℕ → Bool) (n : ℕ) → HoldsUpTo k p → k < n → list_all p (numbers_from 1 n) ≡ false
 not_all_hold k p n up past = not_all_from k p 1 n up (omega arith) (omega arith) (omega arith)
 

@@ -30,6 +30,7 @@ last_shown-push shown entry id = rw (reverse-append shown (entry ∷ [])) (by_te
     by_test true = refl
     by_test false = refl
 
+-- what a search for an account finds, or takes for unseen, has the account's number
 found_id : (entries : List BookEntry) (id : ℕ) → (unwrap_or (find (has_id id) entries) (unseen id)).id ≡ id
 found_id [] id = refl
 found_id (e ∷ entries) id =
@@ -46,6 +47,7 @@ last_shown_id shown id = found_id (reverse shown) id
 abbrev appeared : List ℕ → ℕ → List ℕ
 appeared seen id = cond (is_among id seen) seen (seen ++ id ∷ [])
 
+-- where one more account is shown, its number comes last unless it was there
 first_appearances-push : (ids : List ℕ) (id : ℕ)
     → first_appearances (ids ++ id ∷ []) ≡ appeared (first_appearances ids) id
 first_appearances-push ids id = rw (fold-append appeared [] ids (id ∷ [])) refl
@@ -55,10 +57,12 @@ abbrev AreDistinct : List ℕ → Type 0
 AreDistinct [] = Unit {0}
 AreDistinct (id ∷ ids) = (is_among id ids ≡ false) × AreDistinct ids
 
+-- a number that isn't in a list is neither the first one nor among the rest
 neither : (a b : Bool) → (a || b) ≡ false → (a ≡ false) × (b ≡ false)
 neither true b h = cc
 neither false b h = (refl, h)
 
+-- and it still isn't, where another number joins
 is_among-push : (id new : ℕ) (ids : List ℕ) → is_among id ids ≡ false → (new == id) ≡ false
     → is_among id (ids ++ new ∷ []) ≡ false
 is_among-push id new [] h other = rw other refl
@@ -66,18 +70,22 @@ is_among-push id new (x ∷ ids) h other =
     let both = neither (x == id) (is_among id ids) h in
     rw both.0 (is_among-push id new ids both.1 other)
 
+-- a number passes the test against itself
 eqb_same : (a : ℕ) → (a == a) ≡ true
 eqb_same a = elim (eqb_tells a a) [ inl e ↦ e.0 | inr e ↦ absurd (e.1 refl) ]
 
+-- numbers that differ one way differ the other way
 eqb_swap : (a b : ℕ) → (a == b) ≡ false → (b == a) ≡ false
 eqb_swap a b h = ne_eqb b a (λ same. let back : (a == b) ≡ true = rw same (eqb_same a) in cc)
 
+-- the numbers of a book stay distinct where a new one joins
 distinct-push : (ids : List ℕ) (id : ℕ) → AreDistinct ids → is_among id ids ≡ false → AreDistinct (ids ++ id ∷ [])
 distinct-push [] id distinct new = (refl, tt)
 distinct-push (x ∷ ids) id distinct new =
     let both = neither (x == id) (is_among id ids) new in
     (is_among-push x id ids distinct.0 (eqb_swap x id both.0), distinct-push ids id distinct.1 both.1)
 
+-- so the accounts of a book, which join as they first appear, stand there once each
 distinct_from : (ids seen : List ℕ) → AreDistinct seen → AreDistinct (fold appeared seen ids)
 distinct_from [] seen distinct = distinct
 distinct_from (id ∷ ids) seen distinct =
@@ -101,6 +109,7 @@ put_absent f g entry (id ∷ ids) differ absent =
     let rest = put_absent f g entry ids differ both.1 in
     rw (differ.changed id, eqb_swap id entry.id both.0, differs) (ap (λ (es : List BookEntry). f id ∷ es) rest)
 
+-- the entries of other accounts stay as they were
 map_absent : (f g : ℕ → BookEntry) (entry : BookEntry) (ids : List ℕ) → Differ f g entry
     → is_among entry.id ids ≡ false → map g ids ≡ map f ids
 map_absent f g entry [] differ absent = refl
@@ -178,6 +187,7 @@ counted_from p k (e ∷ entries) i h =
           omega (arith, counted_from p (k + 1) entries i there)
     ]
 
+-- an entry found under that number is the one exchanged, from whichever place the search counts
 put_from : (entry : BookEntry) (k : ℕ) (entries : List BookEntry) (j i : ℕ) → k + j ≡ i
     → position_from (has_id entry.id) k entries ≡ Some i → set entries j entry ≡ put entry entries
 put_from entry k [] j i sum h = cc
@@ -205,6 +215,7 @@ pub put_found : (entry : BookEntry) (entries : List BookEntry) (i : ℕ)
     → position_from (λ e. e.id == entry.id) 0 entries ≡ Some i → set entries i entry ≡ put entry entries
 put_found entry entries i h = put_from entry 0 entries i i (omega arith) h
 
+-- where a search from any place on finds none, the entry comes last of what it went through
 put_nowhere : (entry : BookEntry) (k : ℕ) (entries : List BookEntry)
     → position_from (has_id entry.id) k entries ≡ None → entries ++ entry ∷ [] ≡ put entry entries
 put_nowhere entry k [] h = refl

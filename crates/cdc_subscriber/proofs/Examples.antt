@@ -63,6 +63,7 @@ entry id debits credits = record {
 abbrev first : Event
 first = event 2000 (side 2 5 0) (side 1 0 5)
 
+-- which leaves account 1 with 7 debited, and 5 credited as before
 abbrev second : Event
 second = event 2001 (side 1 7 5) (side 3 0 7)
 

@@ -24,6 +24,7 @@ more heard item = record { items = heard.items ++ item ∷ []; closed = heard.cl
 abbrev settled : Bool → Bool → Option Taking
 settled closed ended = cond closed (Some Taking.AfterClose) (cond ended (Some Taking.Repeat) None)
 
+-- an event that comes last has the last timestamp, whatever there was before
 last_timestamp_from-push : (t : ℕ) (es : List Event) (e : Event)
     → last_timestamp_from t (es ++ e ∷ []) ≡ e.timestamp
 last_timestamp_from-push t [] e = refl
@@ -67,6 +68,7 @@ applied_of-event : (heard : Heard) (e : Event) → applied_of (more heard (item.
     ≡ cond (nat_lt (last_timestamp (applied_of heard)) e.timestamp) (applied_of heard ++ e ∷ []) (applied_of heard)
 applied_of-event heard e = rw (events_of-push_event heard.items e) (rises-push (events_of heard.items) e)
 
+-- with one more item the end is heard where it was before, or where that item is the end mark
 has_ended-more : (heard : Heard) (x : Item) → has_ended (more heard x) ≡ (has_ended heard || is_end x)
 has_ended-more heard x =
     list_any-append is_end heard.items (x ∷ []) ∙ ap (λ b. has_ended heard || b) (or_false (is_end x))
