@@ -1,34 +1,17 @@
 -- The binding of a subscriber line, read from its leading printable words.
-use Rattle.std.proofs.Common.{◌≡◌, ◌∙◌, ℕ, Bool, true, false, List, [], ◌∷◌, length, map, Bor, Result, Ok, Err, inl, inr, refl, sym, ap}
+use Rattle.std.proofs.Common.{◌≡◌, ◌∙◌, ℕ, Bool, true, false, List, [], ◌∷◌, length, map, Bor, Ok, refl, sym, ap}
 use Rattle.std.specs.Prelude.{◌==◌}
 use Rattle.std.specs.List.{list_all, take_while}
 use Rattle.std.proofs.lemmas.List.{length-map}
-use Rattle.cdc_match.specs.declared.errors.BindError.{BindError}
-use Rattle.cdc_match.specs.declared.errors.BindError.TheVariants.{BadMode, UnknownKey, BadValue, TooManyPairs, OutOfMemory}
 use Rattle.cdc_match.specs.Arguments.{Arguments}
-use Rattle.cdc_match.specs.Errors.{GivesUnlessMemory}
 use Rattle.cdc_match.specs.Parsing.{arguments_of}
-use Rattle.cdc_app.specs.declared.faults.FaultKind.TheVariants.{BadText}
 use Rattle.cdc_app.specs.declared.faults.LineError.{LineError}
 use Rattle.cdc_app.specs.declared.faults.LineError.TheVariants as line
 use Rattle.cdc_app.specs.declared.statements.Statement.TheVariants as says
-use Rattle.cdc_app.specs.Refusals.{IsLineFault, line_error}
+use Rattle.cdc_app.specs.Refusals.{IsLineFault}
 use Rattle.cdc_app.specs.Statements.{binding_line, readable}
 use Rattle.cdc_app.specs.Words.{is_printable}
 use Rattle.cdc_app.proofs.PrintableLemmas.{all_taken}
-
--- the reader's error is the fault of its line, or memory ran out
-pub error_told : (why : BindError) (read : Result Arguments BindError) → GivesUnlessMemory (Err why) read
-    → IsLineFault (line_error why) (readable read)
-error_told OutOfMemory read given = tt
-error_told BadMode read (inl given) = rw (← given) refl
-error_told UnknownKey read (inl given) = rw (← given) refl
-error_told BadValue read (inl given) = rw (← given) refl
-error_told TooManyPairs read (inl given) = rw (← given) refl
-error_told BadMode read (inr memory) = cc
-error_told UnknownKey read (inr memory) = cc
-error_told BadValue read (inr memory) = cc
-error_told TooManyPairs read (inr memory) = cc
 
 -- all words are printable: what they are read as
 whole_line : (words leading : List (List ℕ)) → leading ≡ take_while is_printable words
@@ -48,13 +31,6 @@ pub line_refused : (words leading : List (List ℕ)) (error : LineError) → lea
 line_refused words leading (line.Fault kind) taken all given =
     rw (all, whole_line words leading taken all, given) refl
 line_refused words leading line.OutOfMemory taken all given = tt
-
--- the words before one that isn't printable are a binding
-pub part_read : (words leading : List (List ℕ)) (binding : Arguments) → leading ≡ take_while is_printable words
-    → list_all is_printable words ≡ false → (length leading == 0) ≡ false
-    → readable (arguments_of leading) ≡ Ok binding → binding_line words ≡ Err BadText
-part_read words [] binding taken all some given = cc
-part_read words (word ∷ rest) binding taken all some given = rw (all, ← taken, given) refl
 
 -- they are none
 part_refused : (words leading : List (List ℕ)) (error : LineError) → leading ≡ take_while is_printable words

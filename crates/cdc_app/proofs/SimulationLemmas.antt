@@ -64,12 +64,6 @@ pub record HasCome (batches : List ClientBatch) (acts : List Act) (before : Stag
   pub on : (refusal : Option StepError) (end : Stage) → PlaysTo batches here (drop place acts) refusal end
       → PlaysTo batches before acts refusal end
 
--- at the beginning
-pub HasCome-none : (batches : List ClientBatch) (acts : List Act) (before : Stage) (simulation : Simulation)
-    → IsAt simulation before → before.done ≡ 0 → HasCome batches acts before 0 simulation
-HasCome-none batches acts before simulation at done =
-    record { here = before; at = at; done = done; on = λ refusal end plays. plays }
-
 -- an act counts
 acts_count : (before : Stage) (want : Option (Step × ℕ)) (after : Stage) → AnswersTo before want None after
     → after.done ≡ before.done + 1

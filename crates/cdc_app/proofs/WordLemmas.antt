@@ -6,7 +6,6 @@ use Rattle.std.specs.Str.Lines.{lines, strip_carriage_return}
 use Rattle.std.proofs.lemmas.List.Splits.{slice_split_first, slice_split_none}
 use Rattle.std.proofs.lemmas.List.Sums.{fails_before_first}
 use borrow.Author.Tests.{ltb-true, ltb-false}
-use Rattle.cdc_app.specs.Words.{words}
 
 -- where no byte parts the text, it is one part
 pub unparted : (p : ℕ → Bool) (bytes : List ℕ) → nat_lt (position_or_len p bytes) (length bytes) ≡ false
@@ -63,13 +62,3 @@ lines_of_first text line after h =
 pub lines_of_one : (text : List ℕ) → slice_split (λ b. b == 10) text ≡ text ∷ [] → (length text == 0) ≡ false
     → lines text ≡ text ∷ []
 lines_of_one text h some = rw (h, some) refl
-
--- an empty part is no word
-pub words_skip : (line after : List ℕ) → slice_split (λ b. b == 32) line ≡ [] ∷ slice_split (λ b. b == 32) after
-    → words line ≡ words after
-words_skip line after h = rw h refl
-
--- another part is one
-pub words_first : (line word after : List ℕ) → slice_split (λ b. b == 32) line ≡ word ∷ slice_split (λ b. b == 32) after
-    → (length word == 0) ≡ false → words line ≡ word ∷ words after
-words_first line word after h some = rw (h, some) refl

@@ -1,19 +1,17 @@
 -- What an index's contracts say of a set, where the set is known as that of a list.
-use Rattle.std.proofs.Common.{◌≡◌, ◌≢◌, ℕ, Bool, true, false, not, ◌&&◌, ◌==◌, cond, List, [], ◌∷◌, ◌++◌, length, filter, Option, Some, None, refl, sym, ap, ◌∙◌, subst, ◌⊎◌, ◌||◌, ◌+◌, inl, inr, add-one, arith}
-use Rattle.std.specs.Cmp.{both_ways, eq_by_cmp_equiv, tied_itself}
+use Rattle.std.proofs.Common.{◌≡◌, ◌≢◌, ℕ, Bool, true, false, not, ◌&&◌, ◌==◌, cond, List, [], ◌∷◌, ◌++◌, length, filter, Option, Some, None, refl, sym, ap, ◌∙◌, ◌⊎◌, ◌||◌, ◌+◌, inl, inr, add-one, arith}
+use Rattle.std.specs.Cmp.{both_ways, eq_by_cmp_equiv}
 use Rattle.std.specs.FinSet.{contains, empty, from_list, insert, retain, len, same_set, from_list_push, contains-empty, contains-from_list, contains-insert, contains-retain, len-empty, len-insert}
 use Rattle.std.specs.List.{All, Contains}
 use Rattle.std.specs.List.Sorted.{IsPermutation}
 use Rattle.std.specs.Option.{MatchOption}
-use Rattle.std.specs.Ordering.{is_le, eq_by_cmp, ordering_reverse}
-use Rattle.std.specs.declared.cmp.Ordering.{Ordering}
-use Rattle.std.specs.declared.cmp.Ordering.TheVariants.{Less, Equal, Greater}
+use Rattle.std.specs.Ordering.{is_le, eq_by_cmp}
 use Rattle.std.proofs.lemmas.Bool.Decides.{nat_tests}
-use Rattle.std.proofs.lemmas.List.Elements.{All-cons, All-head, All-tail, All-contains, Contains-get_or}
+use Rattle.std.proofs.lemmas.List.Elements.{All-head, All-tail, All-contains, Contains-get_or}
 use Rattle.std.proofs.lemmas.List.Sorted.{Contains-permutation, IsPermutation-sym}
 use Rattle.std.proofs.lemmas.Map.Views.{list_any-from_Contains, Contains-from_any, any-filter_same}
 use Rattle.cdc_expiry.specs.declared.triple.Triple.{Triple}
-use Rattle.cdc_expiry.specs.Triples.{Triples, triple_cmp, is_due, due_at, IsLeast, IsNewTimestamp, has_numbers, HasNumbers, TimestampsDiffer, TimestampsAreUnique, without}
+use Rattle.cdc_expiry.specs.Triples.{Triples, triple_cmp, is_due, due_at, IsLeast, IsNewTimestamp, has_numbers, TimestampsDiffer, TimestampsAreUnique, without}
 use Rattle.cdc_expiry.proofs.Apart.{TimestampsDiffer-filter}
 use Rattle.cdc_expiry.proofs.Order.{triple_cmp_total, triple_cmp-IsAntisymmetric, same_triple}
 
@@ -161,11 +159,6 @@ TimestampsAreUnique-set_of (z ∷ xs) differ x y there also same =
       ]
     ]
 
--- a triple of the list has its numbers in the set
-pub HasNumbers-set_of : (xs : List Triple) (x : Triple) → Contains xs x
-    → HasNumbers (set_of xs) x.expires_at x.timestamp
-HasNumbers-set_of xs x there = (x, contains-set_of xs x there, grind (arith, nat_tests))
-
 -- the answer is the least triple of the list, or None where the list is empty
 abbrev pub IsLeastOf : List Triple → Option Triple → Type 0
 IsLeastOf xs answer = MatchOption answer (xs ≡ []) (λ x. Contains xs x × All (λ y. is_le (triple_cmp x y) ≡ true) xs)
@@ -188,32 +181,3 @@ IsLeast-set_of xs (Some x) least = (
   contains-set_of xs x least.0,
   λ y there. All-contains (λ y. is_le (triple_cmp x y) ≡ true) xs y least.1 (Contains-set_of xs y there),
 )
-
--- two triples each at or before the other are the same
-neither_later : (x y : Triple) (there back : Ordering) → triple_cmp x y ≡ there → back ≡ ordering_reverse there
-    → is_le there ≡ true → is_le back ≡ true → x ≡ y
-neither_later x y Less back is turned le also = cc
-neither_later x y Equal back is turned le also = triple_cmp-IsAntisymmetric x y is
-neither_later x y Greater back is turned le also = cc
-
--- a set has one least triple at most, so there is one right answer
-pub IsLeast-unique : (s : Triples) (a b : Option Triple) → IsLeast s a → IsLeast s b → a ≡ b
-IsLeast-unique s None None least also = refl
-IsLeast-unique s None (Some y) least also = absurd (empty_lacks s y least also.0)
-IsLeast-unique s (Some x) None least also = absurd (empty_lacks s x also least.0)
-IsLeast-unique s (Some x) (Some y) least also =
-    ap Some (neither_later x y _ _ refl (triple_cmp_total.antisymm y x) (least.1 y also.0) (also.1 x least.0))
-
--- where the set is that of a list whose first triple is at or before all others, the answer is the first
-pub least_is_first : (s : Triples) (x : Triple) (xs : List Triple) (answer : Option Triple) → s ≡ set_of (x ∷ xs)
-    → All (λ y. is_le (triple_cmp x y) ≡ true) xs → IsLeast s answer → answer ≡ Some x
-least_is_first s x xs answer is first least =
-    let itself : is_le (triple_cmp x x) ≡ true = ap is_le (tied_itself triple_cmp_total x) in
-    let of_list : IsLeastOf (x ∷ xs) (Some x) =
-    ((0, omega arith, refl), All-cons (λ y. is_le (triple_cmp x y) ≡ true) x xs itself first) in
-    IsLeast-unique s answer (Some x) least
-    (subst (λ u. IsLeast u (Some x)) (sym is) (IsLeast-set_of (x ∷ xs) (Some x) of_list))
-
--- where the set has no triple, there is no answer
-pub least_of_none : (s : Triples) (answer : Option Triple) → s ≡ set_of [] → IsLeast s answer → answer ≡ None
-least_of_none s answer is least = IsLeast-unique s answer None least is

@@ -1,11 +1,10 @@
 -- The order of triples is total, and tells any two triples apart.
-use Rattle.std.proofs.Common.{◌≡◌, ◌<◌, ◌⊎◌, true, refl, arith}
+use Rattle.std.proofs.Common.{◌≡◌, true, refl}
 use Rattle.std.specs.Cmp.{IsTotalOrder, then_total, on_total, nat_cmp_total, Equal-is}
 use Rattle.std.specs.FinSet.{IsAntisymmetric, nat_cmp-IsAntisymmetric}
-use Rattle.std.specs.Ordering.{eq_by_cmp, is_le, ordering_then, nat_cmp}
+use Rattle.std.specs.Ordering.{eq_by_cmp, ordering_then, nat_cmp}
 use Rattle.std.specs.declared.cmp.Ordering.{Ordering}
 use Rattle.std.specs.declared.cmp.Ordering.TheVariants.{Less, Equal, Greater}
-use Rattle.std.proofs.lemmas.Bool.Decides.{nat_tests}
 use Rattle.cdc_expiry.specs.declared.triple.Triple.{Triple}
 use Rattle.cdc_expiry.specs.Triples.{triple_cmp}
 
@@ -36,9 +35,3 @@ triple_cmp-IsAntisymmetric x y tied =
 -- the test that a set's `contains` makes tells triples apart
 pub same_triple : (x y : Triple) → eq_by_cmp triple_cmp x y ≡ true → x ≡ y
 same_triple x y tied = triple_cmp-IsAntisymmetric x y ((Equal-is (triple_cmp x y)).0 tied)
-
--- of two triples the one that ends first, or was made first where both end at once, is not the later one
-pub sooner-is_le : (x y : Triple)
-    → (x.expires_at < y.expires_at) ⊎ ((x.expires_at ≡ y.expires_at) × (x.timestamp < y.timestamp))
-    → is_le (triple_cmp x y) ≡ true
-sooner-is_le x y sooner = grind (arith, nat_tests)

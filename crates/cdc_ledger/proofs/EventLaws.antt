@@ -1,20 +1,18 @@
 -- The events after one more entry or account, and their timestamps.
-use Rattle.std.proofs.Common.{ℕ, ◌<◌, ◌≤◌, [], ◌∷◌, ◌++◌, ◌≡◌, length, map, ap, ap₂, ◌∙◌, arith}
+use Rattle.std.proofs.Common.{◌<◌, ◌≤◌, [], ◌∷◌, ◌++◌, ◌≡◌, map, ap, ap₂, ◌∙◌, arith}
 use Rattle.std.specs.Prelude.{unwrap_or, Option}
 use Rattle.std.specs.List.{AllByRecursion}
-use Rattle.std.proofs.lemmas.List.{map_push, length-map}
+use Rattle.std.proofs.lemmas.List.{map_push}
 use Rattle.cdc_types.specs.declared.events.Entry.{Entry}
 use Rattle.cdc_types.specs.declared.events.Event.{Event}
-use Rattle.cdc_types.specs.declared.events.EventAccount.{EventAccount}
 use Rattle.cdc_types.specs.declared.accounts.Balances.{Balances}
 use Rattle.cdc_ledger.specs.History.{Opened, History, opened}
 use Rattle.cdc_ledger.specs.Balances.{balances}
 use Rattle.cdc_ledger.specs.Events.{event_of, events, shown_account, shown_transfer, nobody}
-use Rattle.cdc_ledger.specs.Follows.{Follows}
-use Rattle.cdc_ledger.specs.Sound.{HasAccounts, IsSound}
-use Rattle.cdc_ledger.proofs.Changes.{pushed, with_account, IsUpTo, changed_by}
+use Rattle.cdc_ledger.specs.Sound.{HasAccounts}
+use Rattle.cdc_ledger.proofs.Changes.{pushed, with_account, IsUpTo}
 use Rattle.cdc_ledger.proofs.Elements.{AllByRecursion-weaker, map_same, map-map}
-use Rattle.cdc_ledger.proofs.BalanceLaws.{balances-pushed, balances-pushed_before}
+use Rattle.cdc_ledger.proofs.BalanceLaws.{balances-pushed_before}
 use Rattle.cdc_ledger.proofs.OpenedLaws.{opened-with_account_same}
 
 -- `events` reads the accounts and the entries alone, so a change of last or closed leaves it by computation
@@ -52,25 +50,6 @@ events-pushed h e within after =
     (balances-pushed_before h e x.transfer.credit_account_id x.timestamp (omega arith)))
     h.entries within))
 
--- how the account stands right after an entry
-abbrev pub account_shown : History → Entry → ℕ → EventAccount
-account_shown h e id = shown_account (unwrap_or (opened h id) nobody) (changed_by h e id (balances h id h.last))
-
--- the event of an entry, by the balances before it
-pub event_of-pushed : (h : History) (e : Entry) → IsSound h → Follows h e → h.last < e.timestamp
-    → event_of (pushed h e) e ≡ record {
-      timestamp = e.timestamp;
-      kind = e.kind;
-      ledger = e.transfer.ledger;
-      transfer = shown_transfer e.transfer;
-      debit_account = account_shown h e e.transfer.debit_account_id;
-      credit_account = account_shown h e e.transfer.credit_account_id;
-    }
-event_of-pushed h e sound follows after =
-    same_balances e (opened h e.transfer.debit_account_id) (opened h e.transfer.credit_account_id) _ _ _ _
-    (balances-pushed h e e.transfer.debit_account_id sound follows after)
-    (balances-pushed h e e.transfer.credit_account_id sound follows after)
-
 -- one more account, where each entry's accounts were there
 pub events-with_account : (h : History) (o : Opened) → AllByRecursion (HasAccounts h) h.entries
     → events (with_account h o) ≡ events h
@@ -85,7 +64,3 @@ events-with_account h o known = map_same (event_of (with_account h o)) (event_of
 -- each event has the timestamp of its entry, so that what subscribers hear rises as the entries do
 pub timestamps-events : (h : History) → map (λ x. x.timestamp) (events h) ≡ map (λ e. e.timestamp) h.entries
 timestamps-events h = map-map (λ x. x.timestamp) (event_of h) h.entries
-
--- each entry has one event
-pub length-events : (h : History) → length (events h) ≡ length h.entries
-length-events h = length-map h.entries (event_of h)

@@ -1,5 +1,5 @@
 -- A pulse on its way: some of what was due expired, and what is due now is the rest.
-use Rattle.std.proofs.Common.{ℕ, ◌+◌, ◌<◌, ◌≤◌, Option, Some, None, List, [], ◌∷◌, ◌≡◌, length, refl, ap, sym, subst, ◌∙◌, arith}
+use Rattle.std.proofs.Common.{ℕ, ◌+◌, ◌<◌, Option, Some, None, List, ◌∷◌, ◌≡◌, length, refl, ap, sym, subst, ◌∙◌, arith}
 use Rattle.std.specs.Option.{IsSome}
 use Rattle.cdc_types.specs.declared.transfers.Transfer.{Transfer}
 use Rattle.cdc_expiry.specs.declared.triple.Triple.{Triple}
@@ -20,13 +20,6 @@ pub record GoesOn (h : History) (base now count done : ℕ) (g : History) : Type
   pub left : length (due g now) + done ≡ count
   pub rest : expiries_from g (base + done) (due g now) ≡ expiries_from h base (due h now)
 
--- before the first of them expires, all that was due is due still
-pub GoesOn-start : (h : History) (base now count : ℕ) → count ≡ length (due h now) → GoesOn h base now count 0 h
-GoesOn-start h base now count all = record {
-  left = omega arith;
-  rest = ap (λ t. expiries_from h t (due h now)) (omega arith);
-}
-
 -- the next one expires
 pub GoesOn-step : (h : History) (base now count done : ℕ) (g : History) (t : Triple) → GoesOn h base now count done g
     → (next : IsNext g now t)
@@ -43,16 +36,6 @@ GoesOn-step h base now count done g t on next later =
           (due (pushed g (expiry next.found.entry.transfer (base + done))) now)) (omega arith)
           ∙ (sym (ap (expiries_from g (base + done)) first) ∙ on.rest);
     }
-
--- none is left
-pub GoesOn-end : (h : History) (base now count done : ℕ) (g : History) → GoesOn h base now count done g → count ≤ done
-    → g ≡ expiries_from h base (due h now)
-GoesOn-end h base now count done g on over = sym
-    (ap (expiries_from g (base + done)) (none_left (due g now) (omega (arith, on.left)))) ∙ on.rest
-  where
-    none_left : (ps : List Transfer) → length ps ≡ 0 → ps ≡ []
-    none_left [] none = refl
-    none_left (p ∷ ps) none = absurd (omega arith)
 
 -- while some are left the index has an answer
 pub GoesOn-some : (h : History) (base now count done : ℕ) (g : History) (answer : Option Triple)

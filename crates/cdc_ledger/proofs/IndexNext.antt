@@ -71,10 +71,6 @@ module _ (h : History) (t : Triple) (sound : IsSound h) (of : IsOf (is_open h) 0
     unsettled = unresolved h of.entry of.passes;
   }
 
--- each triple of the index names one
-pub IsOpenAt-contained : (h : History) (t : Triple) → IsSound h → Contains (open_triples h) t → IsOpenAt h t
-IsOpenAt-contained h t sound there = IsOpenAt-of h t sound (IsOf-contained (is_open h) 0 h.entries t there)
-
 -- the one that is due first: the others are due once it expired
 pub record IsNext (h : History) (now : ℕ) (t : Triple) : Type 0 where
   pub found : IsOpenAt h t

@@ -1,5 +1,5 @@
 -- Histories that batches make.
-use Rattle.std.proofs.Common.{true, false, ◌≡◌, Option, Some, None, Ok, List, [], ◌∷◌, ◌++◌, refl, ap, sym, ◌∙◌}
+use Rattle.std.proofs.Common.{false, ◌≡◌, Option, Some, None, Ok, List, [], ◌∷◌, ◌++◌, refl, ap, sym, ◌∙◌}
 use Rattle.std.specs.Prelude.{◌||◌}
 use Rattle.std.proofs.lemmas.Bool.{or_parts}
 use Rattle.cdc_types.specs.declared.batches.Batch.{Batch}
@@ -55,15 +55,6 @@ Extends-submit g h k b r fits from e =
       made = sym (after_batches_push features h from.batches b ∙ ap (history_or before) taken_now);
     }
 
--- so does a close, and a second one changes nothing
-pub Extends-closed : (g h : History) → Extends g h → Extends (record g { closed = true }) h
-Extends-closed g h from = record {
-  batches = from.batches;
-  close = true;
-  fit = from.fit;
-  made = ap (λ (x : History). record x { closed = true }) from.made;
-}
-
 -- the history of a new ledger is one that batches make
 pub IsLegal-empty : IsLegal empty_history
 IsLegal-empty = Extends_same empty_history
@@ -72,7 +63,3 @@ IsLegal-empty = Extends_same empty_history
 pub IsLegal-submit : (h g : History) (b : Batch) (r : BatchResults) → BatchFits b → IsLegal h → submit h b ≡ Ok (r, g)
     → IsLegal g
 IsLegal-submit h g b r fits legal e = Extends-submit h empty_history g b r fits legal e
-
--- and after a close
-pub IsLegal-closed : (h : History) → IsLegal h → IsLegal (record h { closed = true })
-IsLegal-closed h made = Extends-closed h empty_history made

@@ -4,24 +4,18 @@ use Rattle.std.specs.Prelude.{if◌then◌else◌, ◌==◌, find}
 use Rattle.std.specs.Option.{option_or, IsSome, is_some}
 use Rattle.std.specs.List.{AllByRecursion}
 use Rattle.std.proofs.lemmas.List.Folds.{find-append}
-use Rattle.std.proofs.lemmas.Bool.{eqb-true, eqb-false, eq-eqb, ne_eqb}
+use Rattle.std.proofs.lemmas.Bool.{eqb-true, eqb-false}
 use Rattle.std.proofs.lemmas.List.{map_push}
 use Rattle.cdc_types.specs.declared.events.Entry.{Entry}
 use Rattle.cdc_ledger.specs.History.{Opened, History, opened}
 use Rattle.cdc_ledger.specs.Sound.{HasAccounts, AreApart}
 use Rattle.cdc_ledger.proofs.Changes.{with_account}
-use Rattle.cdc_ledger.proofs.Elements.{AllByRecursion-weaker, AllByRecursion-both, AllByRecursion_push, AllByRecursion-map}
+use Rattle.cdc_ledger.proofs.Elements.{AllByRecursion_push}
 
 -- an id is looked up among the accounts that were there, and then it may be the new one's
 pub opened-with_account : (h : History) (o : Opened) (id : ℕ)
     → opened (with_account h o) id ≡ option_or (opened h id) (if o.request.id == id then Some o else None)
 opened-with_account h o id = find-append (λ x. x.request.id == id) h.accounts (o ∷ [])
-
--- an account that was there stays
-pub opened-with_account_kept : (h : History) (o x : Opened) (id : ℕ) → opened h id ≡ Some x
-    → opened (with_account h o) id ≡ Some x
-opened-with_account_kept h o x id there =
-    opened-with_account h o id ∙ ap (λ p. option_or p (if o.request.id == id then Some o else None)) there
 
 -- what is found among those that were there is the answer
 some_stays : (p q : Option Opened) → IsSome p → option_or p q ≡ p
@@ -33,24 +27,10 @@ pub opened-with_account_same : (h : History) (o : Opened) (id : ℕ) → IsSome 
     → opened (with_account h o) id ≡ opened h id
 opened-with_account_same h o id there = opened-with_account h o id ∙ some_stays (opened h id) _ there
 
--- the new one is found where its id was free
-pub opened-with_account_new : (h : History) (o : Opened) → opened h o.request.id ≡ None
-    → opened (with_account h o) o.request.id ≡ Some o
-opened-with_account_new h o free = opened-with_account h o o.request.id
-    ∙ (ap (λ p. option_or p (if o.request.id == o.request.id then Some o else None)) free
-    ∙ ap (λ b. if b then Some o else None) (eq-eqb o.request.id o.request.id refl))
-
 -- where the new account has another id, it adds nothing to the answer
 or_none : (p : Option Opened) → option_or p None ≡ p
 or_none None = refl
 or_none (Some x) = refl
-
--- the new one changes no other id
-pub opened-with_account_other : (h : History) (o : Opened) (id : ℕ) → o.request.id ≢ id
-    → opened (with_account h o) id ≡ opened h id
-opened-with_account_other h o id other = opened-with_account h o id
-    ∙ (ap (λ b. option_or (opened h id) (if b then Some o else None)) (ne_eqb o.request.id id other)
-    ∙ or_none (opened h id))
 
 -- what is found has the id, be it the first account or a later one
 found_id : (id : ℕ) (o x : Opened) (rest : Option Opened) (b : Bool) → (x.request.id == id) ≡ b
@@ -106,23 +86,3 @@ pub AreApart-with_account : (h : History) (o : Opened) → AreApart (map (λ x. 
 AreApart-with_account h o apart free =
     subst AreApart (sym (map_push (λ x. x.request.id) h.accounts o))
     (AreApart_push (map (λ x. x.request.id) h.accounts) o.request.id apart (free_ids o.request.id h.accounts free))
-
--- an account is found by its own id, since no other one has it
-find_each : (xs : List Opened) → AreApart (map (λ x. x.request.id) xs)
-    → AllByRecursion (λ o. find (λ x. x.request.id == o.request.id) xs ≡ Some o) xs
-find_each [] apart = tt
-find_each (x ∷ xs) apart = (
-  ap (λ b. if b then Some x else find (λ y. y.request.id == x.request.id) xs) (eq-eqb x.request.id x.request.id refl),
-  AllByRecursion-weaker (λ o. (x.request.id ≢ o.request.id) × (find (λ y. y.request.id == o.request.id) xs ≡ Some o))
-      (λ o. find (λ y. y.request.id == o.request.id) (x ∷ xs) ≡ Some o)
-      (λ o both. ap (λ b. if b then Some x else find (λ y. y.request.id == o.request.id) xs)
-      (ne_eqb x.request.id o.request.id both.0) ∙ both.1) xs
-      (AllByRecursion-both (λ o. x.request.id ≢ o.request.id)
-      (λ o. find (λ y. y.request.id == o.request.id) xs ≡ Some o) xs
-      (AllByRecursion-map (λ m. x.request.id ≢ m) (λ o. o.request.id) xs apart.0) (find_each xs apart.1)),
-)
-
--- each account is the one that is found by its id
-pub opened_each : (h : History) → AreApart (map (λ x. x.request.id) h.accounts)
-    → AllByRecursion (λ o. opened h o.request.id ≡ Some o) h.accounts
-opened_each h apart = find_each h.accounts apart

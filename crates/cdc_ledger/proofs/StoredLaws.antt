@@ -4,7 +4,7 @@ use Rattle.std.specs.Prelude.{if◌then◌else◌, ◌==◌, ◌&&◌, find, fil
 use Rattle.std.specs.Option.{option_or}
 use Rattle.std.specs.List.{AllByRecursion}
 use Rattle.std.proofs.lemmas.List.Folds.{find-append}
-use Rattle.std.proofs.lemmas.Bool.{and_from, and_parts, and_right, eqb-true, eqb-false, eq-eqb, ne_eqb, false≢true}
+use Rattle.std.proofs.lemmas.Bool.{and_from, and_right, eqb-false, eq-eqb, ne_eqb, false≢true}
 use Rattle.cdc_types.specs.declared.events.Entry.{Entry}
 use Rattle.cdc_ledger.specs.Filling.{stored_in, stored}
 use Rattle.cdc_ledger.specs.History.{History}
@@ -27,15 +27,6 @@ stored-pushed h e id = find-append (is_stored id) h.entries (e ∷ [])
 pub stored-pushed_kept : (h : History) (e x : Entry) (id : ℕ) → stored h id ≡ Some x → stored (pushed h e) id ≡ Some x
 stored-pushed_kept h e x id there =
     stored-pushed h e id ∙ ap (λ p. option_or p (if is_stored id e then Some e else None)) there
-
--- a new one is found
-pub stored-pushed_new : (h : History) (e : Entry) → stores e.kind ≡ true → stored h e.transfer.id ≡ None
-    → stored (pushed h e) e.transfer.id ≡ Some e
-stored-pushed_new h e stored_now free =
-    stored-pushed h e e.transfer.id
-    ∙ (ap (λ p. option_or p (if is_stored e.transfer.id e then Some e else None)) free
-    ∙ ap (λ b. if b then Some e else None)
-    (and_from (stores e.kind) (e.transfer.id == e.transfer.id) stored_now (eq-eqb e.transfer.id e.transfer.id refl)))
 
 module _ {X : Type 0} (test : X → Bool) where
   -- the first element is found, or a later one: either way it passes and has what all have
@@ -70,20 +61,6 @@ module _ {X : Type 0} (test : X → Bool) where
 pub stored_has : (P : Entry → Type 0) (h : History) (id : ℕ) (x : Entry) → AllByRecursion P h.entries
     → stored h id ≡ Some x → P x
 stored_has P h id x all there = (find_all (is_stored id) P h.entries x all there).1
-
--- nothing is asked of the entries where only what is found matters
-all_stored : (id : ℕ) (es : List Entry) → AllByRecursion (λ e. Unit {0}) es
-all_stored id [] = tt
-all_stored id (e ∷ es) = (tt, all_stored id es)
-
--- the entry that is found by an id stored a transfer of that id
-pub stored_is : (h : History) (id : ℕ) (x : Entry) → stored h id ≡ Some x
-    → (stores x.kind ≡ true) × (x.transfer.id ≡ id)
-stored_is h id x there =
-    let both : (stores x.kind ≡ true) × ((x.transfer.id == id) ≡ true) =
-    and_parts (stores x.kind) (x.transfer.id == id)
-    (find_all (is_stored id) (λ e. Unit {0}) h.entries x (all_stored id h.entries) there).0 in
-    (both.0, eqb-true x.transfer.id id both.1)
 
 -- ids of stored transfers, one entry after another
 
@@ -146,12 +123,6 @@ apart-cons e es apart =
     (stores e.kind ≡ true → AllByRecursion (λ m. e.transfer.id ≢ m) (stored_ids es)) =
     apart_parts (stores e.kind) e.transfer.id (stored_ids es) (subst AreApart (stored_ids-cons e es) apart) in
     (both.0, λ is. none_stored e.transfer.id es (both.1 is))
-
--- the last entry's id comes alone, if it stored a transfer
-ids_last : (b : Bool) (e : Entry)
-    → (if b then e.transfer.id ∷ [] else []) ≡ map (λ x. x.transfer.id) (if b then e ∷ [] else [])
-ids_last true e = refl
-ids_last false e = refl
 
 -- the first entry's id comes first, however many come after it
 cons_if : (b : Bool) (n : ℕ) (ns ms : List ℕ)

@@ -1,10 +1,10 @@
 -- Reading the pairs of a binding word by word.
-use Rattle.std.proofs.Common.{◌≡◌, ℕ, suc, ◌+◌, ◌<◌, ◌≤◌, List, [], ◌∷◌, ◌++◌, length, get_or, take, drop, Option, Some, None, Ok, Err, refl, ap, sym, ◌∙◌, leb, le-leb, false, arith}
+use Rattle.std.proofs.Common.{◌≡◌, ℕ, suc, ◌+◌, ◌<◌, ◌≤◌, List, [], ◌∷◌, ◌++◌, length, get_or, take, drop, Option, Some, None, Ok, Err, refl, ap, ◌∙◌, arith}
 use Rattle.std.specs.Option.{ok_or}
 use Rattle.std.proofs.Math.Seq.{split_at}
-use Rattle.std.proofs.lemmas.List.{take_more, take_all, take-take, get_or-take, length-take}
+use Rattle.std.proofs.lemmas.List.{take_more, take-take, get_or-take, length-take}
 use Rattle.cdc_match.specs.declared.errors.BindError.{BindError}
-use Rattle.cdc_match.specs.declared.errors.BindError.TheVariants.{UnknownKey, BadValue, TooManyPairs, OutOfMemory}
+use Rattle.cdc_match.specs.declared.errors.BindError.TheVariants.{UnknownKey, BadValue, OutOfMemory}
 use Rattle.cdc_match.specs.declared.pairs.Pair.{Pair}
 use Rattle.cdc_match.specs.Parsing.{Read, ◌>>=◌, each, most_pairs, pair_of, pair_with, key_named, pairs_of, BeginsWithPair}
 use Rattle.cdc_match.specs.Parts.{parted}
@@ -69,26 +69,6 @@ pub pairs_fault : (words : List (List ℕ)) (i : ℕ) (found : List Pair) (error
     → each pair_of (take i words) ≡ Ok found → pair_of (get_or words i []) ≡ Err error → pairs_of words ≡ Err error
 pairs_fault words i found error below few h is =
     rw (around words i below few, each_fault pair_of (take i words) found (get_or words i []) error _ h is)
-
--- a length that isn't allowed
-more_than_most : (n : ℕ) → most_pairs < n → leb n most_pairs ≡ false
-more_than_most n h = grind arith
-
--- there are ten pairs and another word
-pub pairs_too_many : (words : List (List ℕ)) (i : ℕ) (found : List Pair) → i < length words → i ≡ most_pairs
-    → each pair_of (take i words) ≡ Ok found → pairs_of words ≡ Err TooManyPairs
-pairs_too_many words i found below full h =
-    let all : take i words ≡ take most_pairs words = rw full refl in
-    rw (← all, h, more_than_most (length words) (omega arith))
-
--- no word is left
-pub pairs_all : (words : List (List ℕ)) (i : ℕ) (found : List Pair) → i ≡ length words → i ≤ most_pairs
-    → each pair_of (take i words) ≡ Ok found → pairs_of words ≡ Ok found
-pairs_all words i found end few h =
-    let short : length words ≤ most_pairs = omega arith in
-    let all : take most_pairs words ≡ take i words =
-    take_all most_pairs words short ∙ sym (take_all i words (omega arith)) in
-    rw (all, h, le-leb (length words) most_pairs short)
 
 -- where pairs were found, the words begin with one
 pub pairs_begin : (words : List (List ℕ)) (i : ℕ) (found : List Pair) → i < length words

@@ -36,16 +36,7 @@ small greatest n h = rw (le-leb n greatest h)
 large : (greatest n : ℕ) → (n ≤ greatest → ⊥) → at_most greatest n ≡ None
 large greatest n h = grind arith
 
--- digits of a number that isn't too large
-pub decimal_small : (greatest : ℕ) (text : List ℕ) → is_decimal text ≡ true → digits_value 10 text ≤ greatest
-    → decimal_up_to greatest text ≡ Some (digits_value 10 text)
-decimal_small greatest text h fits = rw h (small greatest _ fits)
-
 -- digits of a number that is too large
 pub decimal_large : (greatest : ℕ) (text : List ℕ) → is_decimal text ≡ true → (digits_value 10 text ≤ greatest → ⊥)
     → decimal_up_to greatest text ≡ None
 decimal_large greatest text h over = rw h (large greatest _ over)
-
--- no digits
-pub decimal_other : (greatest : ℕ) (text : List ℕ) → is_decimal text ≡ false → decimal_up_to greatest text ≡ None
-decimal_other greatest text h = rw h

@@ -54,10 +54,6 @@ IsReplay-nil f = record {
   beginnings = λ n. let none = take_all n (take 0 f) (omega arith) in (0, rw none (HaveSame-refl (take 0 f)));
 }
 
--- what is sent once and in order is a replay of itself
-pub IsReplay-refl : {X : Type 0} (f : List X) → IsReplay f f
-IsReplay-refl f = record { beginnings = λ n. (n, HaveSame-refl (take n f)) }
-
 -- a replay of a replay is one: what a subscriber hears of its queue, and the queue of what the ledger tells
 pub IsReplay-trans : {X : Type 0} (w v f : List X) → IsReplay w v → IsReplay v f → IsReplay w f
 IsReplay-trans w v f of_v of_f = record {

@@ -22,11 +22,6 @@ flag_none : (flag : Bool) → flag_count flag ≤ 0 → flag ≡ false
 flag_none true low = absurd (omega arith)
 flag_none false low = refl
 
--- no tag waits
-waiting_none : (w : Option ℕ) → waiting w ≤ 0 → w ≡ None
-waiting_none None low = refl
-waiting_none (Some tag) low = absurd (omega arith)
-
 -- with no event unsent the end mark may have been sent, and once at most
 flag_at_most : (flag : Bool) → 0 + flag_count flag ≤ 1
 flag_at_most true = omega arith

@@ -1,5 +1,5 @@
 -- The line of a ledger: what it has to tell after a moment, and how it grows.
-use Rattle.std.proofs.Common.{◌≡◌, ℕ, zero, suc, ◌<◌, ◌≤◌, Bool, true, false, List, [], ◌∷◌, ◌++◌, map, refl, sym, ap, ap₂, ◌∙◌, subst, append_assoc, append-nil, arith}
+use Rattle.std.proofs.Common.{◌≡◌, ℕ, zero, suc, ◌<◌, ◌≤◌, Bool, true, false, List, [], ◌∷◌, ◌++◌, map, refl, sym, ap, ap₂, ◌∙◌, append_assoc, append-nil, arith}
 use Rattle.std.specs.Prelude.{All, AllPairs, nat_lt, if◌then◌else◌}
 use Rattle.std.specs.List.{AllByRecursion}
 use Rattle.std.proofs.lemmas.List.{map-append}
@@ -11,10 +11,6 @@ use Rattle.cdc_ledger.proofs.Elements.{AllByRecursion-weaker}
 use Rattle.cdc_log.specs.Log.{RiseFrom, events_after}
 use Rattle.cdc_message.specs.declared.items.Item.{Item}
 use Rattle.cdc_message.specs.declared.items.Item.TheVariants.{Event as OfEvent, EndMark}
-use Rattle.cdc_message.specs.Items.{TimestampsRise, events_of}
-use Rattle.cdc_message.specs.Replays.{HasNoneTwice}
-use Rattle.cdc_message.proofs.LineLaws.{HasNoneTwice-events, HasNoneTwice-line, events_of-map}
-use Rattle.cdc_message.proofs.RisesLaws.{events_of-push_end}
 use Rattle.cdc_types.specs.declared.events.Entry.{Entry}
 use Rattle.cdc_types.specs.declared.events.Event.{Event}
 use Rattle.cdc_world.specs.Connector.{line_after}
@@ -58,36 +54,9 @@ in_turn t (e ∷ es) rise zero (suc j) d before below = all_above e.timestamp es
 in_turn t (e ∷ es) rise (suc i) zero d before below = absurd (omega arith)
 in_turn t (e ∷ es) rise (suc i) (suc j) d before below = in_turn e.timestamp es rise.1 i j d (omega arith) (omega arith)
 
--- so a ledger's events can be told apart, and put in order, by their timestamps alone
-pub TimestampsRise-events : (h : History) → sound.IsSound h → TimestampsRise (events h)
-TimestampsRise-events h is =
-    record { above_zero = all_above 0 (events h) (events_rise h is); rising = in_turn 0 (events h) (events_rise h is) }
-
 -- events, and the end mark behind them or none
 abbrev pub told : List Event → Bool → List Item
 told es ended = map OfEvent es ++ (if ended then EndMark ∷ [] else [])
-
--- the end mark is no event: all that is told is these events, whether or not it stands behind them
-events_of-told : (es : List Event) (ended : Bool) → events_of (told es ended) ≡ es
-events_of-told es true = events_of-push_end (map OfEvent es) ∙ events_of-map es
-events_of-told es false = ap events_of (append-nil (map OfEvent es)) ∙ events_of-map es
-
--- the line of a ledger tells all of its events, in their order
-pub events_of-line : (h : History) → events_of (line h) ≡ events h
-events_of-line h = events_of-told (events h) h.closed
-
--- and it tells them with timestamps that rise
-pub TimestampsRise-line : (h : History) → sound.IsSound h → TimestampsRise (events_of (line h))
-TimestampsRise-line h is = subst TimestampsRise (sym (events_of-line h)) (TimestampsRise-events h is)
-
--- no item is told twice, the end mark included
-none_twice : (es : List Event) (ended : Bool) → TimestampsRise es → HasNoneTwice (told es ended)
-none_twice es true rise = HasNoneTwice-line es rise
-none_twice es false rise = rw (append-nil (map OfEvent es)) (HasNoneTwice-events es rise)
-
--- a ledger's line has no item twice, so the first of each item of its replay are a beginning of it
-pub HasNoneTwice-of_line : (h : History) → sound.IsSound h → HasNoneTwice (line h)
-HasNoneTwice-of_line h is = none_twice (events h) h.closed (TimestampsRise-events h is)
 
 -- ---- the line before and after a moment
 

@@ -26,7 +26,7 @@ use Rattle.cdc_world.specs.declared.steps.Step.TheVariants.{Submit, CloseLedger,
 use Rattle.cdc_world.specs.declared.steps.StepError.{StepError}
 use Rattle.cdc_world.specs.declared.steps.StepError.TheVariants.{NotEnabled, Refused, Store, SessionsExhausted, OutOfMemory}
 use Rattle.cdc_world.specs.Line.{line}
-use Rattle.cdc_world.specs.Next.{AfterFailure, IsAtStart, IsReached, IsReachedBy, IsTried, LeadsBy, NextBy, Offered, Outcome, confirmed, first_flight, may_come, next_by, next_delivery, offered, saves, started, starting, submitted, taking_in, where_so, ◌>>=◌}
+use Rattle.cdc_world.specs.Next.{AfterFailure, IsAtStart, IsReachedBy, IsTried, LeadsBy, NextBy, Offered, Outcome, confirmed, first_flight, may_come, next_by, next_delivery, saves, started, starting, submitted, taking_in, where_so, ◌>>=◌}
 use Rattle.cdc_world.specs.Packets.{is_taken}
 use Rattle.cdc_world.specs.Worlds.{Subscription, WorldState, new_world, numbered, taken_items}
 use Rattle.cdc_world.proofs.ConnArrives.{IsOrderly-arrived}
@@ -290,11 +290,3 @@ IsReplay-reached_by offers w reached = (HasOrder-reached_by offers w reached).1.
 -- and the ledger's history is sound
 pub IsSound-reached_by : (offers : Offered) (w : WorldState) → IsReachedBy offers w → IsSound w.history
 IsSound-reached_by offers w reached = (HasOrder-reached_by offers w reached).1.sound
-
--- the same of today's steps
-pub IsReplay-reached : (w : WorldState) → IsReached w → IsReplay (taken_items w) (line w.history)
-IsReplay-reached w reached = IsReplay-reached_by offered w reached
-
--- and the history that today's steps make is sound
-pub IsSound-reached : (w : WorldState) → IsReached w → IsSound w.history
-IsSound-reached w reached = IsSound-reached_by offered w reached

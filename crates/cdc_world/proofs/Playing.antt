@@ -1,5 +1,5 @@
 -- Steps that are all done, one more at a time, and where they stop.
-use Rattle.std.proofs.Common.{◌≡◌, ℕ, ◌+◌, ◌<◌, IsTrue, List, [], ◌∷◌, ◌++◌, Some, None, Ok, Err, zero, suc, refl, sym, ap, ◌∙◌, subst, length, take, drop, get_or, arith}
+use Rattle.std.proofs.Common.{◌≡◌, ℕ, ◌+◌, ◌<◌, IsTrue, List, [], ◌∷◌, ◌++◌, Some, Ok, Err, zero, suc, refl, sym, ap, ◌∙◌, subst, length, take, drop, get_or, arith}
 use Rattle.std.specs.List.{list_any}
 use Rattle.std.proofs.lemmas.List.{take_more}
 use Rattle.std.proofs.lemmas.List.Folds.{list_any_at}
@@ -15,10 +15,6 @@ pub record HasDone (p p' : Parts) (steps : List Step) (done : ℕ) : Type 0 wher
   pub honest : p'.honest ≡ p.honest
   pub leads : (IsTrue (list_any loads steps) → IsTrue p.honest) → (w : WorldState) → Stands p w
       → ((w' : WorldState) × (Stands p' w' × DoesAll w (take done steps) w'))
-
--- none yet
-pub HasDone-none : (p : Parts) (steps : List Step) → HasDone p p steps 0
-HasDone-none p steps = record { honest = refl; leads = λ honest w st. (w, (st, refl)) }
 
 -- a step of a play that loads is one of the play's steps that load
 loads_one : (steps : List Step) (done : ℕ) (step : Step) → done < length steps → step ≡ get_or steps done step
@@ -79,28 +75,6 @@ Plays-stopped p p' p'' steps done step why inside here has moves honest w st =
           before = before.0;
           does = before.1.1;
           stops = subst (λ (ss : List Step). StopsAt before.0 ss (Some why) after.0) (sym rest.1) after.1.1;
-        },
-      ),
-    )
-
--- once all steps are done none is left to be refused
-drop_whole : {X : Type 0} (xs : List X) → drop (length xs) xs ≡ []
-drop_whole [] = refl
-drop_whole (x ∷ xs) = drop_whole xs
-
--- a play to the end
-pub Plays-all : (p p' : Parts) (steps : List Step) → HasDone p p' steps (length steps)
-    → Plays p steps (length steps) None p'
-Plays-all p p' steps has honest w st =
-    let before = has.leads honest w st in (
-      before.0,
-      (
-        before.1.0,
-        record {
-          count = omega arith;
-          before = before.0;
-          does = before.1.1;
-          stops = subst (λ (ss : List Step). StopsAt before.0 ss None before.0) (sym (drop_whole steps)) refl;
         },
       ),
     )
