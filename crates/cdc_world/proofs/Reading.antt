@@ -9,7 +9,7 @@ use Rattle.cdc_ledger.specs.Submit.{IsLegal}
 use Rattle.cdc_ledger.specs.Verdict.{max_timestamp}
 use Rattle.cdc_ledger.proofs.EventLaws.{timestamps-events}
 use Rattle.cdc_ledger.proofs.KeptLaws.{IsSound-from_legal}
-use Rattle.cdc_log.proofs.Rising.{last_timestamp_from-slice_get}
+use Rattle.cdc_types.proofs.Rising.{last_timestamp_from-slice_get}
 use Rattle.cdc_log.specs.Log.{RiseFrom, events_after}
 use Rattle.cdc_types.specs.Timestamps.{last_timestamp, last_timestamp_from}
 use Rattle.cdc_publisher.specs.Offers.{IsOffered, IsReply, RiseAfter}
