@@ -37,14 +37,14 @@ const KEYS: [Key; 5] = [
 fn ledger(text: &str) -> Option<u32>
     ensures { result ≡ decimals.decimal_up_to spec.greatest_ledger text.now }
 {
-    Some(decimal_up_to(text, u128::from(u32::MAX))? as u32)
+    Some(decimal_up_to(text.as_bytes(), u128::from(u32::MAX))? as u32)
 }
 
 // The code of an account or a transfer.
 fn code(text: &str) -> Option<u16>
     ensures { result ≡ decimals.decimal_up_to spec.greatest_code text.now }
 {
-    Some(decimal_up_to(text, u128::from(u16::MAX))? as u16)
+    Some(decimal_up_to(text.as_bytes(), u128::from(u16::MAX))? as u16)
 }
 
 impl Key {

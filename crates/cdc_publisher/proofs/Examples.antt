@@ -76,7 +76,7 @@ it_connects_first : next_packet offered ≡ Some (Connect 7)
 it_connects_first = refl
 
 -- at first it wants three events, those after the timestamp that was held
-three_are_wanted : wanted opened ≡ Some (record { after = 2000; limit = 3 })
+three_are_wanted : next_poll opened ≡ Some (record { after = 2000; limit = 3 })
 three_are_wanted = refl
 
 -- both events are sent, under tags 1 and 2

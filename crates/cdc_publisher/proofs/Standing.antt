@@ -69,8 +69,8 @@ wanted_same : (after after' : ℕ) (sent sent' : Bool) (count count' window wind
 wanted_same after after' sent sent' count count' window window' complete complete' a b c d e = cc
 
 -- the events that are wanted
-pub wanted_is : (kept : Kept) (course : Course) → StandsFor kept course → poll_of kept ≡ wanted course
-wanted_is kept course stands =
+pub poll_of_is : (kept : Kept) (course : Course) → StandsFor kept course → poll_of kept ≡ next_poll course
+poll_of_is kept course stands =
     wanted_here kept.last kept.unsent kept.unconfirmed kept.complete
     ∙ wanted_same kept.last _ (is_none kept.unsent) (all_sent course) (waiting kept.unconfirmed)
     (length (unconfirmed course)) 1 course.window kept.complete course.complete stands.last
