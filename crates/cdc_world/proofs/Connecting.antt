@@ -19,7 +19,7 @@ use Rattle.cdc_publisher.specs.declared.errors.StartError.{StartError}
 use Rattle.cdc_publisher.specs.declared.errors.StartError.TheVariants as start
 use Rattle.cdc_publisher.specs.declared.session.Poll.{Poll}
 use Rattle.cdc_world.specs.declared.steps.Did.TheVariants.{Counted, Done}
-use Rattle.cdc_world.specs.declared.steps.Step.TheVariants.{Start, Poll as PollStep, Publish as PublishStep, Answer, Save}
+use Rattle.cdc_types.specs.declared.steps.Step.TheVariants.{Start, Poll as PollStep, Publish as PublishStep, Answer, Save}
 use Rattle.cdc_world.specs.Next.{IsTried, ◌>>=◌, answered, confirmed, counts, done, next_by, none_follow, offered, polled, sending, started, starting}
 use Rattle.cdc_world.specs.Refusals.{start_refusal, store_refusal}
 use Rattle.cdc_world.specs.Stands.{Moves, Parts, SessionStands, Stands}
