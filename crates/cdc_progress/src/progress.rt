@@ -1,7 +1,6 @@
 //! How far a publisher has come.
 
 ghost use Rattle.std.specs.Prelude.{◌≡◌, ◌≤◌};
-ghost use Rattle.cdc_progress.specs.Records.{Saved};
 
 use cdc_types::Limits;
 use std::marker::Model;
@@ -15,6 +14,10 @@ pub struct Progress {
 }
 
 impl Model for Progress {
+    ghost use Rattle.std.specs.Prelude.{◌≤◌};
+    ghost use Rattle.cdc_types.specs.declared.bounds.TheConstants.Limits.{TIMESTAMP};
+    ghost use Rattle.cdc_progress.specs.Records.{Saved};
+
     ghost Value = { Saved };
 
     ghost view = { λ progress. record {
@@ -22,7 +25,7 @@ impl Model for Progress {
       timestamp = progress.timestamp;
     } };
 
-    ghost invariant = { λ progress. progress.timestamp ≤ Limits.TIMESTAMP };
+    ghost invariant = { λ progress. progress.timestamp ≤ TIMESTAMP };
 
     ghost inverse = { λ saved. record { session = saved.session; timestamp = saved.timestamp } };
 }
