@@ -205,15 +205,19 @@ class Sources:
         return Change(file, function, text[start : other.end])
 
     def with_changes(self, changes):
-        """Returns the texts of the files with these changes, one for a function."""
-        texts = {}
+        """Returns the texts of the files with these changes, one for a function, and of each changed function its lines there."""
+        texts, lines = {}, {}
         for file in {it.file for it in changes}:
-            text = self.texts[file]
-            for it in sorted((it for it in changes if it.file == file), key=lambda it: -it.function.start):
+            text, done, place = self.texts[file], b"", 0
+            for it in sorted((it for it in changes if it.file == file), key=lambda it: it.function.start):
                 start = self.tokens[file][it.function.tokens[0]].start
-                text = text[:start] + it.body + text[it.function.end :]
-            texts[file] = text.decode()
-        return texts
+                done += text[place:start]
+                first = done.count(b"\n") + 1
+                done += it.body
+                lines[it.function] = file, first, done.count(b"\n") + 1
+                place = it.function.end
+            texts[file] = (done + text[place:]).decode()
+        return texts, lines
 
     def with_statement(self, function, statement):
         """Returns the Change that puts a statement first in a function's body."""
@@ -240,6 +244,12 @@ class Sources:
 NAME_IS_GONE = re.compile(r"has no field|is not in scope|has no `")
 FOLLOWS = re.compile(r"was not admitted")
 PROVED, REFUSED, NAMES_ONLY, CALLS, UNCLEAR = "proved", "refused", "names only", "calls", "unclear"
+
+
+def proof_folders(path):
+    """Returns the folders that a function's proof may stand in; the second is that of one that calls itself."""
+    *above, name = path.split("::")[1:]
+    return ["/".join(["proofs", *above, it]) for it in (name, f"+{name}")]
 
 
 class Answer:
@@ -271,25 +281,32 @@ class Answer:
 
     def errors_in_proofs(self, path):
         """Returns the errors in a function's own folder of proofs, which a function inside another has none of."""
-        folder = "/".join(["proofs", *path.split("::")[1:]])
-        at = re.compile(rf"(?:\./)?{re.escape(folder)}/\w+\.antt:\d+:\d+: error")
+        at = re.compile(rf"(?:\./)?(?:{'|'.join(map(re.escape, proof_folders(path)))})/\w+\.antt:\d+:\d+: error")
         return [it for it in self.lines if at.match(it)]
 
-    def of(self, path):
-        """Returns how a function came out, and the first line of the reason."""
+    def open_goals(self, path, lines):
+        """Returns the notes on goals of a function that weren't proved, which stand right above its line, and whose places are in its lines."""
+        file, first, last = lines
+        found = []
+        for it in self.notes.get(path, []):
+            at = re.match(r"note: (\S+):(\d+):\d+: it is not proved that ", it)
+            if at and at[1] == file and first <= int(at[2]) <= last:
+                found.append(it[len("note: ") :])
+        return found
+
+    def of(self, path, lines=("", 0, 0)):
+        """Returns how a function came out, and the first line of the reason; lines are the file and the lines of its text."""
         if [len(self.said.get(path, []))] != [1]:
             return UNCLEAR, "it has not one line in the check"
         words = [(it, line) for it in self.own(path) for line in self.said[it]]
         if all(line == PROVED for _, line in words):
             return PROVED, ""
         errors = [line for it, _ in words for line in self.errors_in_proofs(it) if not FOLLOWS.search(line)]
-        own_goal = [(it, line) for it, line in words if line.startswith(("no proof", "not proved")) and "did not prove" in line]
         told = [line for line in errors if not NAME_IS_GONE.search(line)]
+        told += [goal for it, line in words if line.startswith(("no proof", "not proved")) for goal in self.open_goals(it, lines)]
+        told += [line for _, line in words if re.match(r"(no|not) proved?\b.*did not prove", line)]
         if told:
             return REFUSED, told[0]
-        if own_goal:
-            notes = self.notes[own_goal[0][0]]
-            return REFUSED, notes[0][len("note: ") :] if notes else own_goal[0][1]
         if errors:
             return NAMES_ONLY, errors[0]
         if all(line == PROVED or re.fullmatch(r"no proof: it calls [^;]*", line) for _, line in words):
@@ -319,7 +336,7 @@ class Trial:
     def __init__(self, crate, kept):
         self.crate, self.kept = crate, kept
         self.sources = Sources(crate)
-        self.results, self.seconds = {}, 0.0
+        self.results = {}
 
     def check(self, texts):
         return Answer(rt.checked(self.crate, texts, ONE_JOB, self.kept))
@@ -395,7 +412,7 @@ class Trial:
             if it not in taken
             and first.own(it.path) == [it.path]
             and first.of(it.path)[0] == PROVED
-            and not os.path.isdir("/".join([self.crate.folder, "proofs", *it.path.split("::")[1:]]))
+            and not any(os.path.isdir(f"{self.crate.folder}/{folder}") for folder in proof_folders(it.path))
         ]
         for control in free:
             for harmless in free:
@@ -409,7 +426,7 @@ class Trial:
         own = [self.sources.with_statement(harmless, HARMLESS), self.sources.with_statement(control, CONTROL)]
         group = [*group]
         while True:
-            texts = self.sources.with_changes([it.change for it in group] + own)
+            texts, lines = self.sources.with_changes([it.change for it in group] + own)
             answer = self.check(texts)
             unread = answer.unread(texts)
             if answer.is_refused and not unread and not answer.is_stale:
@@ -424,17 +441,17 @@ class Trial:
         results = []
         if answer.of(harmless.path)[0] != PROVED:
             results.append(Result(False, f"wrong bodies of {self.crate.name}: the harmless edit of {harmless.path} was refused, so no answer of its group counts"))
-        if answer.of(control.path)[0] != REFUSED:
+        if answer.of(control.path, lines[control])[0] != REFUSED:
             results.append(Result(False, f"wrong bodies of {self.crate.name}: the false statement in {control.path} was let through, so no answer of its group counts"))
         for it in group:
-            self.tell(it, answer)
+            self.tell(it, answer, lines[it.change.function])
         return results
 
     def unreadable(self, group):
         """Finds the edits of a group that don't compile or can't be read, each by a check of its own, and says so."""
         bad = []
         for it in group:
-            texts = self.sources.with_changes([it.change])
+            texts, _ = self.sources.with_changes([it.change])
             answer = self.check(texts)
             unread = answer.unread(texts)
             if unread or not (answer.is_refused or answer.is_proved):
@@ -443,10 +460,10 @@ class Trial:
                 bad.append(it)
         return bad
 
-    def tell(self, edit, answer):
+    def tell(self, edit, answer, lines):
         """Says how an edit of a group came out."""
         path = edit.change.function.path
-        how, why = answer.of(path)
+        how, why = answer.of(path, lines)
         if how == REFUSED:
             self.put(edit, True, f"refused: {why[:160]}")
         elif how == NAMES_ONLY:
@@ -517,7 +534,6 @@ def main():
         if not all(given.get((dep.name, "proof"), True) for dep in crate.below()):
             return [Result(False, f"wrong bodies of {crate.name}: a crate below is not proved")]
         with tempfile.TemporaryDirectory(prefix="wrong-bodies-") as kept:
-            before = os.times()
             try:
                 results = Trial(crate, kept).run()
             except Unreadable as error:
