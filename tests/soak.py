@@ -28,7 +28,7 @@ import model
 PROGRAM = pathlib.Path(__file__).resolve().parent.parent / 'crates/cdc_app/out/cdc_app'
 CHUNK = 20  # cases that a worker takes at once
 LONGEST = 60  # seconds that a run may take
-MOST_TRIES = 600  # runs while a difference is shrunk
+MOST_TRIES = 2000  # runs while a difference is shrunk
 MOST_SHOWN = 3  # differences that are shrunk and shown
 MAX = model.GREATEST_128
 END_OF_TIME = model.GREATEST_MOMENT
@@ -137,10 +137,13 @@ class ScriptMaker:
         last = self.ledger.last
         open_ones = [one for one in self.ledger.transfers.values() if one.request.id not in self.ledger.ends_of]
         ends = [one.end for one in open_ones if one.end is not None]
-        if ends and self.chance(0.8 if kind == 'pulse' else 0.3):
+        if ends and kind == 'pulse' and self.chance(0.4):
+            return max(ends) + self.rng.randint(-1, 1)
+        if ends and self.chance(0.7 if kind == 'pulse' else 0.3):
             return max(0, self.rng.choice(ends) + self.rng.choice([-3, -2, -1, 0, 0, 1, 500]))
         if self.is_late and self.chance(0.5):
-            return self.rng.choice([5 * 10**18, END_OF_TIME - 10**10, END_OF_TIME - self.rng.randint(0, 40)])
+            seconds, few = self.rng.randint(0, 4), self.rng.randint(0, 4)
+            return self.rng.choice([5 * 10**18, END_OF_TIME - seconds * model.SECOND - few, END_OF_TIME - 10 * few])
         if self.chance(0.01):
             return self.rng.choice([END_OF_TIME, END_OF_TIME + 1, 2**64 - 1])
         return self.rng.choice([0, 5, last + 1, last + self.rng.randint(1, 2000), last + model.SECOND])
@@ -271,7 +274,7 @@ class ScriptMaker:
         to_the_end = (END_OF_TIME - self.moment) // model.SECOND + self.rng.randint(0, 1)
         if self.is_late and self.chance(0.5) and to_the_end >= 0:
             return min(to_the_end, 2**32 - 1)
-        return self.rng.choice([1, 1, 1, 2, 3, 2**32 - 1])
+        return self.rng.choice([1, 1, 2, 2, 3, 2**32 - 1])
 
     def settling(self):
         """A post or a void."""
@@ -370,6 +373,9 @@ class StepMaker:
         'close': 0.06,
     }
 
+    # How many of the steps that change little are written all the same; of the others a twentieth.
+    IDLE = {'arrive': 0.1, 'answer': 0.2, 'ack': 0.4}
+
     def __init__(self, rng, script, in_order):
         self.rng = rng
         self.world = model.World(script.bindings, script.batches, 1)
@@ -392,11 +398,12 @@ class StepMaker:
             if step is None:
                 break
             steps.append(step)
-        if self.rng.random() < 0.4:
-            refused = self.refused_step()
-            if refused is not None:
-                steps.append(refused)
-                steps += [self.any_step() for _ in range(self.rng.randint(0, 3))]
+        ending = self.rng.random()
+        if ending < 0.35:
+            steps += self.drained()
+        elif ending < 0.7:
+            steps += self.refused_step()
+            steps += [self.any_step() for _ in range(self.rng.randint(0, 3))]
         return [' '.join([step.word] + [f'{zeros(self.rng)}{number}' for number in step.numbers]) for step in steps]
 
     def end_waits(self):
@@ -411,7 +418,7 @@ class StepMaker:
         for _ in range(60):
             word = self.rng.choices(list(self.weights), list(self.weights.values()))[0]
             step = model.Step(word, self.numbers(word))
-            if self.is_idle(step) and self.rng.random() < 0.95:
+            if self.is_idle(step) and self.rng.random() > self.IDLE.get(word, 0.05):
                 continue
             if self.is_taken(step):
                 return step
@@ -441,14 +448,23 @@ class StepMaker:
                 return not 1 <= which <= len(acks) or acks[which - 1] <= world.broker.acked[place]
         return False
 
+    def drained(self):
+        """One step again and again until it is refused, which shows how much of it there was."""
+        word = self.rng.choice(['send', 'send', 'take', 'take', 'batch', 'publish'])
+        step = model.Step(word, self.numbers(word))
+        steps = [step]
+        while self.is_taken(step):
+            steps.append(step)
+        return steps
+
     def refused_step(self):
-        """A step that the world refuses."""
+        """A step that the world refuses, if one is found."""
         words = [word for word in model.STEPS if self.weights[word] > 0]
         for _ in range(40):
             step = self.any_step() if self.rng.random() < 0.3 else model.Step(w := self.rng.choice(words), self.numbers(w))
             if not self.is_taken(step):
-                return step
-        return None
+                return [step]
+        return []
 
     def is_taken(self, step):
         try:
@@ -466,7 +482,7 @@ class StepMaker:
         if word == 'arrive':
             return (self.of_line(self.arrived, len(self.world.packets)),)
         if word == 'answer':
-            return (self.of_line(self.answered, len(self.world.confirms)),)
+            return (self.look_alike() or self.of_line(self.answered, len(self.world.confirms)),)
         if model.STEPS[word] == 0:
             return ()
         subscriber = self.rng.randint(1, len(self.world.seats))
@@ -474,6 +490,16 @@ class StepMaker:
             return (subscriber,)
         acks = len(self.world.seats[subscriber - 1].acks)
         return subscriber, self.rng.choice([acks, acks, self.rng.randint(1, max(acks, 1))])
+
+    def look_alike(self):
+        """At times, the number of another session's confirm under the tag that the session waits for; else 0."""
+        session = self.world.session
+        if self.in_order or self.is_calm or session is None or self.rng.random() < 0.8:
+            return 0
+        for number, confirm in enumerate(self.world.confirms, start=1):
+            if confirm.tag == session.sent and confirm.session != session.number and confirm.tag not in session.confirmed:
+                return number
+        return 0
 
     def of_line(self, greatest, count):
         """The number of what comes next on a line; or of what comes late, early or again."""
@@ -557,7 +583,8 @@ class Spoiler:
                 ['subscriber all ledger=1=1', 'subscriber all ledger=', f'subscriber any ledger={FAR_TOO_LARGE}'],
                 ['subscriber all'] * 5,
                 [f'accounts {no_number}', f'pulse {2**64}', 'transfers', 'pulse', 'pulse x 6', 'accounts 1 2'],
-                ['account', 'transfer', 'account id=1', 'transfer id=1', 'account x', 'transfer x=1', 'transfer id'],
+                ['account', 'transfer'],
+                ['account id=1', 'transfer id=1', 'account x', 'transfer x=1', 'transfer id'],
                 ['Accounts 1', 'pulses 1', ' #x', 'x', '=', 'transfers2000', 'account=1'],
                 [f'transfer amount={too_large}', f'account flags={too_large}', f'transfer timeout={too_large}'],
                 [f'transfer id={no_number}', f'account id={no_number} id=1', 'transfer id=1 id=x', 'account id=1 id=1'],
@@ -599,7 +626,7 @@ class Spoiler:
 
     def bad_byte(self, lines):
         place = self.rng.randrange(len(lines))
-        at = self.rng.randint(0, len(lines[place]))
+        at = self.rng.choice([self.rng.randint(0, len(lines[place])), len(lines[place])])
         line = lines[place][:at] + self.rng.choice(NO_TEXT) + lines[place][at:]
         return lines[:place] + [line] + lines[place + 1 :]
 
@@ -727,16 +754,25 @@ def shrunk(runner, command, case):
         runner.write(candidate)
         return not is_same(reports_of(candidate)[command], runner.run(command, candidate))
 
-    if command == 'simulate':
-        case = without_lines(case, 'steps', differs)
-    case = without_lines(case, 'script', differs)
-    if command == 'simulate':
-        case = without_lines(case, 'steps', differs)
+    plain = replace(case, script=without_layout(case.script), steps=without_layout(case.steps))
+    if differs(plain):
+        case = plain
+    size = None
+    while size != (size := len(case.script) + len(case.steps)):
+        if command == 'simulate':
+            case = without_lines(case, 'steps', differs)
+        case = without_lines(case, 'script', differs)
     return case
 
 
+def without_layout(data):
+    """A file without carriage returns at the ends of lines, and with single spaces."""
+    lines = data.replace(b'\r\n', b'\n').split(b'\n')
+    return b'\n'.join(line if line.startswith(b'#') else b' '.join(filter(None, line.split(b' '))) for line in lines)
+
+
 def without_lines(case, part, differs):
-    """Leaves out runs of lines of one file, long ones first."""
+    """The case without runs of lines of one file, long ones first."""
     lines = getattr(case, part).splitlines(keepends=True)
     length = len(lines)
     while length >= 1:
@@ -906,12 +942,12 @@ def summary(counts):
 # ---------------------------------------------------------------- The soak
 
 
-def run_chunk(program, seed, numbers, in_order):
+def run_chunk(program, room, seed, numbers, in_order):
     """The counts of some cases, the number of runs, and the cases that differ with their commands."""
     counts = collections.Counter()
     runs = 0
     differing = []
-    with tempfile.TemporaryDirectory(prefix='soak-') as folder:
+    with tempfile.TemporaryDirectory(dir=room) as folder:
         runner = Runner(program, folder)
         for number in numbers:
             case = case_of(seed, number, in_order)
@@ -925,9 +961,9 @@ def run_chunk(program, seed, numbers, in_order):
     return counts, runs, differing
 
 
-def show(program, seed, number, command, in_order):
+def show(program, room, seed, number, command, in_order):
     """Prints a difference, shrunk."""
-    with tempfile.TemporaryDirectory(prefix='soak-') as folder:
+    with tempfile.TemporaryDirectory(dir=room) as folder:
         runner = Runner(program, folder)
         case = shrunk(runner, command, case_of(seed, number, in_order))
         runner.write(case)
@@ -944,13 +980,15 @@ def stop(_signal, _frame):
 
 
 class Soak:
-    def __init__(self, options):
+    def __init__(self, options, room):
         self.options = options
+        self.room = room  # a folder for the files of all cases
         self.counts = collections.Counter()
         self.cases = 0
         self.runs = 0
         self.differing = 0
         self.began = time.monotonic()
+        self.told_last = self.began
 
     def chunks(self):
         """The numbers of the cases, some at a time, until there are enough or the time is up."""
@@ -972,13 +1010,16 @@ class Soak:
         for number, command in differing:
             self.differing += 1
             if self.differing <= MOST_SHOWN:
-                show(self.options.program, self.options.seed, number, command, self.options.steps == 'ordered')
+                show(self.options.program, self.room, self.options.seed, number, command, self.options.steps == 'ordered')
+        if time.monotonic() - self.told_last >= 60:
+            self.told_last = time.monotonic()
+            print(f'soak: {self.cases} cases, {self.differing} differ', file=sys.stderr, flush=True)
 
     def run(self):
         waiting = collections.deque()
         with multiprocessing.Pool(self.options.jobs, ignore_signals) as pool:
             for numbers in self.chunks():
-                words = (self.options.program, self.options.seed, numbers, self.options.steps == 'ordered')
+                words = (self.options.program, self.room, self.options.seed, numbers, self.options.steps == 'ordered')
                 waiting.append((numbers, pool.apply_async(run_chunk, words)))
                 if len(waiting) > self.options.jobs + 1:
                     taken, result = waiting.popleft()
@@ -1002,9 +1043,9 @@ def run_case(options):
     """One case alone: its files and what it prints, and the difference where there is one."""
     case = case_of(options.seed, options.case, options.steps == 'ordered')
     print(file_in_words('soak.script', case.script) + file_in_words('soak.steps', case.steps))
-    _, runs, differing = run_chunk(options.program, options.seed, [options.case], options.steps == 'ordered')
+    _, runs, differing = run_chunk(options.program, None, options.seed, [options.case], options.steps == 'ordered')
     for number, command in differing:
-        show(options.program, options.seed, number, command, options.steps == 'ordered')
+        show(options.program, None, options.seed, number, command, options.steps == 'ordered')
     print(f'soak: {runs - len(differing)} passed, {len(differing)} failed')
     return 1 if differing else 0
 
@@ -1031,13 +1072,16 @@ def main(words):
     options = options_of(words)
     if options.case is not None:
         return run_case(options)
-    soak = Soak(options)
-    signal.signal(signal.SIGTERM, stop)
-    try:
-        soak.run()
-    except (Stopped, KeyboardInterrupt):
-        print('soak: stopped', flush=True)
-    print(soak.told(), flush=True)
+    with tempfile.TemporaryDirectory(prefix='soak-') as room:
+        soak = Soak(options, room)
+        signal.signal(signal.SIGTERM, stop)
+        signal.signal(signal.SIGINT, stop)
+        try:
+            soak.run()
+        except Stopped:
+            print('soak: stopped', flush=True)
+        signal.signal(signal.SIGTERM, signal.SIG_IGN)
+        print(soak.told(), flush=True)
     return 1 if soak.differing else 0
 
 
