@@ -97,19 +97,19 @@ impl Session {
     ) -> Result<Session, StartError>
         requires { window ≡ Limits.WINDOW_TODAY }
         ensures ok { IfOk result (HasStarted (record {
-                honest = S.is_honest store.old;
-                before = S.held store.old;
-                after = S.held store.new;
-                failed_before = S.failed store.old;
-                failed_after = S.failed store.new;
-            }) window) }
+          honest = S.is_honest store.old;
+          before = S.held store.old;
+          after = S.held store.new;
+          failed_before = S.failed store.old;
+          failed_after = S.failed store.new;
+        }) window) }
         ensures err { IfErr result (MayRefuseStart (record {
-                honest = S.is_honest store.old;
-                before = S.held store.old;
-                after = S.held store.new;
-                failed_before = S.failed store.old;
-                failed_after = S.failed store.new;
-            })) }
+          honest = S.is_honest store.old;
+          before = S.held store.old;
+          after = S.held store.new;
+          failed_before = S.failed store.old;
+          failed_after = S.failed store.new;
+        })) }
         ensures honest { S.is_honest store.new ≡ S.is_honest store.old }
     {
         let saved = begin(store.load()?).ok_or(StartError::SessionsExhausted)?;
