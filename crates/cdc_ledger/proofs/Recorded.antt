@@ -11,7 +11,7 @@ use Rattle.cdc_types.specs.declared.accounts.Balances.{Balances}
 use Rattle.cdc_types.specs.declared.events.Entry.{Entry}
 use Rattle.cdc_types.specs.declared.events.Event.{Event}
 use Rattle.cdc_types.specs.declared.events.EventAccount.{EventAccount}
-use Rattle.cdc_types.specs.Shapes.{max_128}
+use Rattle.cdc_types.specs.Widths.{max_128}
 use Rattle.cdc_types.specs.Timestamps.{last_timestamp_from, last_timestamp}
 use Rattle.cdc_ledger.specs.declared.movements.Movement.{Movement}
 use Rattle.cdc_ledger.specs.declared.tables.Tables.{Tables}

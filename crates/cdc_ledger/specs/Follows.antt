@@ -1,7 +1,7 @@
 -- What it takes that an entry comes after a history (for private contracts and the laws).
 use Rattle.std.specs.Prelude.{◌+◌, ◌≤◌, ◌≡◌, ◌≢◌, true, false, None}
 use Rattle.cdc_types.specs.declared.events.Entry.{Entry}
-use Rattle.cdc_types.specs.Shapes.{max_128}
+use Rattle.cdc_types.specs.Widths.{max_128}
 use Rattle.cdc_ledger.specs.Balances.{balances, resolved}
 use Rattle.cdc_ledger.specs.Filling.{stored, expires_at}
 use Rattle.cdc_ledger.specs.History.{History}

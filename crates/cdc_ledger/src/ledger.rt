@@ -2,7 +2,7 @@
 
 ghost use Rattle.std.specs.Prelude.{◌≡◌, ◌+◌, ◌≤◌, true, IfSome, option_map};
 ghost use Rattle.std.specs.Option.{option_copied};
-ghost use Rattle.cdc_types.specs.Shapes.{max_128};
+ghost use Rattle.cdc_types.specs.Widths.{max_128};
 ghost use Rattle.cdc_ledger.specs.Answers.{Answers};
 ghost use Rattle.cdc_ledger.specs.Balances as sums;
 ghost use Rattle.cdc_ledger.specs.Events.{account_now, accounts_now, events};

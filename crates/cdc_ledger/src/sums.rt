@@ -3,7 +3,7 @@
 ghost use Rattle.std.specs.Prelude.{◌≡◌, ◌+◌, ◌==◌, ◌<◌, ◌≤◌, ◌∷◌, [], ◌^◌, nat_lt};
 ghost use Rattle.cdc_types.specs.Flags.{is_pending_request};
 ghost use Rattle.cdc_types.specs.Lines.{first_line};
-ghost use Rattle.cdc_types.specs.Shapes.{max_128};
+ghost use Rattle.cdc_types.specs.Widths.{max_128};
 ghost use Rattle.cdc_ledger.specs.Accounts.{HasBoundedSums, lines_between, opened_as};
 ghost use Rattle.cdc_ledger.specs.Verdict.{max_timestamp, sum_lines};
 ghost use Rattle.cdc_ledger.specs.Parts.{overflow_lines, timeout_lines, limit_lines};

@@ -246,7 +246,7 @@ impl Tables {
     /// Why a batch of this many requests at this moment is refused, if it is.
     fn items_refusal(&self, now: u64, items: usize) -> Option<BatchError>
         requires { self.now.last ≤ max_timestamp }
-        ensures { result ≡ refusal_at (history_of self.now) (nat_lt 1000 items) now items }
+        ensures { result ≡ refusal_at (history_of self.now) (nat_lt Limits.BATCH_ITEMS items) now items }
     {
         self.batch_refusal(items > Limits::BATCH_ITEMS, now, items)
     }
