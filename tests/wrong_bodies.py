@@ -1,12 +1,13 @@
 #!/usr/bin/env python3
 """Tries the wrong bodies of each crate, crates/NAME/must-fail/*.edit: the prover must refuse each of them.
 
-  tests/wrong_bodies.py [--jobs N] [--proved] [NAME..]    at the top of the repository; no NAME: every crate that has edits
+  tests/wrong_bodies.py [--jobs N] [--proved] [--kept] [NAME..]    at the top of the repository; no NAME: all crates with edits
 
 `rt must-fail` checks a crate once for each edit. A caller sees contracts alone, so edits in different functions don't
 touch each other: here they are applied all at once to a copy of the crate, the copy is checked once, and for each edit
 it is read whether its own function was refused. docs/GATE.md has the rules. The crates below are proved first where
-they aren't; --proved says that `rt ci` has just proved this tree, and takes the libraries that it left.
+they aren't; --proved says that `rt ci` has just proved this tree, and takes the libraries that it left. A crate itself is
+proved from nothing; with --kept over a copy of what its earlier checks kept in out/, which takes less, and trusts that.
 
 The last line is 'N passed, M failed'; the status is 0 where nothing failed, and 1 else. Needs Python 3.8 or later.
 """
@@ -197,12 +198,17 @@ class Sources:
         if outside(tokens, now) != outside(self.tokens[file], was):
             return None
         pairs = [(a, b) for a, b in zip(was, now) if body_of(self.tokens[file], a) != body_of(tokens, b)]
-        # (what stands before the body may have got a `mut`, so the whole function is taken)
-        if len(pairs) != 1 or "const" in [it.text for it in tokens[pairs[0][1].tokens[0] : pairs[0][1].tokens[1]]]:
+        if len(pairs) != 1 or self.is_const(pairs[0][0]):
             return None
         function, other = pairs[0]
+        # (what stands before the body may have got a `mut`, so the whole function is taken)
         start = tokens[other.tokens[0]].start
         return Change(file, function, text[start : other.end])
+
+    def is_const(self, function):
+        """Returns whether a check may run the function, so that its body is seen by others."""
+        head = self.tokens[self.file_of[function]][function.tokens[0] : function.tokens[1]]
+        return ["const", "fn"] in [[a.text, b.text] for a, b in zip(head, head[1:])]
 
     def with_changes(self, changes):
         """Returns the texts of the files with these changes, one for a function, and of each changed function its lines there."""
@@ -317,7 +323,7 @@ class Answer:
         """Returns the lines that say that antt couldn't read a text, for an edit of these files."""
         return [it for it in self.lines if rt.unread(it, files)]
 
-    def first_lines(self):
+    def first_line(self):
         told = [it for it in self.lines if re.search(r"\berror\b", it)] or self.lines
         return told[0][:200]
 
@@ -338,8 +344,8 @@ class Trial:
         self.sources = Sources(crate)
         self.results = {}
 
-    def check(self, texts):
-        return Answer(rt.checked(self.crate, texts, ONE_JOB, self.kept))
+    def check(self, texts, flags=()):
+        return Answer(rt.checked(self.crate, texts, [*ONE_JOB, *flags], self.kept))
 
     def put(self, edit, passed, text):
         self.results[edit.name] = Result(passed, f"wrong body {self.crate.name}/{edit.name}: {text}")
@@ -353,7 +359,7 @@ class Trial:
             return []
         first = self.check({})
         if first.is_stale or not first.is_proved:
-            return self.fail_all(f"the crate itself is not proved, so nothing was tried: {first.first_lines()}")
+            return self.fail_all(f"the crate itself is not proved, so nothing was tried: {first.first_line()}")
         results = [Result(False, f"{os.path.relpath(it, self.crate.folder)}: BAD EDIT: an edit stands right in must-fail/, and ends in .edit") for it in bad]
         edits = [it for it in map(self.read, good) if it]
         # a function that the check doesn't name once can't be told apart
@@ -410,6 +416,7 @@ class Trial:
             it
             for it in self.sources.all
             if it not in taken
+            and not self.sources.is_const(it)
             and first.own(it.path) == [it.path]
             and first.of(it.path)[0] == PROVED
             and not any(os.path.isdir(f"{self.crate.folder}/{folder}") for folder in proof_folders(it.path))
@@ -431,13 +438,13 @@ class Trial:
             unread = answer.unread(texts)
             if answer.is_refused and not unread and not answer.is_stale:
                 break
-            bad = [] if answer.is_stale else self.unreadable(group)
+            bad = set() if answer.is_stale else self.unreadable(group)
             if not bad:
-                why = "the kept work of a library could not be used" if answer.is_stale else (unread or [answer.first_lines()])[0][:200]
+                why = "the kept work of a library could not be used" if answer.is_stale else (unread or [answer.first_line()])[0][:200]
                 for it in group:
                     self.put(it, False, f"CANNOT BE TOLD: the check of its group gave no answer: {why}")
                 return []
-            group = [it for it in group if it not in bad]
+            group = [it for it in group if it.name not in bad]
         results = []
         if answer.of(harmless.path)[0] != PROVED:
             results.append(Result(False, f"wrong bodies of {self.crate.name}: the harmless edit of {harmless.path} was refused, so no answer of its group counts"))
@@ -448,17 +455,19 @@ class Trial:
         return results
 
     def unreadable(self, group):
-        """Finds the edits of a group that don't compile or can't be read, each by a check of its own, and says so."""
-        bad = []
+        """Finds the edits of a group that don't compile or can't be read, each tried by itself, says so, and returns their names."""
+        texts = {it.name: self.sources.with_changes([it.change])[0] for it in group}
+        # (a look that proves nothing takes seconds, and sees all but what antt can't read)
+        quick = {name: self.check(it, ["--only", ""]) for name, it in texts.items()}
+        bad = {name: it.first_line() for name, it in quick.items() if it.status}
+        if not bad:
+            unread = {name: self.check(it).unread(it) for name, it in texts.items()}
+            bad = {name: lines[0] for name, lines in unread.items() if lines}
         for it in group:
-            texts, _ = self.sources.with_changes([it.change])
-            answer = self.check(texts)
-            unread = answer.unread(texts)
-            if unread or not (answer.is_refused or answer.is_proved):
-                why = "the prover cannot read the edited text" if unread else "it did not reach the prover"
-                self.put(it, False, f"BAD EDIT: {why}, so no contract was tried: {(unread or [answer.first_lines()])[0][:200]}")
-                bad.append(it)
-        return bad
+            if it.name in bad:
+                why = "the prover cannot read the edited text, so no contract was tried"
+                self.put(it, False, f"BAD EDIT: {why}: {bad[it.name][:200]}")
+        return {*bad}
 
     def tell(self, edit, answer, lines):
         """Says how an edit of a group came out."""
@@ -511,6 +520,7 @@ def main():
     read = argparse.ArgumentParser(description=__doc__, formatter_class=argparse.RawDescriptionHelpFormatter)
     read.add_argument("--jobs", type=int, help="how many crates at a time; else RT_JOBS, or as processors and memory allow")
     read.add_argument("--proved", action="store_true", help="takes the libraries that `rt ci` has just left")
+    read.add_argument("--kept", action="store_true", help="begins with the work that earlier checks kept in out/, for a quick look")
     read.add_argument("names", nargs="*", metavar="NAME")
     said = read.parse_args()
     if said.jobs:
@@ -518,8 +528,7 @@ def main():
     os.environ.pop(rtlib.ALLOW_C, None)
     rtlib.guarded()
     crates = crates_to_try(said.names)
-    printing, out, failed = threading.Lock(), sys.stdout, []
-    passed = 0
+    printing, out = threading.Lock(), sys.stdout
 
     def build(crate):
         with tempfile.TemporaryFile("w+", errors="replace") as crate.out:
@@ -534,6 +543,9 @@ def main():
         if not all(given.get((dep.name, "proof"), True) for dep in crate.below()):
             return [Result(False, f"wrong bodies of {crate.name}: a crate below is not proved")]
         with tempfile.TemporaryDirectory(prefix="wrong-bodies-") as kept:
+            earlier = f"{crate.folder}/{rtlib.KEPT[1]}"
+            if said.kept and os.path.isdir(earlier):
+                shutil.copytree(earlier, kept, dirs_exist_ok=True)
             try:
                 results = Trial(crate, kept).run()
             except Unreadable as error:
