@@ -9,9 +9,9 @@ use Rattle.cdc_world.specs.Headline.{IsFaithful}
 use Rattle.cdc_world.specs.Next.{IsReached, LeadsBy, offered}
 use Rattle.cdc_world.specs.Worlds.{WorldState}
 use Rattle.cdc_world.proofs.Reached.{faithful-reached}
-use Rattle.cdc_app.specs.declared.scripts.ClientBatch.{ClientBatch}
-use Rattle.cdc_app.specs.declared.scripts.Script.{Script}
-use Rattle.cdc_app.specs.declared.step_files.Act.{Act}
+use Rattle.cdc_script.specs.declared.scripts.ClientBatch.{ClientBatch}
+use Rattle.cdc_script.specs.declared.scripts.Script.{Script}
+use Rattle.cdc_script.specs.declared.step_files.Act.{Act}
 use Rattle.cdc_app.specs.Simulations.{AnswersTo, PlaysTo, Simulates, Stage, asked, at_start, simulation_text}
 use Rattle.cdc_app.proofs.SimulationLemmas.{numbered_found}
 

@@ -13,13 +13,13 @@ use Rattle.cdc_app.specs.declared.commands.Report.TheVariants.{Books, Messages}
 use Rattle.cdc_app.specs.declared.endings.Ending.{Ending}
 use Rattle.cdc_app.specs.declared.endings.Ending.TheVariants.{Done, Failed, Refused, BadScript, BadSteps, BadWords}
 use Rattle.cdc_app.specs.declared.faults.ProgramFault.TheVariants as fault
-use Rattle.cdc_app.specs.declared.faults.ScriptFault.{ScriptFault}
-use Rattle.cdc_app.specs.declared.scripts.ClientBatch.{ClientBatch}
-use Rattle.cdc_app.specs.declared.scripts.Script.{Script}
+use Rattle.cdc_script.specs.declared.faults.ScriptFault.{ScriptFault}
+use Rattle.cdc_script.specs.declared.scripts.ClientBatch.{ClientBatch}
+use Rattle.cdc_script.specs.declared.scripts.Script.{Script}
 use Rattle.cdc_app.specs.Feeds.{line_of, subscribers_text}
 use Rattle.cdc_app.specs.Messages.{message_lines}
 use Rattle.cdc_app.specs.Report.{batch_line, script_fault_line, program_fault_line}
-use Rattle.cdc_app.specs.Scripts.{script_of}
+use Rattle.cdc_script.specs.Scripts.{script_of}
 
 -- the ledger's answer, without the history after it
 abbrev pub answer : Result (BatchResults × History) BatchError → Result BatchResults BatchError

@@ -5,15 +5,15 @@ use Rattle.cdc_match.specs.declared.errors.BindError.{BindError}
 use Rattle.cdc_match.specs.declared.errors.BindError.TheVariants as bind
 use Rattle.cdc_progress.specs.declared.errors.StoreError.{StoreError}
 use Rattle.cdc_progress.specs.declared.errors.StoreError.TheVariants as store
-use Rattle.cdc_app.specs.declared.faults.FaultKind.{FaultKind}
-use Rattle.cdc_app.specs.declared.faults.FaultKind.TheVariants.{BadBinding}
-use Rattle.cdc_app.specs.declared.faults.LineError.{LineError}
-use Rattle.cdc_app.specs.declared.faults.LineError.TheVariants as line
+use Rattle.cdc_script.specs.declared.faults.FaultKind.{FaultKind}
+use Rattle.cdc_script.specs.declared.faults.FaultKind.TheVariants.{BadBinding}
+use Rattle.cdc_script.specs.declared.faults.LineError.{LineError}
+use Rattle.cdc_script.specs.declared.faults.LineError.TheVariants as line
 use Rattle.cdc_app.specs.declared.faults.ProgramFault.{ProgramFault}
 use Rattle.cdc_app.specs.declared.faults.ProgramFault.TheVariants as program
-use Rattle.cdc_app.specs.declared.faults.ScriptError.{ScriptError}
-use Rattle.cdc_app.specs.declared.faults.ScriptError.TheVariants as error
-use Rattle.cdc_app.specs.declared.faults.ScriptFault.{ScriptFault}
+use Rattle.cdc_script.specs.declared.faults.ScriptError.{ScriptError}
+use Rattle.cdc_script.specs.declared.faults.ScriptError.TheVariants as error
+use Rattle.cdc_script.specs.declared.faults.ScriptFault.{ScriptFault}
 
 -- a fault that is named is the first one; want of memory and a failed read say nothing of the script
 abbrev pub IsFault : {A : Type 0} → ScriptError → Result A ScriptFault → Type 0

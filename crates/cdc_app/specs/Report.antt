@@ -8,8 +8,8 @@ use Rattle.cdc_ledger.specs.declared.errors.BatchError.{BatchError}
 use Rattle.cdc_ledger.specs.BatchErrors.{batch_error_number, batch_error_name}
 use Rattle.cdc_app.specs.declared.faults.ProgramFault.{ProgramFault}
 use Rattle.cdc_app.specs.declared.faults.ProgramFault.TheVariants as fault
-use Rattle.cdc_app.specs.declared.faults.ScriptFault.{ScriptFault}
-use Rattle.cdc_app.specs.Faults.{kind_name}
+use Rattle.cdc_script.specs.declared.faults.ScriptFault.{ScriptFault}
+use Rattle.cdc_script.specs.Faults.{kind_name}
 
 -- a number behind a space
 abbrev pub spaced : ℕ → List ℕ

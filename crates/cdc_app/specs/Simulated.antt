@@ -4,13 +4,13 @@ use Rattle.std.specs.Io.KnownBytes.{Appends}
 use Rattle.cdc_world.specs.declared.steps.StepError.{StepError}
 use Rattle.cdc_app.specs.declared.endings.Ending.{Ending}
 use Rattle.cdc_app.specs.declared.endings.Ending.TheVariants.{Done, Failed, Refused, BadScript, BadSteps, BadWords}
-use Rattle.cdc_app.specs.declared.scripts.Script.{Script}
-use Rattle.cdc_app.specs.declared.step_files.Act.{Act}
+use Rattle.cdc_script.specs.declared.scripts.Script.{Script}
+use Rattle.cdc_script.specs.declared.step_files.Act.{Act}
 use Rattle.cdc_app.specs.Printed.{IsWriteFault}
 use Rattle.cdc_app.specs.Report.{script_fault_line, steps_fault_line, program_fault_line}
-use Rattle.cdc_app.specs.Scripts.{script_of}
+use Rattle.cdc_script.specs.Scripts.{script_of}
 use Rattle.cdc_app.specs.Simulations.{Simulates}
-use Rattle.cdc_app.specs.StepFiles.{acts_of}
+use Rattle.cdc_script.specs.StepFiles.{acts_of}
 
 -- these bytes of a script and of a step file have no fault, and their simulation prints this
 pub record Ran (window : ℕ) (script steps : List ℕ) (refusal : Option StepError) (printed : List ℕ) : Type 0 where

@@ -15,10 +15,10 @@ use Rattle.cdc_world.specs.Errors.{step_error_name}
 use Rattle.cdc_world.specs.Headline.{IsFaithful}
 use Rattle.cdc_world.specs.Next.{Next}
 use Rattle.cdc_world.specs.Worlds.{Subscription, WorldState, new_world}
-use Rattle.cdc_app.specs.declared.scripts.ClientBatch.{ClientBatch}
-use Rattle.cdc_app.specs.declared.scripts.Script.{Script}
-use Rattle.cdc_app.specs.declared.step_files.Act.{Act}
-use Rattle.cdc_app.specs.declared.step_files.Act.TheVariants as act
+use Rattle.cdc_script.specs.declared.scripts.ClientBatch.{ClientBatch}
+use Rattle.cdc_script.specs.declared.scripts.Script.{Script}
+use Rattle.cdc_script.specs.declared.step_files.Act.{Act}
+use Rattle.cdc_script.specs.declared.step_files.Act.TheVariants as act
 use Rattle.cdc_app.specs.Report.{batch_line, spaced}
 
 -- how far a simulation has come: the world, how many of the script's batches are done, their lines, and how many acts

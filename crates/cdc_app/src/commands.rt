@@ -3,15 +3,15 @@
 
 ghost use Rattle.std.specs.Prelude.{◌≡◌, ◌⊎◌, ◌+◌, IfErr, IfOk, IfSome, OnOk};
 ghost use Rattle.std.specs.Io.KnownBytes.{Appends};
-ghost use Rattle.cdc_app.specs.declared.scripts.Script.{Script as Said};
+ghost use Rattle.cdc_script.specs.declared.scripts.Script.{Script as Said};
 ghost use Rattle.cdc_app.specs.Held.{HasWholeFeed, HoldsBalances};
 ghost use Rattle.cdc_match.specs.Arguments.{Arguments};
-ghost use Rattle.cdc_app.specs.declared.faults.ScriptFault.{ScriptFault as Fault};
+ghost use Rattle.cdc_script.specs.declared.faults.ScriptFault.{ScriptFault as Fault};
 ghost use Rattle.cdc_app.specs.Report.{program_fault_line, script_fault_line};
 ghost use Rattle.cdc_app.specs.Printed.{history_of, printed as printed_text, outcome_of, IsPrinted, Writes};
 ghost use Rattle.cdc_app.specs.Private.Outcomes.{IsNoFailure, IsOfScript};
 ghost use Rattle.cdc_app.specs.Refusals.{ConsumesAtMost};
-ghost use Rattle.cdc_app.specs.Scripts.{max_bytes};
+ghost use Rattle.cdc_script.specs.Scripts.{max_bytes};
 
 use crate::books::print_books;
 use crate::endings::Ending;

@@ -1,7 +1,7 @@
 //! What can be wrong with a script or a step file, and with a run of the program.
 
 ghost use Rattle.std.specs.Prelude.{◌≡◌};
-ghost use Rattle.cdc_app.specs.Faults.{kind_number, kind_name};
+ghost use Rattle.cdc_script.specs.Faults.{kind_number, kind_name};
 ghost use Rattle.cdc_app.specs.Report.{program_fault_line};
 
 use cdc_match::BindError;
@@ -81,7 +81,7 @@ pub enum LineError {
 }
 
 impl From<FaultKind> for LineError {
-    ghost use Rattle.cdc_app.specs.declared.faults.LineError.TheVariants.{Fault};
+    ghost use Rattle.cdc_script.specs.declared.faults.LineError.TheVariants.{Fault};
 
     ghost from_gives = { λ kind e. e ≡ Fault kind };
 
@@ -91,7 +91,7 @@ impl From<FaultKind> for LineError {
 }
 
 impl From<AllocError> for LineError {
-    ghost use Rattle.cdc_app.specs.declared.faults.LineError.TheVariants.{OutOfMemory};
+    ghost use Rattle.cdc_script.specs.declared.faults.LineError.TheVariants.{OutOfMemory};
 
     ghost from_gives = { λ _ e. e ≡ OutOfMemory };
 
@@ -137,7 +137,7 @@ pub enum ScriptError {
 }
 
 impl From<AllocError> for ScriptError {
-    ghost use Rattle.cdc_app.specs.declared.faults.ScriptError.TheVariants.{OutOfMemory};
+    ghost use Rattle.cdc_script.specs.declared.faults.ScriptError.TheVariants.{OutOfMemory};
 
     ghost from_gives = { λ _ e. e ≡ OutOfMemory };
 

@@ -23,13 +23,9 @@ mod report;
 mod scripts;
 mod simulate;
 mod simulation_report;
-#[cfg(test)]
-mod simulation_tests;
 mod simulations;
 mod statements;
 mod step_files;
-#[cfg(test)]
-mod tests;
 mod words;
 
 use advice::{advise, advise_on_steps};

@@ -3,7 +3,7 @@
 ghost use Rattle.std.specs.Prelude.{◌≡◌, ◌++◌, codes, Err, OnOk, string_bytes};
 ghost use Rattle.std.specs.List.{flat_map};
 ghost use Rattle.cdc_types.specs.Results.{account_number, transfer_number};
-ghost use Rattle.cdc_app.specs.Faults.{kind_name};
+ghost use Rattle.cdc_script.specs.Faults.{kind_name};
 ghost use Rattle.cdc_app.specs.Report.{spaced, answer_text, batch_line, script_fault_line, steps_fault_line};
 
 use crate::faults::ScriptFault;

@@ -4,9 +4,9 @@ ghost use Rattle.std.specs.Prelude.{◌≡◌, ◌+◌, ℕ, List, Option, IfOk,
 ghost use Rattle.cdc_app.specs.Options.{IsWindow};
 ghost use Rattle.cdc_app.specs.Refusals.{ConsumesAtMost};
 ghost use Rattle.cdc_app.specs.Report.{steps_fault_line};
-ghost use Rattle.cdc_app.specs.Scripts.{max_bytes, script_of};
+ghost use Rattle.cdc_script.specs.Scripts.{max_bytes, script_of};
 ghost use Rattle.cdc_app.specs.Simulated.{SimulationPrints, SimulationWrites};
-ghost use Rattle.cdc_app.specs.declared.faults.ScriptFault.{ScriptFault as Fault};
+ghost use Rattle.cdc_script.specs.declared.faults.ScriptFault.{ScriptFault as Fault};
 
 use crate::commands::{Output, bad_script, print_fault, print_text};
 use crate::endings::Ending;

@@ -3,8 +3,8 @@ use Rattle.cdc_app.specs.declared.endings.Ending.{Ending}
 use Rattle.cdc_app.specs.declared.endings.Ending.TheVariants.{Done, Failed, Refused, BadScript, BadSteps, BadWords}
 use Rattle.cdc_app.specs.declared.faults.ProgramFault.{ProgramFault}
 use Rattle.cdc_app.specs.declared.faults.ProgramFault.TheVariants as program
-use Rattle.cdc_app.specs.declared.faults.ScriptError.{ScriptError}
-use Rattle.cdc_app.specs.declared.faults.ScriptError.TheVariants as error
+use Rattle.cdc_script.specs.declared.faults.ScriptError.{ScriptError}
+use Rattle.cdc_script.specs.declared.faults.ScriptError.TheVariants as error
 
 -- the script isn't to blame
 abbrev pub IsNoFault : ScriptError → Type 0
