@@ -1,10 +1,10 @@
 //! Simulations: scripts, step files, what is printed, and how the command ends.
 
+use crate::commands::simulate::simulate;
 use crate::endings::Ending;
 use crate::faults::ProgramFault;
-use crate::late_files::LateFile;
 use crate::options::{Options, options};
-use crate::simulate::simulate_command;
+use crate::sources::Source;
 use std::alloc::Global;
 use std::test::Fail;
 use std::{io, str};
@@ -185,7 +185,7 @@ fn run_of(alloc: Global, script: &[u8], steps: &[u8]) -> (Vec<u8>, Ending) {
     let mut printed = Vec::new(alloc);
     let mut script = script;
     let mut steps = steps;
-    let ending = simulate_command(alloc, &mut script, &mut steps, 1, &mut printed);
+    let ending = simulate(alloc, &mut script, &mut steps, 1, &mut printed);
     (printed, ending)
 }
 
@@ -250,8 +250,8 @@ fn a_step_file_with_a_byte_too_many(rt: HostRuntime) -> Result<(), Fail> {
 fn steps_that_cant_be_read(rt: HostRuntime) {
     let mut printed = Vec::new(rt.alloc());
     let mut script = ALONE.as_bytes();
-    let mut steps = LateFile::Refused(io::Error::from(io::ErrorKind::NotFound));
-    let ending = simulate_command(rt.alloc(), &mut script, &mut steps, 1, &mut printed);
+    let mut steps = Source::Missed(io::Error::from(io::ErrorKind::NotFound));
+    let ending = simulate(rt.alloc(), &mut script, &mut steps, 1, &mut printed);
     assert_eq!(rt; printed.as_slice(), b"fault: read_fault\n".as_slice());
     assert!(rt;
         matches!(ending, Ending::Failed(ProgramFault::ReadFault(error)) if error.kind() == io::ErrorKind::NotFound)

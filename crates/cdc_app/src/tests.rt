@@ -1,11 +1,12 @@
 //! Whole runs: scripts, what is printed, and how the command ends.
 
-use crate::commands::{Report, books, messages};
+use crate::commands::books::books;
+use crate::commands::messages::messages;
 use crate::endings::Ending;
 use crate::faults::ProgramFault;
 use crate::options::{Options, options};
-use crate::scripts::read_script;
 use cdc_match::Binding;
+use cdc_script::read_script;
 use std::alloc::{AllocError, Global};
 use std::io::{Read, Write};
 use std::test::Fail;
@@ -568,8 +569,7 @@ fn faults_of_subscriber_lines(rt: HostRuntime) {
 
 /// Whether a script has exactly the bindings that these words say.
 fn has_bindings(alloc: Global, script: &[u8], wanted: &[&[&str]]) -> bool {
-    let mut reader = script;
-    let Ok(script) = read_script(alloc, &mut reader) else {
+    let Ok(script) = read_script(alloc, script) else {
         return false;
     };
     let read = script.bindings.as_slice();
