@@ -14,12 +14,8 @@ mod options;
 mod output;
 mod report;
 mod simulation_report;
-#[cfg(test)]
-mod simulation_tests;
 mod simulations;
 mod sources;
-#[cfg(test)]
-mod tests;
 
 use advice::{advise, advise_on_steps};
 use commands::books::books;
