@@ -4,7 +4,7 @@ use Rattle.cdc_message.specs.Bodies.{body}
 use Rattle.cdc_message.specs.Headers.{headers_of_event}
 use Rattle.cdc_app.specs.Messages.{headers_line, seconds_of}
 use Rattle.cdc_app.proofs.TextLemmas.{pieces}
-use Rattle.cdc_app.proofs.messages.push_message.Goals as goal
+use Rattle.cdc_app.proofs.commands.messages.push_message.Goals as goal
 
 pub returns : goal.returns
 returns c =

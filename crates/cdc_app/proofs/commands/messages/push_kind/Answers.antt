@@ -2,7 +2,7 @@ use Rattle.std.proofs.Common.{codes}
 use Rattle.std.specs.Prelude.{string_bytes}
 use Rattle.cdc_message.specs.Kinds.{kind_text}
 use Rattle.cdc_app.proofs.TextLemmas.{pieces}
-use Rattle.cdc_app.proofs.messages.push_kind.Goals as goal
+use Rattle.cdc_app.proofs.commands.messages.push_kind.Goals as goal
 
 pub returns : goal.returns
 returns c =

@@ -8,7 +8,7 @@ use Rattle.cdc_app.specs.Printed.{batch_lines, history_of}
 use Rattle.cdc_app.specs.Private.Queues.{takers_text}
 use Rattle.cdc_app.proofs.TakerLemmas.{IsUntaken-filled, takers_text-filled}
 use Rattle.cdc_app.proofs.FedLaws.{few_of_script}
-use Rattle.cdc_app.proofs.books.print_books.Goals as goal
+use Rattle.cdc_app.proofs.commands.books.print_books.Goals as goal
 
 pub publish_log-requires : goal.publish_log-requires
 publish_log-requires c =

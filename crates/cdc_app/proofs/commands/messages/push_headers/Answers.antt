@@ -2,7 +2,7 @@ use Rattle.std.proofs.Common.{codes}
 use Rattle.std.specs.Prelude.{string_bytes}
 use Rattle.cdc_app.specs.Messages.{kind_header, number_header}
 use Rattle.cdc_app.proofs.TextLemmas.{pieces}
-use Rattle.cdc_app.proofs.messages.push_headers.Goals as goal
+use Rattle.cdc_app.proofs.commands.messages.push_headers.Goals as goal
 
 pub returns : goal.returns
 returns c =

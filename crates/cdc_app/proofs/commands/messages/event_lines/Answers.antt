@@ -4,8 +4,8 @@ use Rattle.std.specs.List.{slice_get}
 use Rattle.cdc_app.specs.Messages.{message_lines}
 use Rattle.cdc_app.proofs.Places.{found_within}
 use Rattle.cdc_app.proofs.TextLemmas.{texts_more}
-use Rattle.cdc_app.proofs.messages.messages_of.Goals as goal
-use Rattle.cdc_app.proofs.messages.messages_of.Goals.{in-Some+in_ok-push_message, in_default}
+use Rattle.cdc_app.proofs.commands.messages.event_lines.Goals as goal
+use Rattle.cdc_app.proofs.commands.messages.event_lines.Goals.{in-Some+in_ok-push_message, in_default}
 
 pub loop-place-preserved : goal.loop-place-preserved
 loop-place-preserved c =

@@ -1,6 +1,6 @@
 use Rattle.std.proofs.Common.{refl}
 use Rattle.cdc_app.proofs.SimulationReached.{simulated}
-use Rattle.cdc_app.proofs.simulations.simulate.Goals as goal
+use Rattle.cdc_app.proofs.simulations.play_script.Goals as goal
 
 pub returns-clause-prints : goal.returns-clause-prints
 returns-clause-prints c =
