@@ -9,7 +9,7 @@ use Rattle.cdc_message.specs.declared.items.Delivery.{Delivery}
 use Rattle.cdc_message.specs.declared.items.Item.{Item}
 use Rattle.cdc_broker.specs.declared.broker.Taken.{Taken}
 use Rattle.cdc_broker.specs.Broker.{BrokerState, HasAccepted, accepted_after, published, queue_of, with_queue, nobody}
-use Rattle.cdc_broker.specs.Queues.{QueueState, acknowledged, empty_queue, moved_on, queued, with_item}
+use Rattle.cdc_broker.specs.Queues.{QueueState, acknowledged, empty_queue, queued, rewound_queue, with_delivery, with_item}
 
 -- a queue holds what belongs to it of the accepted items
 abbrev pub Holds : List Item → QueueState → Type 0
@@ -70,19 +70,25 @@ HasAccepted-acknowledged s i position true accepted inside has =
     (Holds-queue_of s i accepted inside has)
 HasAccepted-acknowledged s i position false accepted inside has = has
 
+-- a queue that goes back
+pub HasAccepted-rewound : (s : BrokerState) (i : ℕ) (accepted : List Item) → i - 1 < length s.queues
+    → HasAccepted s accepted → HasAccepted (with_queue i (rewound_queue (queue_of s i)) s) accepted
+HasAccepted-rewound s i accepted inside has =
+    HasAccepted-with_queue s i (rewound_queue (queue_of s i)) accepted has (Holds-queue_of s i accepted inside has)
+
 -- an item that is handed out stays in its queue
-Holds-moved_on : (accepted : List Item) (delivery : Option Delivery) (q : QueueState) → Holds accepted q
-    → Holds accepted (moved_on delivery q)
-Holds-moved_on accepted None q holds = holds
-Holds-moved_on accepted (Some delivery) q holds = holds
+Holds-with_delivery : (accepted : List Item) (delivery : Option Delivery) (q : QueueState) → Holds accepted q
+    → Holds accepted (with_delivery delivery q)
+Holds-with_delivery accepted None q holds = holds
+Holds-with_delivery accepted (Some delivery) q holds = holds
 
 -- a delivery
-pub HasAccepted-moved_on : (s : BrokerState) (i : ℕ) (delivery : Option Delivery) (accepted : List Item)
+pub HasAccepted-with_delivery : (s : BrokerState) (i : ℕ) (delivery : Option Delivery) (accepted : List Item)
     → i - 1 < length s.queues
-    → HasAccepted s accepted → HasAccepted (with_queue i (moved_on delivery (queue_of s i)) s) accepted
-HasAccepted-moved_on s i delivery accepted inside has =
-    HasAccepted-with_queue s i (moved_on delivery (queue_of s i)) accepted has
-    (Holds-moved_on accepted delivery (queue_of s i) (Holds-queue_of s i accepted inside has))
+    → HasAccepted s accepted → HasAccepted (with_queue i (with_delivery delivery (queue_of s i)) s) accepted
+HasAccepted-with_delivery s i delivery accepted inside has =
+    HasAccepted-with_queue s i (with_delivery delivery (queue_of s i)) accepted has
+    (Holds-with_delivery accepted delivery (queue_of s i) (Holds-queue_of s i accepted inside has))
 
 -- what follows from either outcome
 pub either_way : {T E P P' Q : Type 0} (r : Result T E) → OnOk r P → OnErr r P' → (P → Q) → (P' → Q) → Q

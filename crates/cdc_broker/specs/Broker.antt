@@ -1,13 +1,17 @@
 -- A broker: whose connection is current, which tag it takes next, and its queues.
-use Rattle.std.specs.Prelude.{◌≡◌, ℕ, ◌+◌, ◌-◌, nat_lt, Option, Some, None, Result, Ok, Err, List, [], ◌∷◌, ◌++◌, map, All, slice_get, slice_set, unwrap_or, if◌then◌else◌}
+use Rattle.std.specs.Prelude.{◌≡◌, ℕ, ◌-◌, ◌==◌, Bool, true, false, Option, Some, None, Result, Ok, Err, List, [], ◌∷◌, ◌++◌, map, All, slice_get, slice_set, unwrap_or, if◌then◌else◌}
 use Rattle.std.specs.declared.alloc.AllocError.{AllocError}
 use Rattle.cdc_match.specs.declared.pairs.Mode.TheVariants as mode
 use Rattle.cdc_match.specs.Arguments.{Arguments}
 use Rattle.cdc_match.specs.Queue.{queue}
 use Rattle.cdc_message.specs.declared.items.Item.{Item}
+use Rattle.cdc_message.specs.declared.packets.Packet.{Packet}
+use Rattle.cdc_message.specs.declared.packets.Packet.TheVariants.{Connect, Publish}
+use Rattle.cdc_broker.specs.declared.broker.Refusal.{Refusal}
 use Rattle.cdc_broker.specs.declared.broker.Refusal.TheVariants.{WrongConnection, WrongTag}
 use Rattle.cdc_broker.specs.declared.broker.Taken.{Taken}
 use Rattle.cdc_broker.specs.declared.broker.Taken.TheVariants.{Accepted, Ignored}
+use Rattle.cdc_broker.specs.Packets.{is_taken_at, tag_after}
 use Rattle.cdc_broker.specs.Queues.{QueueState, empty_queue, queued}
 
 -- the number of the current connection, 0 before the first; the tag that is taken next, if one is; and the queues
@@ -20,13 +24,9 @@ pub record BrokerState : Type 0 where
 abbrev pub empty_broker : List Arguments → BrokerState
 empty_broker bindings = record { connection = 0; expected = None; queues = map empty_queue bindings }
 
--- the greatest number of 64 bits, which is no tag
-abbrev pub max_64 : ℕ
-max_64 = 18446744073709551615
-
--- the tag that comes after this one
-abbrev pub tag_after : ℕ → Option ℕ
-tag_after tag = if nat_lt (tag + 1) max_64 then Some (tag + 1) else None
+-- whether the broker takes a packet
+abbrev pub takes_packet : BrokerState → Packet → Bool
+takes_packet s packet = is_taken_at s.connection s.expected packet
 
 -- the broker under a new connection: tags begin anew
 abbrev pub connected : ℕ → BrokerState → BrokerState
@@ -36,13 +36,23 @@ connected connection s = record s { connection = connection; expected = Some 1 }
 abbrev pub published : ℕ → Item → BrokerState → BrokerState
 published tag item s = record s { expected = tag_after tag; queues = map (queued item) s.queues }
 
--- how a publish under this connection and tag is answered: the first of the two refusals, or it is accepted, for which
--- memory may run out; and the broker after it, which a refusal leaves as it was
+-- the broker after a packet that it took
+abbrev pub after_packet : BrokerState → Packet → BrokerState
+after_packet s (Connect session) = connected session s
+after_packet s (Publish session tag item) = published tag item s
+
+-- why a publish under this connection isn't taken: the first of the two refusals
+abbrev pub refusal_of : BrokerState → ℕ → Refusal
+refusal_of s connection = if connection == s.connection then WrongTag else WrongConnection
+
+-- how a publish under this connection and tag is answered: it is taken, for which memory may run out, or passed over;
+-- and the broker after it, which stays as it was where the publish isn't accepted
 abbrev pub Publishes : BrokerState → ℕ → ℕ → Item → Result Taken AllocError → BrokerState → Type 0
-Publishes s c tag item (Ok Accepted) s' = (c ≡ s.connection) × (s.expected ≡ Some tag) × (s' ≡ published tag item s)
-Publishes s c tag item (Ok (Ignored WrongConnection)) s' = (c ≡ s.connection → ⊥) × (s' ≡ s)
-Publishes s c tag item (Ok (Ignored WrongTag)) s' = (c ≡ s.connection) × (s.expected ≡ Some tag → ⊥) × (s' ≡ s)
-Publishes s c tag item (Err _) s' = (c ≡ s.connection) × (s.expected ≡ Some tag) × (s' ≡ s)
+Publishes s connection tag item (Ok Accepted) s' =
+    (takes_packet s (Publish connection tag item) ≡ true) × (s' ≡ published tag item s)
+Publishes s connection tag item (Ok (Ignored refusal)) s' =
+    (takes_packet s (Publish connection tag item) ≡ false) × (refusal ≡ refusal_of s connection) × (s' ≡ s)
+Publishes s connection tag item (Err _) s' = (takes_packet s (Publish connection tag item) ≡ true) × (s' ≡ s)
 
 -- what stands for the binding of a queue that isn't there
 abbrev pub nobody : Arguments

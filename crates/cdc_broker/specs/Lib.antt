@@ -1,3 +1,5 @@
 pub mod Broker
+pub mod Cursors
 pub mod Kept
+pub mod Packets
 pub mod Queues

@@ -1,10 +1,12 @@
 //! The broker as its callers see it.
 
-ghost use Rattle.std.specs.Prelude.{◌≡◌, ◌<◌, ◌≤◌, ◌↔◌, List, [], All, IfOk, OnOk, OnErr, IsTrue, is_some, not, if◌then◌else◌, length, map, take, drop};
+ghost use Rattle.std.specs.Prelude.{◌≡◌, ◌<◌, ◌≤◌, List, [], All, IfOk, OnOk, OnErr, is_some, not, if◌then◌else◌, length, map, take, drop};
 ghost use Rattle.cdc_message.specs.declared.items.Item.{Item as SomeItem};
-ghost use Rattle.cdc_broker.specs.Broker.{HasAccepted, Publishes, accepted_after, connected, empty_broker, queue_of, tag_after as next_tag, with_queue};
+ghost use Rattle.cdc_message.specs.declared.packets.Packet.TheVariants.{Connect};
+ghost use Rattle.cdc_broker.specs.Broker.{HasAccepted, Publishes, accepted_after, connected, empty_broker, queue_of, takes_packet, with_queue};
 ghost use Rattle.cdc_broker.specs.Kept.{queue_state, IsInOrder};
-ghost use Rattle.cdc_broker.specs.Queues.{acknowledged, is_unknown, moved_on, next_delivery, queued};
+ghost use Rattle.cdc_broker.specs.Packets.{tag_after as next_tag};
+ghost use Rattle.cdc_broker.specs.Queues.{acknowledged, is_unknown, next_delivery, queued, rewound_queue, with_delivery};
 
 use crate::queue::Queue;
 use cdc_match::Binding;
@@ -113,9 +115,10 @@ impl Broker {
     /// Takes a connection whose number is greater than the current one's (0 at first); tags begin at 1 again. Says
     /// whether it was taken; nothing changes where it wasn't.
     pub fn connect(&mut self, connection: u64) -> bool
-        ensures answer { IsTrue result ↔ (self.old.connection < connection) }
+        ensures answer { result ≡ takes_packet self.old (Connect connection) }
         ensures state { self.new ≡ (if result then connected connection self.old else self.old) }
-        ensures accepted { (accepted : List SomeItem) → HasAccepted self.old accepted → HasAccepted self.new accepted }
+        ensures accepted { (accepted : List SomeItem) → HasAccepted self.old accepted
+            → HasAccepted self.new accepted }
     {
         if connection <= self.connection {
             return false;
@@ -167,26 +170,43 @@ impl Broker {
         requires last { i ≤ length self.old.queues }
         ensures answer { IfOk result (λ delivery. delivery ≡ next_delivery (queue_of self.old i)) }
         ensures ok { OnOk result (self.new ≡
-            with_queue i (moved_on (next_delivery (queue_of self.old i)) (queue_of self.old i)) self.old) }
+            with_queue i
+            (with_delivery (next_delivery (queue_of self.old i)) (queue_of self.old i)) self.old) }
         ensures err { OnErr result (self.new ≡ self.old) }
-        ensures accepted { (accepted : List SomeItem) → HasAccepted self.old accepted → HasAccepted self.new accepted }
+        ensures accepted { (accepted : List SomeItem) → HasAccepted self.old accepted
+            → HasAccepted self.new accepted }
     {
         let queue = &mut self.queues[i - 1];
-        queue.next(alloc)
+        queue.hand_out(alloc)
     }
 
-    /// Acknowledges all positions of queue `i` up to this one. False, with nothing changed, for position 0 and for
-    /// one that wasn't handed out yet.
+    /// Acknowledges all positions of queue `i` up to this one, and moves a cursor that stands at one of them past it.
+    /// False, with nothing changed, for position 0 and for one that wasn't handed out yet.
     pub fn ack(&mut self, i: usize, position: u64) -> bool
         requires first { 0 < i }
         requires last { i ≤ length self.old.queues }
         ensures answer { result ≡ not (is_unknown (queue_of self.old i) position) }
         ensures state { self.new ≡ (if result
-            then with_queue i (acknowledged position (queue_of self.old i)) self.old else self.old) }
-        ensures accepted { (accepted : List SomeItem) → HasAccepted self.old accepted → HasAccepted self.new accepted }
+            then with_queue i (acknowledged position (queue_of self.old i)) self.old
+            else self.old) }
+        ensures accepted { (accepted : List SomeItem) → HasAccepted self.old accepted
+            → HasAccepted self.new accepted }
     {
         let queue = &mut self.queues[i - 1];
         queue.ack(position)
+    }
+
+    /// Goes back, in queue `i`, to the first position that isn't acknowledged: what was handed out from there on comes
+    /// again.
+    pub fn rewind(&mut self, i: usize)
+        requires first { 0 < i }
+        requires last { i ≤ length self.old.queues }
+        ensures state { self.new ≡ with_queue i (rewound_queue (queue_of self.old i)) self.old }
+        ensures accepted { (accepted : List SomeItem) → HasAccepted self.old accepted
+            → HasAccepted self.new accepted }
+    {
+        let queue = &mut self.queues[i - 1];
+        queue.rewind();
     }
 
     /// How many items have come to queue `i`, acknowledged ones too.
@@ -202,7 +222,7 @@ impl Broker {
     pub fn acked(&self, i: usize) -> u64
         requires first { 0 < i }
         requires last { i ≤ length self.now.queues }
-        ensures { result ≡ (queue_of self.now i).acked }
+        ensures { result ≡ (queue_of self.now i).cursor.acked }
     {
         self.queues[i - 1].acked
     }

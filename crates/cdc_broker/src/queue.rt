@@ -2,7 +2,7 @@
 
 ghost use Rattle.std.specs.Prelude.{◌≡◌, ◌<◌, not, is_some, IfOk, OnOk, OnErr, if◌then◌else◌};
 ghost use Rattle.cdc_match.specs.Queue.{takes_item};
-ghost use Rattle.cdc_broker.specs.Queues.{acknowledged, empty_queue, is_unknown, moved_on, next_delivery, wanted, with_item};
+ghost use Rattle.cdc_broker.specs.Queues.{acknowledged, empty_queue, is_unknown, item_for, next_delivery, rewound_queue, with_delivery, with_item};
 ghost use Rattle.cdc_broker.specs.Kept.{queue_state, room_of, IsInOrder};
 
 use cdc_match::Binding;
@@ -16,8 +16,8 @@ pub(crate) struct Queue {
     pub(crate) binding: Binding,
     /// Its own copies of them.
     pub(crate) items: Vec<Item>,
-    /// The position that is handed out next.
-    pub(crate) cursor: u64,
+    /// The position that is handed out next: the cursor stands there.
+    pub(crate) next: u64,
     /// The greatest position that was handed out.
     pub(crate) handed: u64,
     /// The position up to which all are acknowledged.
@@ -33,7 +33,7 @@ impl Queue {
         Queue {
             binding,
             items: Vec::new(alloc),
-            cursor: 1,
+            next: 1,
             handed: 0,
             acked: 0,
         }
@@ -54,7 +54,7 @@ impl Queue {
         requires { IsInOrder self.old }
         ensures state { queue_state self.new ≡ queue_state self.old }
         ensures in_order { IsInOrder self.new }
-        ensures copy { IfOk result (λ copy. copy ≡ wanted self.old.binding item.now) }
+        ensures copy { IfOk result (λ copy. copy ≡ item_for self.old.binding item.now) }
         ensures room { OnOk result (0 < room_of self.new) }
     {
         self.items.reserve(1)?;
@@ -81,24 +81,25 @@ impl Queue {
         requires { IsInOrder self.now }
         ensures { result ≡ is_some (next_delivery (queue_state self.now)) }
     {
-        self.items.get(self.cursor as usize - 1).is_some()
+        self.items.get(self.next as usize - 1).is_some()
     }
 
     /// Hands out a copy of the item at the cursor, which moves on, or nothing where the cursor is past the items.
-    pub(crate) fn next(&mut self, alloc: Global) -> Result<Option<Delivery>, AllocError>
+    pub(crate) fn hand_out(&mut self, alloc: Global) -> Result<Option<Delivery>, AllocError>
         requires { IsInOrder self.old }
         ensures answer { IfOk result (λ delivery. delivery ≡ next_delivery (queue_state self.old)) }
-        ensures ok { OnOk result (queue_state self.new ≡ moved_on (next_delivery (queue_state self.old)) (queue_state self.old)) }
+        ensures ok { OnOk result (queue_state self.new
+            ≡ with_delivery (next_delivery (queue_state self.old)) (queue_state self.old)) }
         ensures err { OnErr result (queue_state self.new ≡ queue_state self.old) }
         ensures in_order { IsInOrder self.new }
     {
-        let Some(item) = self.items.get(self.cursor as usize - 1) else {
+        let Some(item) = self.items.get(self.next as usize - 1) else {
             return Ok(None);
         };
         let item = item.try_copy(alloc)?;
-        let position = self.cursor;
+        let position = self.next;
         self.handed = self.handed.max(position);
-        self.cursor += 1;
+        self.next += 1;
         Ok(Some(Delivery { position, item }))
     }
 
@@ -106,14 +107,25 @@ impl Queue {
     pub(crate) fn ack(&mut self, position: u64) -> bool
         requires { IsInOrder self.old }
         ensures answer { result ≡ not (is_unknown (queue_state self.old) position) }
-        ensures state { queue_state self.new ≡ (if result then acknowledged position (queue_state self.old) else queue_state self.old) }
+        ensures state { queue_state self.new
+            ≡ (if result then acknowledged position (queue_state self.old)
+            else queue_state self.old) }
         ensures in_order { IsInOrder self.new }
     {
         if position == 0 || position > self.handed {
             return false;
         }
         self.acked = self.acked.max(position);
-        self.cursor = self.cursor.max(self.acked + 1);
+        self.next = self.next.max(self.acked + 1);
         true
+    }
+
+    /// Goes back to the first position that isn't acknowledged.
+    pub(crate) fn rewind(&mut self)
+        requires { IsInOrder self.old }
+        ensures state { queue_state self.new ≡ rewound_queue (queue_state self.old) }
+        ensures in_order { IsInOrder self.new }
+    {
+        self.next = self.acked + 1;
     }
 }

@@ -6,6 +6,7 @@ pub mod batches;
 pub mod bounds;
 pub mod events;
 pub mod results;
+pub mod steps;
 #[cfg(test)]
 mod tests;
 pub mod transfers;
@@ -15,4 +16,5 @@ pub use batches::{Batch, BatchResults, Items};
 pub use bounds::Limits;
 pub use events::{Entry, Event, EventAccount, EventKind, EventTransfer, Headers, Properties};
 pub use results::{AccountResult, TransferResult};
+pub use steps::Step;
 pub use transfers::{NewTransfer, Transfer, TransferFlags};

@@ -19,7 +19,7 @@ use Rattle.cdc_publisher.specs.declared.errors.StartError.{StartError}
 use Rattle.cdc_publisher.specs.declared.errors.StartError.TheVariants as start
 use Rattle.cdc_publisher.specs.declared.session.Poll.{Poll}
 use Rattle.cdc_world.specs.declared.steps.Did.TheVariants.{Counted, Done}
-use Rattle.cdc_world.specs.declared.steps.Step.TheVariants.{Start, Poll as PollStep, Publish as PublishStep, Answer, Save}
+use Rattle.cdc_types.specs.declared.steps.Step.TheVariants.{Start, Poll as PollStep, Publish as PublishStep, Answer, Save}
 use Rattle.cdc_world.specs.Next.{IsTried, ◌>>=◌, answered, confirmed, counts, done, next_by, none_follow, offered, polled, sending, started, starting}
 use Rattle.cdc_world.specs.Refusals.{start_refusal, store_refusal}
 use Rattle.cdc_world.specs.Stands.{Moves, Parts, SessionStands, Stands}
@@ -281,7 +281,13 @@ start_tried w down =
 
 -- a session starts over an honest store: it stands for a new course under the record that is now held
 pub start_done : (p : Parts) (kept : Kept) (held : Option Saved) (honest : Bool) (failed' : ℕ) → p.session ≡ None
-    → HasStarted p.honest p.held held p.failed failed' p.window kept
+    → HasStarted (record {
+          honest = p.honest;
+          before = p.held;
+          after = held;
+          failed_before = p.failed;
+          failed_after = failed';
+        }) p.window kept
     → Moves p Start (Ok Done) (record p { held = held; honest = honest; failed = failed'; session = Some kept })
 start_done p kept held honest' failed' down has honest w st =
     let begins : begun w.held ≡ Some has.saved = ap begun (sym st.held) ∙ ap begun (sym (has.given (honest refl)))
@@ -309,7 +315,13 @@ start_done p kept held honest' failed' down has honest w st =
 -- a session doesn't start
 pub start_failed : (p : Parts) (held : Option Saved) (honest : Bool) (why : StartError) (failed failed' : ℕ)
     → p.session ≡ None
-    → MayRefuseStart p.honest p.held held failed failed' why
+    → MayRefuseStart (record {
+          honest = p.honest;
+          before = p.held;
+          after = held;
+          failed_before = failed;
+          failed_after = failed';
+        }) why
     → Moves p Start (Err (start_refusal why)) (record p { held = held; honest = honest; failed = failed' })
 start_failed p held honest' (start.Store store.ReadFault) failed failed' down may honest w st = (
   w,

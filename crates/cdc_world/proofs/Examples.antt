@@ -10,8 +10,8 @@ use Rattle.cdc_progress.specs.Records.{Saved}
 use Rattle.cdc_subscriber.specs.declared.book.BookEntry.{BookEntry}
 use Rattle.cdc_subscriber.specs.Heard.{kept_of}
 use Rattle.cdc_subscriber.specs.Kept.{Kept}
-use Rattle.cdc_world.specs.declared.steps.Step.{Step}
-use Rattle.cdc_world.specs.declared.steps.Step.TheVariants.{Submit, CloseLedger, Start, Crash, Poll, Publish, Arrive, Answer, Save, Send, Rewind, Break, Take, Ack, Close}
+use Rattle.cdc_types.specs.declared.steps.Step.{Step}
+use Rattle.cdc_types.specs.declared.steps.Step.TheVariants.{Submit, CloseLedger, Start, Crash, Poll, Publish, Arrive, Answer, Save, Send, Rewind, Break, Take, Ack, Close}
 use Rattle.cdc_world.specs.declared.steps.StepError.{StepError}
 use Rattle.cdc_world.specs.declared.steps.StepError.TheVariants.{NotEnabled, Refused, SessionsExhausted}
 use Rattle.cdc_world.specs.Next.{offered, all_offered}

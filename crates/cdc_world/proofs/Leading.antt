@@ -4,7 +4,7 @@ use Rattle.std.specs.Prelude.{None, Ok, Option, Err, Result, Some}
 use Rattle.cdc_match.specs.Arguments.{Arguments}
 use Rattle.cdc_progress.specs.Records.{Saved}
 use Rattle.cdc_world.specs.declared.steps.Did.{Did}
-use Rattle.cdc_world.specs.declared.steps.Step.{Step}
+use Rattle.cdc_types.specs.declared.steps.Step.{Step}
 use Rattle.cdc_world.specs.declared.steps.StepError.{StepError}
 use Rattle.cdc_world.specs.Next.{IsAtStart, IsReached, IsReachedBy, LeadsBy, NextBy, Offered, offered}
 use Rattle.cdc_world.specs.Stands.{DoesAll, PlaysTo, StopsAt}

@@ -4,7 +4,7 @@ use Rattle.std.specs.List.{list_any}
 use Rattle.std.proofs.lemmas.List.{take_more}
 use Rattle.std.proofs.lemmas.List.Folds.{list_any_at}
 use Rattle.cdc_world.specs.declared.steps.Did.{Did}
-use Rattle.cdc_world.specs.declared.steps.Step.{Step}
+use Rattle.cdc_types.specs.declared.steps.Step.{Step}
 use Rattle.cdc_world.specs.declared.steps.StepError.{StepError}
 use Rattle.cdc_world.specs.Next.{Next, loads}
 use Rattle.cdc_world.specs.Stands.{DoesAll, Moves, Parts, Plays, Stands, StopsAt}

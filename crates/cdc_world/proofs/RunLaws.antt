@@ -2,7 +2,7 @@
 use Rattle.std.proofs.Common.{◌≡◌, ℕ, List, [], ◌∷◌, take, add-one, refl}
 use Rattle.std.specs.Prelude.{None, Ok, Err}
 use Rattle.cdc_match.specs.Arguments.{Arguments}
-use Rattle.cdc_world.specs.declared.steps.Step.{Step}
+use Rattle.cdc_types.specs.declared.steps.Step.{Step}
 use Rattle.cdc_world.specs.Next.{IsReachedBy, LeadsBy, Offered, Outcome, next_by}
 use Rattle.cdc_world.specs.Runs.{Run, going_on, plays}
 use Rattle.cdc_world.specs.Worlds.{WorldState, new_world}

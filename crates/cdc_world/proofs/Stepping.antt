@@ -27,8 +27,8 @@ use Rattle.cdc_types.specs.declared.batches.Batch.{Batch}
 use Rattle.cdc_types.specs.declared.batches.BatchResults.{BatchResults}
 use Rattle.cdc_world.specs.declared.steps.Did.{Did}
 use Rattle.cdc_world.specs.declared.steps.Did.TheVariants.{Submitted, Arrived, Took, Done}
-use Rattle.cdc_world.specs.declared.steps.Step.{Step}
-use Rattle.cdc_world.specs.declared.steps.Step.TheVariants.{Submit, CloseLedger, Arrive, Send, Take}
+use Rattle.cdc_types.specs.declared.steps.Step.{Step}
+use Rattle.cdc_types.specs.declared.steps.Step.TheVariants.{Submit, CloseLedger, Arrive, Send, Take}
 use Rattle.cdc_world.specs.declared.steps.StepError.{StepError}
 use Rattle.cdc_world.specs.declared.steps.StepError.TheVariants.{NotEnabled, OutOfMemory}
 use Rattle.cdc_world.specs.Next.{Next, Outcome, ◌>>=◌, IsTried, confirms_of, arrived, done, first_flight, next_by, next_delivery, offered, submitted, takes_memory, taking_in, with_sending, with_taking}

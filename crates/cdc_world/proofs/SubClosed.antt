@@ -12,8 +12,8 @@ use Rattle.cdc_publisher.specs.Courses.{Course, begun, next_packet, wanted}
 use Rattle.cdc_subscriber.specs.Heard.{Heard, has_ended, next}
 use Rattle.cdc_types.specs.declared.batches.BatchResults.{BatchResults}
 use Rattle.cdc_world.specs.declared.steps.Did.{Did}
-use Rattle.cdc_world.specs.declared.steps.Step.{Step}
-use Rattle.cdc_world.specs.declared.steps.Step.TheVariants as step
+use Rattle.cdc_types.specs.declared.steps.Step.{Step}
+use Rattle.cdc_types.specs.declared.steps.Step.TheVariants as step
 use Rattle.cdc_world.specs.declared.steps.StepError.{StepError}
 use Rattle.cdc_world.specs.Next.{NextBy, Offered, first_flight, may_come, next_by, next_delivery, rewound, started, starting, submitted, taking_in, where_so, with_ack, with_close, with_sending, with_subscription, with_taking}
 use Rattle.cdc_world.specs.Packets.{is_taken}

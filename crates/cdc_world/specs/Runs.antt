@@ -1,6 +1,6 @@
 -- Steps in a row, up to the first one that isn't done.
 use Rattle.std.specs.Prelude.{ℕ, ◌+◌, Option, Some, None, Ok, Err, List, [], ◌∷◌}
-use Rattle.cdc_world.specs.declared.steps.Step.{Step}
+use Rattle.cdc_types.specs.declared.steps.Step.{Step}
 use Rattle.cdc_world.specs.declared.steps.StepError.{StepError}
 use Rattle.cdc_world.specs.Next.{Offered, Outcome, next_by}
 use Rattle.cdc_world.specs.Worlds.{WorldState}

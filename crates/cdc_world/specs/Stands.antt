@@ -20,7 +20,7 @@ use Rattle.cdc_publisher.specs.Stands.{StandsFor}
 use Rattle.cdc_subscriber.specs.Heard.{kept_of}
 use Rattle.cdc_subscriber.specs.Kept.{Kept}
 use Rattle.cdc_world.specs.declared.steps.Did.{Did}
-use Rattle.cdc_world.specs.declared.steps.Step.{Step}
+use Rattle.cdc_types.specs.declared.steps.Step.{Step}
 use Rattle.cdc_world.specs.declared.steps.StepError.{StepError}
 use Rattle.cdc_world.specs.Next.{Next, loads}
 use Rattle.cdc_world.specs.Packets.{current_session, expected_tag}

@@ -11,6 +11,7 @@ mod taking;
 mod tests;
 pub mod world;
 
+pub use cdc_types::Step;
 pub use laws::world_laws;
-pub use steps::{Did, Step, StepError};
+pub use steps::{Did, StepError};
 pub use world::{Played, World};

@@ -13,7 +13,7 @@ ghost use Rattle.cdc_world.specs.Worlds.{Subscription, WorldState, new_world, nu
 
 use crate::connector::{poll, publish, take_confirm};
 use crate::seats::{Seat, empty_seats};
-use crate::steps::{Did, Step, StepError};
+use crate::steps::{Did, StepError};
 use crate::taking::{hand_out, take_in};
 use cdc_broker::Broker;
 use cdc_ledger::Ledger;
@@ -22,7 +22,7 @@ use cdc_message::{Confirm, Packet};
 use cdc_progress::{Progress, ProgressStore, StoreError};
 use cdc_publisher::Session;
 use cdc_subscriber::Subscriber;
-use cdc_types::Batch;
+use cdc_types::{Batch, Step};
 use std::alloc::{AllocError, Global};
 use std::marker::Model;
 

@@ -3,7 +3,7 @@ use Rattle.std.specs.List.{slice_get}
 use Rattle.std.proofs.lemmas.Option.{slice_get_read}
 use Rattle.cdc_message.specs.declared.packets.Confirm.{Confirm}
 use Rattle.cdc_world.specs.declared.steps.Did.TheVariants.{Counted}
-use Rattle.cdc_world.specs.declared.steps.Step.TheVariants.{Answer}
+use Rattle.cdc_types.specs.declared.steps.Step.TheVariants.{Answer}
 use Rattle.cdc_world.proofs.Connecting.{answer_done}
 use Rattle.cdc_world.proofs.Stepping.{at_entry}
 use Rattle.cdc_world.proofs.world.World.answer.Goals as goal

@@ -3,7 +3,7 @@ use Rattle.std.specs.List.{slice_get}
 use Rattle.std.proofs.lemmas.Option.{slice_get_read}
 use Rattle.cdc_message.specs.declared.packets.Packet.{Packet}
 use Rattle.cdc_world.specs.declared.steps.Did.TheVariants.{Arrived}
-use Rattle.cdc_world.specs.declared.steps.Step.TheVariants.{Arrive}
+use Rattle.cdc_types.specs.declared.steps.Step.TheVariants.{Arrive}
 use Rattle.cdc_world.proofs.Stepping.{at_entry, arrive_done}
 use Rattle.cdc_world.proofs.world.World.arrive.Goals as goal
 

@@ -1,6 +1,6 @@
 use Rattle.std.proofs.Common.{Ok, Err, ap}
 use Rattle.cdc_world.specs.declared.steps.Did.TheVariants.{Done}
-use Rattle.cdc_world.specs.declared.steps.Step.TheVariants.{Save}
+use Rattle.cdc_types.specs.declared.steps.Step.TheVariants.{Save}
 use Rattle.cdc_world.specs.Refusals.{store_refusal}
 use Rattle.cdc_world.proofs.Connecting.{save_done, save_failed}
 use Rattle.cdc_world.proofs.Stepping.{at_entry, at_entry_err}

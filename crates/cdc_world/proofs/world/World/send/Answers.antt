@@ -1,6 +1,6 @@
 use Rattle.std.proofs.Common.{Ok, refl, sym, ◌∙◌}
 use Rattle.cdc_world.specs.declared.steps.Did.TheVariants.{Done}
-use Rattle.cdc_world.specs.declared.steps.Step.TheVariants.{Send}
+use Rattle.cdc_types.specs.declared.steps.Step.TheVariants.{Send}
 use Rattle.cdc_world.proofs.Stepping.{at_entry, at_entry_err, send_at, send_at_refused}
 use Rattle.cdc_world.proofs.world.World.send.Goals as goal
 

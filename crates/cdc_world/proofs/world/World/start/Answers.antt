@@ -1,6 +1,6 @@
 use Rattle.std.proofs.Common.{Ok, sym, ◌∙◌}
 use Rattle.cdc_world.specs.declared.steps.Did.TheVariants.{Done}
-use Rattle.cdc_world.specs.declared.steps.Step.TheVariants.{Start}
+use Rattle.cdc_types.specs.declared.steps.Step.TheVariants.{Start}
 use Rattle.cdc_world.specs.Refusals.{start_refusal}
 use Rattle.cdc_world.proofs.Connecting.{none_of, start_done, start_failed}
 use Rattle.cdc_world.proofs.Stepping.{at_entry, at_entry_err}
