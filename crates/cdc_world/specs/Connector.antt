@@ -1,5 +1,6 @@
 -- What the connector and the broker keep to, whatever comes: what the broker took is a replay of the ledger's line.
 use Rattle.std.specs.Prelude.{◌≡◌, ℕ, ◌<◌, ◌≤◌, true, Option, Some, None, List, [], ◌∷◌, ◌++◌, map, Contains, if◌then◌else◌}
+use Rattle.cdc_broker.specs.Packets.{current_session, expected_tag}
 use Rattle.cdc_ledger.specs.Events.{events}
 use Rattle.cdc_ledger.specs.History.{History}
 use Rattle.cdc_ledger.specs.Sound.{IsSound}
@@ -16,7 +17,6 @@ use Rattle.cdc_progress.specs.Records.{Saved}
 use Rattle.cdc_publisher.specs.Courses.{Course, is_confirmed}
 use Rattle.cdc_types.specs.declared.events.Event.{Event}
 use Rattle.cdc_world.specs.Line.{line}
-use Rattle.cdc_world.specs.Packets.{current_session, expected_tag}
 use Rattle.cdc_world.specs.Worlds.{WorldState, numbered, taken_items}
 
 -- what a ledger has to tell after a moment: the later events, and the end mark once it is closed

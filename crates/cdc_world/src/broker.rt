@@ -1,13 +1,14 @@
-//! What comes to the broker, and what it hands out.
+//! What comes to the broker, and what its queues hand out.
 
 ghost use Rattle.std.specs.Prelude.{◌<◌, ◌≤◌, length};
 ghost use Rattle.cdc_broker.specs.Broker.{queue_of};
 ghost use Rattle.cdc_broker.specs.Queues.{next_delivery};
 ghost use Rattle.cdc_message.specs.declared.packets.Packet.TheVariants.{Publish as PublishOf};
-ghost use Rattle.cdc_world.specs.Turns.{seat_state, ComesTo, HandsAt};
+ghost use Rattle.cdc_world.specs.Parts.{subscription_parts};
+ghost use Rattle.cdc_world.specs.Turns.{ComesTo, HandsAt};
 
-use crate::seats::Seat;
 use crate::steps::StepError;
+use crate::subscriptions::Subscription;
 use cdc_broker::{Broker, Taken};
 use cdc_message::{Answer, Confirm, Item, Packet};
 use std::alloc::{AllocError, Global};
@@ -60,19 +61,19 @@ pub(crate) fn hand_out(
     alloc: Global,
     broker: &mut Broker,
     i: usize,
-    seat: &mut Seat,
+    subscription: &mut Subscription,
 ) -> Result<(), StepError>
     requires first { 0 < i }
     requires last { i ≤ length broker.old.queues }
-    ensures { HandsAt i broker.old (seat_state seat.old) (next_delivery (queue_of broker.old i)) result
-        broker.new (seat_state seat.new) }
+    ensures { HandsAt i broker.old (subscription_parts subscription.old)
+        (next_delivery (queue_of broker.old i)) result broker.new (subscription_parts subscription.new) }
 {
     if !broker.has_next(i) {
         return Err(StepError::NotEnabled);
     }
-    seat.flight.reserve(1)?;
+    subscription.flight.reserve(1)?;
     if let Some(delivery) = broker.next_for(alloc, i)? {
-        seat.flight.push_back_reserved(delivery);
+        subscription.flight.push_back_reserved(delivery);
     }
     Ok(())
 }
