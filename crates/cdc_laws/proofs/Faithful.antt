@@ -1,0 +1,105 @@
+-- A subscriber is faithful where it heard a replay of the queue of a replay of what the ledger has to tell.
+use Rattle.std.proofs.Common.{◌≡◌, ℕ, ◌-◌, ◌^◌, min, Bool, true, List, [], ◌∷◌, ◌++◌, length, take, refl, sym, ap, subst, ◌∙◌}
+use Rattle.std.specs.Prelude.{◌||◌, if◌then◌else◌}
+use Rattle.std.specs.List.{list_any}
+use Rattle.cdc_types.specs.declared.events.Event.{Event}
+use Rattle.cdc_types.specs.Timestamps.{last_timestamp}
+use Rattle.cdc_ledger.specs.History.{History}
+use Rattle.cdc_ledger.specs.Sound.{IsSound}
+use Rattle.cdc_laws.specs.Deliveries.{deliveries, items_in}
+use Rattle.cdc_laws.specs.Faithful.{IsFaithful, applied, kept_from}
+use Rattle.cdc_laws.specs.Line.{feed_of, line, told}
+use Rattle.cdc_laws.proofs.Books.{holds-balances}
+use Rattle.cdc_laws.proofs.Deliveries.{items_in-deliveries}
+use Rattle.cdc_laws.proofs.Feeds.{IsPrefix-told, queue-line, rises-told, whole-told}
+use Rattle.cdc_laws.proofs.Replays.{IsReplay-map, IsReplay-same}
+use Rattle.cdc_laws.proofs.Rising.{TimestampsRise-prefix, feed_rises}
+use Rattle.cdc_match.specs.Arguments.{Arguments}
+use Rattle.cdc_match.specs.Queue.{queue, takes_item}
+use Rattle.cdc_match.proofs.FilterLaws.{IsReplay-filter}
+use Rattle.cdc_message.specs.declared.items.Delivery.{Delivery}
+use Rattle.cdc_message.specs.declared.items.Item.{Item}
+use Rattle.cdc_message.specs.Replays.{IsPrefix, IsReplay}
+use Rattle.cdc_message.proofs.ReplayLaws.{IsReplay-take, IsReplay-trans}
+use Rattle.cdc_subscriber.specs.Book.{book_of}
+use Rattle.cdc_subscriber.specs.Heard.{Heard, applied_of, has_ended, is_end, kept_of, next}
+use Rattle.cdc_subscriber.specs.Kept.{Kept}
+
+-- what is heard of the first so many deliveries of a replay of a queue is a replay of the queue
+pub IsReplay-heard : (items : List Item) (ds : List Delivery) (n : ℕ) → IsReplay ds (deliveries items)
+    → IsReplay (items_in (take n ds)) items
+IsReplay-heard items ds n replay =
+    let some : IsReplay (take n ds) (deliveries items) = IsReplay-take n ds (deliveries items) replay in
+    rw (items_in-deliveries items) at (IsReplay-map (λ (d : Delivery). d.item) (take n ds) (deliveries items) some)
+
+module _ (h : History) (binding : Arguments) (heard : Heard) (is : IsSound h) where
+  -- where it heard a replay of the queue of all that the ledger has to tell, it is faithful
+  pub IsFaithful-line : IsReplay heard.items (queue (line h) binding) → IsFaithful h binding heard
+  IsFaithful-line replay =
+      let hears : IsReplay heard.items (told (feed_of h binding) h.closed) =
+      subst (IsReplay heard.items) (queue-line h binding) replay in
+      let rise = feed_rises h binding is in
+      let front : IsPrefix (applied heard) (feed_of h binding) =
+      IsPrefix-told (feed_of h binding) rise h.closed heard.items hears in
+      record {
+        prefix = front;
+        rising = TimestampsRise-prefix (applied heard) (feed_of h binding) rise front;
+        whole = whole-told (feed_of h binding) rise h.closed heard.items hears;
+        balances = λ every. holds-balances h (applied heard) is (subst (IsPrefix (applied heard)) every front);
+      }
+
+  -- and what it keeps is told by what it has applied
+  pub kept_of-line : IsReplay heard.items (queue (line h) binding) → kept_of heard ≡ kept_from heard
+  kept_of-line replay =
+      let same : applied heard ≡ applied_of heard =
+      rises-told (feed_of h binding) (feed_rises h binding is) h.closed heard.items
+      (subst (IsReplay heard.items) (queue-line h binding) replay) in
+      let kept : List Event → Kept = λ es. record {
+        book = book_of es;
+        last = last_timestamp es;
+        applied = min (length es) (2 ^ 64 - 1);
+        ended = has_ended heard;
+        closed = heard.closed;
+      } in
+      ap kept (sym same)
+
+  module _ (taken : List Item) (took : IsReplay taken (line h)) where
+    -- a replay of the queue of what a broker took is one of the queue of all that there is to tell
+    IsReplay-queue : IsReplay heard.items (queue taken binding) → IsReplay heard.items (queue (line h) binding)
+    IsReplay-queue hears =
+        IsReplay-trans heard.items (queue taken binding) (queue (line h) binding) hears
+        (IsReplay-filter (takes_item binding) taken (line h) took)
+
+    -- so a subscriber of a broker that took a replay of the line is faithful
+    pub IsFaithful-queue : IsReplay heard.items (queue taken binding) → IsFaithful h binding heard
+    IsFaithful-queue hears = IsFaithful-line (IsReplay-queue hears)
+
+    -- and keeps what it has applied
+    pub kept_of-queue : IsReplay heard.items (queue taken binding) → kept_of heard ≡ kept_from heard
+    kept_of-queue hears = kept_of-line (IsReplay-queue hears)
+
+-- ---- a whole queue, in order
+
+-- an end mark behind events is heard
+ends : (es : List Event) → list_any is_end (told es true) ≡ true
+ends [] = refl
+ends (e ∷ es) = ends es
+
+-- a subscriber that heard all of its queue of a closed ledger has ended, and is faithful
+pub hears-all : (h : History) (binding : Arguments) (heard : Heard) → IsSound h → h.closed ≡ true
+    → heard.items ≡ queue (line h) binding → (has_ended heard ≡ true) × IsFaithful h binding heard
+hears-all h binding heard is shut all =
+    let items : heard.items ≡ told (feed_of h binding) true =
+    all ∙ queue-line h binding ∙ ap (told (feed_of h binding)) shut in (
+      ap (list_any is_end) items ∙ ends (feed_of h binding),
+      IsFaithful-line h binding heard is
+          (subst (λ items. IsReplay items (queue (line h) binding)) (sym all) (IsReplay-same (queue (line h) binding))),
+    )
+
+-- ---- a closed subscriber
+
+-- a closed subscriber doesn't hear what it is handed
+pub hears-nothing : (heard : Heard) (item : Item) → heard.closed ≡ true → next heard item ≡ heard
+hears-nothing heard item shut =
+    ap (λ (b : Bool). if b || has_ended heard then heard
+    else record { items = heard.items ++ item ∷ []; closed = heard.closed }) shut

@@ -1,0 +1,112 @@
+-- The queue of all that a ledger has to tell, and what a replay of it holds.
+use Rattle.std.proofs.Common.{◌≡◌, Bool, true, false, List, [], ◌∷◌, ◌++◌, map, refl, sym, ap, ◌∙◌, arith}
+use Rattle.std.specs.Prelude.{Contains, filter, if◌then◌else◌}
+use Rattle.std.specs.List.{list_any}
+use Rattle.std.proofs.lemmas.List.{append-nil}
+use Rattle.std.proofs.lemmas.List.Elements.{Contains-append_right, filter-append}
+use Rattle.std.proofs.lemmas.List.Folds.{list_any_at}
+use Rattle.cdc_types.specs.declared.events.Event.{Event}
+use Rattle.cdc_ledger.specs.Events.{events}
+use Rattle.cdc_ledger.specs.History.{History}
+use Rattle.cdc_match.specs.Arguments.{Arguments}
+use Rattle.cdc_match.specs.Queue.{feed, queue, takes_event, takes_item}
+use Rattle.cdc_message.specs.declared.items.Item.{Item}
+use Rattle.cdc_message.specs.declared.items.Item.TheVariants.{Event as OfEvent, EndMark}
+use Rattle.cdc_message.specs.Items.{TimestampsRise, events_of, rises, same_item}
+use Rattle.cdc_message.specs.Replays.{HasNoneTwice, IsPrefix, IsReplay, firsts}
+use Rattle.cdc_message.proofs.LineLaws.{HasNoneTwice-events, HasNoneTwice-line, events_of-map}
+use Rattle.cdc_message.proofs.ReplayLaws.{IsPrefix-firsts, IsReplay-Contains, firsts-all}
+use Rattle.cdc_message.proofs.RisesLaws.{events_of-append, events_of-push_end, rises-firsts}
+use Rattle.cdc_message.proofs.Same.{Decides-same_item}
+use Rattle.cdc_subscriber.specs.Heard.{is_end}
+use Rattle.cdc_laws.specs.Line.{end_mark_if, feed_of, line, told}
+
+-- ---- the queue of a line
+
+-- a binding takes just the items of the events that it takes
+pub queue_events : (binding : Arguments) (es : List Event)
+    → filter (takes_item binding) (map OfEvent es) ≡ map OfEvent (feed es binding)
+queue_events binding [] = refl
+queue_events binding (e ∷ es) = kept_or_not (takes_event binding e) (queue_events binding es)
+  where
+    kept_or_not : (b : Bool) → filter (takes_item binding) (map OfEvent es) ≡ map OfEvent (feed es binding)
+        → (if b then OfEvent e ∷ filter (takes_item binding) (map OfEvent es)
+        else filter (takes_item binding) (map OfEvent es))
+        ≡ map OfEvent (if b then e ∷ feed es binding else feed es binding)
+    kept_or_not true rest = ap (λ items. OfEvent e ∷ items) rest
+    kept_or_not false rest = rest
+
+-- and every end mark
+queue_end : (binding : Arguments) (closed : Bool)
+    → filter (takes_item binding) (end_mark_if closed) ≡ end_mark_if closed
+queue_end binding true = refl
+queue_end binding false = refl
+
+-- it has the feed, and the end
+pub queue-line : (h : History) (binding : Arguments)
+    → queue (line h) binding ≡ told (feed_of h binding) h.closed
+queue-line h binding =
+    filter-append (takes_item binding) (map OfEvent (events h)) (end_mark_if h.closed)
+    ∙ ap (λ items. items ++ filter (takes_item binding) (end_mark_if h.closed)) (queue_events binding (events h))
+    ∙ ap (λ items. map OfEvent (feed_of h binding) ++ items) (queue_end binding h.closed)
+
+-- ---- a replay of events that rise, and perhaps an end mark
+
+-- some end mark stands among the items
+Contains-end : (items : List Item) → list_any is_end items ≡ true → Contains items EndMark
+Contains-end [] ended = cc
+Contains-end (OfEvent e ∷ items) ended = Contains-append_right (OfEvent e ∷ []) items EndMark (Contains-end items ended)
+Contains-end (EndMark ∷ items) ended = (0, omega arith, refl)
+
+-- as long as the ledger is open no end mark stands behind the events
+none_ends : (es : List Event) → list_any is_end (map OfEvent es ++ []) ≡ false
+none_ends [] = refl
+none_ends (e ∷ es) = none_ends es
+
+-- none does among events alone
+no_end_there : (es : List Event) → Contains (map OfEvent es ++ []) EndMark → ⊥
+no_end_there es there =
+    let some : list_any is_end (map OfEvent es ++ []) ≡ true =
+    list_any_at is_end (map OfEvent es ++ []) there.0 EndMark there.1 (ap is_end there.2) in
+    let never : true ≡ false = sym some ∙ none_ends es in
+    cc
+
+module _ (es : List Event) (rise : TimestampsRise es) where
+  -- nothing stands twice, so the first of each item of a replay are a beginning
+  apart : (closed : Bool) → HasNoneTwice (told es closed)
+  apart true = HasNoneTwice-line es rise
+  apart false = rw (append-nil (map OfEvent es)) (HasNoneTwice-events es rise)
+
+  -- the events among the items are the events, end mark or not
+  events_told : (closed : Bool) → events_of (told es closed) ≡ es
+  events_told true = events_of-push_end (map OfEvent es) ∙ events_of-map es
+  events_told false = ap events_of (append-nil (map OfEvent es)) ∙ events_of-map es
+
+  -- the events of its first items are a beginning
+  pub IsPrefix-told : (closed : Bool) (w : List Item) → IsReplay w (told es closed)
+      → IsPrefix (events_of (firsts same_item w)) es
+  IsPrefix-told closed w replay =
+      let f : List Item = told es closed in
+      let front = IsPrefix-firsts same_item Decides-same_item w f (apart closed) replay in
+      record {
+        rest = events_of front.rest;
+        whole = sym (events_of-append (firsts same_item w) front.rest) ∙ ap events_of front.whole ∙ events_told closed;
+      }
+
+  -- where an end mark has come, there is one, and they are all
+  pub whole-told : (closed : Bool) (w : List Item) → IsReplay w (told es closed)
+      → list_any is_end w ≡ true → (closed ≡ true) × (events_of (firsts same_item w) ≡ es)
+  whole-told true w replay ended = (
+    refl,
+    ap events_of
+        (firsts-all same_item Decides-same_item w (map OfEvent es) EndMark (apart true) replay (Contains-end w ended))
+        ∙ events_told true,
+  )
+  whole-told false w replay ended =
+      absurd (no_end_there es (IsReplay-Contains w (map OfEvent es ++ []) EndMark replay (Contains-end w ended)))
+
+  -- they are those that rise
+  pub rises-told : (closed : Bool) (w : List Item) → IsReplay w (told es closed)
+      → events_of (firsts same_item w) ≡ rises (events_of w)
+  rises-told closed w replay =
+      rises-firsts (told es closed) (apart closed) (rw (events_told closed) rise) w replay

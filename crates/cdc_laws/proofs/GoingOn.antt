@@ -1,0 +1,222 @@
+-- A batch only adds later events to a ledger that isn't closed.
+use Rattle.std.proofs.Common.{◌≡◌, ℕ, ◌+◌, ◌<◌, ◌≤◌, Bool, true, false, List, [], ◌∷◌, ◌++◌, refl, sym, ap, ◌∙◌, subst, append_assoc, append-nil, arith}
+use Rattle.std.specs.Prelude.{◌==◌, Option, Some, None, Ok, if◌then◌else◌}
+use Rattle.std.specs.List.{AllByRecursion}
+use Rattle.cdc_ledger.specs.declared.errors.BatchError.{BatchError}
+use Rattle.cdc_ledger.specs.Changes.{expiry}
+use Rattle.cdc_ledger.specs.Due.{due}
+use Rattle.cdc_ledger.specs.Events.{event_of, events}
+use Rattle.cdc_ledger.specs.History.{History, Opened}
+use Rattle.cdc_ledger.specs.Sound.{HasAccounts, IsSound}
+use Rattle.cdc_ledger.specs.Submit.{accounts_from, after_account, after_transfer, answered, base, entry_of, expiries_from, opened_by, refusal_of, submit, taken, transfers_from}
+use Rattle.cdc_ledger.specs.Verdict.{account_verdict, transfer_verdict}
+use Rattle.cdc_ledger.proofs.Changes.{pushed, with_account, timed}
+use Rattle.cdc_ledger.proofs.Elements.{AllByRecursion-weaker, AllByRecursion_push}
+use Rattle.cdc_ledger.proofs.EventLaws.{events-pushed, events-with_account}
+use Rattle.cdc_ledger.proofs.LegalLaws.{submit_open}
+use Rattle.cdc_ledger.proofs.OpenedLaws.{HasAccounts-with_account}
+use Rattle.cdc_types.specs.declared.accounts.NewAccount.{NewAccount}
+use Rattle.cdc_types.specs.declared.batches.Batch.{Batch}
+use Rattle.cdc_types.specs.declared.batches.Batch.TheVariants as batch
+use Rattle.cdc_types.specs.declared.batches.BatchResults.{BatchResults}
+use Rattle.cdc_types.specs.declared.events.Entry.{Entry}
+use Rattle.cdc_types.specs.declared.results.AccountResult.{AccountResult}
+use Rattle.cdc_types.specs.declared.results.TransferResult.{TransferResult}
+use Rattle.cdc_types.specs.declared.transfers.NewTransfer.{NewTransfer}
+use Rattle.cdc_types.specs.declared.transfers.Transfer.{Transfer}
+use Rattle.cdc_types.specs.declared.events.Event.{Event}
+use Rattle.cdc_types.specs.Features.{features}
+use Rattle.cdc_types.specs.Results.{account_number, transfer_number}
+use Rattle.cdc_laws.proofs.Lines.{GoesOn}
+use Rattle.cdc_laws.proofs.Places.{AllByRecursion-append}
+
+-- what is asked of a history so that a request adds to it: no entry is past the last timestamp, and both accounts of
+-- each entry are there
+record IsRegular (h : History) : Type 0 where
+  past : AllByRecursion (λ e. e.timestamp ≤ h.last) h.entries
+  known : AllByRecursion (HasAccounts h) h.entries
+
+-- g has the events of h and later ones, up to its last timestamp
+record Adds (h g : History) : Type 0 where
+  new : List Event
+  whole : events g ≡ events h ++ new
+  later : AllByRecursion (λ e. h.last < e.timestamp) new
+  last : h.last ≤ g.last
+
+-- what leaves the events as they are adds none, and only time goes on
+Adds-none : (h g : History) → events g ≡ events h → h.last ≤ g.last → Adds h g
+Adds-none h g same last = record { new = []; whole = same ∙ sym (append-nil (events h)); later = tt; last = last }
+
+-- what is added first stands before what is added then, so that requests may be taken one by one
+Adds-trans : (h g k : History) → Adds h g → Adds g k → Adds h k
+Adds-trans h g k first second = record {
+  new = first.new ++ second.new;
+  whole = second.whole ∙ ap (λ es. es ++ second.new) first.whole ∙ append_assoc (events h) first.new second.new;
+  later = AllByRecursion-append (λ e. h.last < e.timestamp) first.new second.new first.later
+      (AllByRecursion-weaker (λ e. g.last < e.timestamp) (λ e. h.last < e.timestamp)
+      (λ e later. omega (arith, first.last, later)) second.new second.later);
+  last = omega (arith, first.last, second.last);
+}
+
+-- ---- a single request
+
+-- entries up to the last timestamp are up to any later one
+past-later : (h : History) (t : ℕ) → IsRegular h → h.last ≤ t → AllByRecursion (λ e. e.timestamp ≤ t) h.entries
+past-later h t is before =
+    AllByRecursion-weaker (λ e. e.timestamp ≤ h.last) (λ e. e.timestamp ≤ t) (λ e past. omega (arith, past))
+    h.entries is.past
+
+-- a refused request takes its timestamp and tells nothing
+Adds-timed : (h : History) (t : ℕ) → h.last < t → Adds h (timed h t)
+Adds-timed h t later = Adds-none h (timed h t) refl (omega (arith, later))
+
+-- an account that is opened has no event, and leaves those that there are
+Adds-with_account : (h : History) (o : Opened) → IsRegular h → h.last < o.timestamp → Adds h (with_account h o)
+Adds-with_account h o is later =
+    Adds-none h (with_account h o) (events-with_account h o is.known) (omega (arith, later))
+
+-- an accepted transfer and an expiry each add their own event, later than all before
+Adds-pushed : (h : History) (e : Entry) → AllByRecursion (λ x. x.timestamp ≤ h.last) h.entries → h.last < e.timestamp
+    → Adds h (pushed h e)
+Adds-pushed h e past later = record {
+  new = event_of (pushed h e) e ∷ [];
+  whole = events-pushed h e past later;
+  later = (later, tt);
+  last = omega (arith, later);
+}
+
+-- what stays so
+IsRegular-timed : (h : History) (t : ℕ) → IsRegular h → h.last < t → IsRegular (timed h t)
+IsRegular-timed h t is later = record { past = past-later h t is (omega (arith, later)); known = is.known }
+
+-- an account that is opened takes none away, so both accounts of each entry are still there
+IsRegular-with_account : (h : History) (o : Opened) → IsRegular h → h.last < o.timestamp → IsRegular (with_account h o)
+IsRegular-with_account h o is later = record {
+  past = past-later h o.timestamp is (omega (arith, later));
+  known = AllByRecursion-weaker (HasAccounts h) (HasAccounts (with_account h o)) (HasAccounts-with_account h o)
+      h.entries is.known;
+}
+
+-- a new entry is the last one, and the next request begins after it
+past-pushed : (h : History) (e : Entry) → AllByRecursion (λ x. x.timestamp ≤ h.last) h.entries → h.last < e.timestamp
+    → AllByRecursion (λ x. x.timestamp ≤ e.timestamp) (h.entries ++ e ∷ [])
+past-pushed h e past later =
+    AllByRecursion_push (λ x. x.timestamp ≤ e.timestamp) h.entries e
+    (AllByRecursion-weaker (λ x. x.timestamp ≤ h.last) (λ x. x.timestamp ≤ e.timestamp)
+    (λ x early. omega (arith, early, later)) h.entries past)
+    (omega arith)
+
+-- ---- the requests of a batch
+
+-- g comes of h by a request for an account at the moment t
+record IsNextAccount (h : History) (t : ℕ) (g : History) : Type 0 where
+  regular : IsRegular g
+  adds : Adds h g
+  at : g.last ≡ t
+
+-- whether it is accepted or not
+next_account : (h : History) (a : NewAccount) (t : ℕ) → IsRegular h → h.last < t → (b : Bool)
+    → IsNextAccount h t (if b then with_account h (opened_by a t) else timed h t)
+next_account h a t is later true = record {
+  regular = IsRegular-with_account h (opened_by a t) is later;
+  adds = Adds-with_account h (opened_by a t) is later;
+  at = refl;
+}
+next_account h a t is later false =
+    record { regular = IsRegular-timed h t is later; adds = Adds-timed h t later; at = refl }
+
+-- a batch of accounts keeps the events that were there, whichever of its requests are accepted
+Adds-accounts_from : (h : History) (t : ℕ) (rs : List NewAccount) → IsRegular h → h.last < t
+    → Adds h (accounts_from features h t rs).1
+Adds-accounts_from h t [] is later = Adds-none h h refl (omega arith)
+Adds-accounts_from h t (a ∷ rest) is later =
+    let verdict : AccountResult = account_verdict features h a in
+    let g : History = after_account h a t verdict in
+    let next : IsNextAccount h t g = next_account h a t is later (account_number verdict == 0) in
+    Adds-trans h g (accounts_from features g (t + 1) rest).1 next.adds
+    (Adds-accounts_from g (t + 1) rest next.regular (omega (arith, next.at)))
+
+-- the same of a request for a transfer, which opens no account
+record IsNextTransfer (h : History) (t : ℕ) (g : History) : Type 0 where
+  past : AllByRecursion (λ e. e.timestamp ≤ g.last) g.entries
+  adds : Adds h g
+  at : g.last ≡ t
+
+-- an accepted request is an entry at its timestamp; a refused one takes the timestamp alone
+next_transfer : (h : History) (r : NewTransfer) (t : ℕ) → AllByRecursion (λ e. e.timestamp ≤ h.last) h.entries
+    → h.last < t → (b : Bool)
+    → IsNextTransfer h t (if b then pushed h (entry_of h r t) else timed h t)
+next_transfer h r t past later true = record {
+  past = past-pushed h (entry_of h r t) past later;
+  adds = Adds-pushed h (entry_of h r t) past later;
+  at = refl;
+}
+next_transfer h r t past later false = record {
+  past = AllByRecursion-weaker (λ e. e.timestamp ≤ h.last) (λ e. e.timestamp ≤ t)
+      (λ e early. omega (arith, early, later)) h.entries past;
+  adds = Adds-timed h t later;
+  at = refl;
+}
+
+-- a batch of transfers keeps the events that were there, and what it adds is later
+Adds-transfers_from : (h : History) (t : ℕ) (rs : List NewTransfer)
+    → AllByRecursion (λ e. e.timestamp ≤ h.last) h.entries → h.last < t
+    → Adds h (transfers_from features h t rs).1
+Adds-transfers_from h t [] past later = Adds-none h h refl (omega arith)
+Adds-transfers_from h t (r ∷ rest) past later =
+    let verdict : TransferResult = transfer_verdict features h r t in
+    let g : History = after_transfer h r t verdict in
+    let next : IsNextTransfer h t g = next_transfer h r t past later (transfer_number verdict == 0) in
+    Adds-trans h g (transfers_from features g (t + 1) rest).1 next.adds
+    (Adds-transfers_from g (t + 1) rest next.past (omega (arith, next.at)))
+
+-- so does a pulse, with an expiry for each transfer that is due
+Adds-expiries_from : (h : History) (t : ℕ) (ps : List Transfer) → AllByRecursion (λ e. e.timestamp ≤ h.last) h.entries
+    → h.last < t → Adds h (expiries_from h t ps)
+Adds-expiries_from h t [] past later = Adds-none h h refl (omega arith)
+Adds-expiries_from h t (p ∷ ps) past later =
+    let more : Adds (pushed h (expiry p t)) (expiries_from (pushed h (expiry p t)) (t + 1) ps) =
+    Adds-expiries_from (pushed h (expiry p t)) (t + 1) ps (past-pushed h (expiry p t) past later) (omega arith) in
+    Adds-trans h (pushed h (expiry p t)) (expiries_from (pushed h (expiry p t)) (t + 1) ps)
+    (Adds-pushed h (expiry p t) past later) more
+
+-- ---- a batch
+
+-- so every batch that a ledger takes adds later events to those that were there, or none
+Adds-taken : (h : History) (b : Batch) → IsSound h → Adds h (taken features h b).1
+Adds-taken h (batch.Accounts now items) sound =
+    Adds-accounts_from h (base h now) items (record { past = sound.past; known = sound.known }) (omega arith)
+Adds-taken h (batch.Transfers now items) sound =
+    Adds-transfers_from h (base h now) items sound.past (omega arith)
+Adds-taken h (batch.Pulse now) sound = Adds-expiries_from h (base h now) (due h now) sound.past (omega arith)
+
+-- a batch that is answered wasn't refused, and what it leaves is what its requests make
+answered_is : (refusal : Option BatchError) (answer found : BatchResults × History) → answered refusal answer ≡ Ok found
+    → answer ≡ found
+answered_is None answer found e = cc
+answered_is (Some error) answer found e = cc
+
+-- what a batch makes of a ledger goes on from what it was
+pub GoesOn-submit : (h : History) (b : Batch) (answer : BatchResults × History) → IsSound h → submit h b ≡ Ok answer
+    → GoesOn h answer.1
+GoesOn-submit h b answer sound e =
+    let not_closed : h.closed ≡ false = submit_open h b answer e in
+    let is : taken features h b ≡ answer = answered_is (refusal_of h b) (taken features h b) answer e in
+    let adds : Adds h answer.1 = subst (λ (a : BatchResults × History). Adds h a.1) is (Adds-taken h b sound) in
+    record {
+      new = adds.new;
+      whole = adds.whole;
+      later = adds.later;
+      last = adds.last;
+      shut = λ closed. let no : true ≡ false = sym closed ∙ not_closed in cc;
+    }
+
+-- so does a ledger that closes
+pub GoesOn-closed : (h : History) → GoesOn h (record h { closed = true })
+GoesOn-closed h = record {
+  new = [];
+  whole = sym (append-nil (events h));
+  later = tt;
+  last = omega arith;
+  shut = λ closed. (refl, refl);
+}

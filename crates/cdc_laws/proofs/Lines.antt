@@ -1,0 +1,97 @@
+-- The line of a ledger: what it has to tell after a moment, and how it grows.
+use Rattle.std.proofs.Common.{◌≡◌, ℕ, ◌<◌, ◌≤◌, Bool, true, false, List, [], ◌∷◌, ◌++◌, map, refl, sym, ap, ap₂, ◌∙◌, append_assoc, append-nil, arith}
+use Rattle.std.specs.Prelude.{nat_lt}
+use Rattle.std.specs.List.{AllByRecursion}
+use Rattle.std.proofs.lemmas.List.{map-append}
+use Rattle.std.proofs.lemmas.List.Elements.{filter-append}
+use Rattle.cdc_ledger.specs.Events.{event_of, events}
+use Rattle.cdc_ledger.specs.History.{History}
+use Rattle.cdc_ledger.specs.Sound as sound
+use Rattle.cdc_ledger.proofs.Elements.{AllByRecursion-weaker}
+use Rattle.cdc_log.specs.Log.{events_after}
+use Rattle.cdc_message.specs.declared.items.Item.{Item}
+use Rattle.cdc_message.specs.declared.items.Item.TheVariants.{Event as OfEvent}
+use Rattle.cdc_types.specs.declared.events.Entry.{Entry}
+use Rattle.cdc_types.specs.declared.events.Event.{Event}
+use Rattle.cdc_laws.specs.Line.{end_mark_if, line, line_after, told}
+use Rattle.cdc_laws.proofs.Rising.{events_rise}
+use Rattle.cdc_laws.proofs.Splits.{SplitsAt, split_at, events_after-all}
+
+-- ---- the events of a sound history
+
+-- an event is as late as its entry, so events of entries up to a moment are up to it
+past_entries : (h : History) (t : ℕ) (es : List Entry) → AllByRecursion (λ e. e.timestamp ≤ t) es
+    → AllByRecursion (λ e. e.timestamp ≤ t) (map (event_of h) es)
+past_entries h t [] past = tt
+past_entries h t (e ∷ es) past = (past.0, past_entries h t es past.1)
+
+-- no event is later than the ledger's last timestamp, and so neither is what a session saves
+pub events_past : (h : History) → sound.IsSound h → AllByRecursion (λ e. e.timestamp ≤ h.last) (events h)
+events_past h is = past_entries h h.last h.entries is.past
+
+-- ---- the line before and after a moment
+
+-- the events up to a moment, and then what there is to tell after it
+pub line_splits : (h : History) (t : ℕ) (front : List Event) → SplitsAt (events h) t front (events_after t (events h))
+    → line h ≡ map OfEvent front ++ line_after h t
+line_splits h t front cut =
+    ap (λ es. told es h.closed) cut.whole
+    ∙ ap (λ items. items ++ end_mark_if h.closed)
+    (map-append OfEvent front (events_after t (events h)))
+    ∙ append_assoc (map OfEvent front) (map OfEvent (events_after t (events h))) (end_mark_if h.closed)
+
+-- a ledger's events can be cut at any moment, as at the base of a session or at the moment that it saves
+pub split_events : (h : History) (t : ℕ) → sound.IsSound h
+    → (front : List Event) × SplitsAt (events h) t front (events_after t (events h))
+split_events h t is = split_at t 0 (events h) (events_rise h is)
+
+-- ---- a history that goes on
+
+-- g has the events of h and later ones; none, where h is closed, and then so is g
+pub record GoesOn (h g : History) : Type 0 where
+  pub new : List Event
+  pub whole : events g ≡ events h ++ new
+  pub later : AllByRecursion (λ e. h.last < e.timestamp) new
+  pub last : h.last ≤ g.last
+  pub shut : h.closed ≡ true → (g.closed ≡ true) × (new ≡ [])
+
+-- what is told grows at its back alone, and once an end mark stands there it doesn't grow
+told_more : (es new : List Event) (b c : Bool) → (b ≡ true → (c ≡ true) × (new ≡ []))
+    → (more : List Item) × (told (es ++ new) c ≡ told es b ++ more)
+told_more es new true c shut =
+    let same = shut refl in (
+      [],
+      ap₂ (λ xs d. told (es ++ xs) d) same.1 same.0
+          ∙ ap (λ xs. told xs true) (append-nil es)
+          ∙ sym (append-nil (told es true)),
+    )
+told_more es new false c shut =
+    let rest : List Item = end_mark_if c in (
+      map OfEvent new ++ rest,
+      ap (λ items. items ++ rest) (map-append OfEvent es new)
+          ∙ append_assoc (map OfEvent es) (map OfEvent new) rest
+          ∙ ap (λ items. items ++ (map OfEvent new ++ rest)) (sym (append-nil (map OfEvent es))),
+    )
+
+-- the line goes on
+pub line-goes_on : (h g : History) → GoesOn h g → (more : List Item) × (line g ≡ line h ++ more)
+line-goes_on h g on =
+    let more = told_more (events h) on.new h.closed g.closed on.shut in
+    (more.0, ap (λ es. told es g.closed) on.whole ∙ more.1)
+
+-- the later events are later than any moment up to the last one
+pub events_after-goes_on : (h g : History) (t : ℕ) (on : GoesOn h g) → t ≤ h.last
+    → events_after t (events g) ≡ events_after t (events h) ++ on.new
+events_after-goes_on h g t on early =
+    ap (events_after t) on.whole
+    ∙ filter-append (λ (e : Event). nat_lt t e.timestamp) (events h) on.new
+    ∙ ap (λ es. events_after t (events h) ++ es) (events_after-all t on.new
+    (AllByRecursion-weaker (λ e. h.last < e.timestamp) (λ e. t < e.timestamp) (λ e later. omega (arith, later))
+    on.new on.later))
+
+-- so does the line after a moment, and its items keep their tags
+pub line_after-goes_on : (h g : History) (t : ℕ) → GoesOn h g → t ≤ h.last
+    → (more : List Item) × (line_after g t ≡ line_after h t ++ more)
+line_after-goes_on h g t on early =
+    let more = told_more (events_after t (events h)) on.new h.closed g.closed on.shut in
+    (more.0, ap (λ es. told es g.closed) (events_after-goes_on h g t on early) ∙ more.1)

@@ -1,0 +1,69 @@
+-- Elements by their places.
+use Rattle.std.proofs.Common.{◌≡◌, ℕ, zero, suc, ◌-◌, ◌<◌, ◌≤◌, List, [], ◌∷◌, ◌++◌, length, refl, ap, ◌∙◌, inl, inr, arith}
+use Rattle.std.specs.Prelude.{◌⊎◌, Some, Contains, slice_get}
+use Rattle.std.specs.List.{AllByRecursion}
+use Rattle.std.proofs.lemmas.List.Elements.{Contains-append_cases, Contains-append_right, Contains-push_cases}
+use Rattle.std.proofs.lemmas.Option.{slice_get_within, get_or_from_slice_get, none-some}
+
+-- ---- places
+
+-- what stands in a list stands there where it goes on
+pub slice_get-append : {X : Type 0} (xs ys : List X) (i : ℕ) (x : X) → slice_get xs i ≡ Some x
+    → slice_get (xs ++ ys) i ≡ Some x
+slice_get-append [] ys i x h = absurd (none-some x h)
+slice_get-append (y ∷ xs) ys zero x h = h
+slice_get-append (y ∷ xs) ys (suc i) x h = slice_get-append xs ys i x h
+
+-- behind the first list stands the second one
+pub slice_get-behind : {X : Type 0} (xs ys : List X) (i : ℕ) → length xs ≤ i
+    → slice_get (xs ++ ys) i ≡ slice_get ys (i - length xs)
+slice_get-behind [] ys i past = ap (λ n. slice_get ys n) (omega arith)
+slice_get-behind (x ∷ xs) ys zero past = absurd (omega arith)
+slice_get-behind (x ∷ xs) ys (suc i) past =
+    slice_get-behind xs ys i (omega arith) ∙ ap (λ n. slice_get ys n) (omega arith)
+
+-- before it stands the first one
+pub slice_get-before : {X : Type 0} (xs ys : List X) (i : ℕ) → i < length xs → slice_get (xs ++ ys) i ≡ slice_get xs i
+slice_get-before [] ys i below = absurd (omega arith)
+slice_get-before (x ∷ xs) ys zero below = refl
+slice_get-before (x ∷ xs) ys (suc i) below = slice_get-before xs ys i (omega arith)
+
+-- what is found at a place stands in the list
+pub Contains_slice_get : {X : Type 0} (xs : List X) (i : ℕ) (x : X) → slice_get xs i ≡ Some x → Contains xs x
+Contains_slice_get xs i x h = (i, slice_get_within xs i x h, get_or_from_slice_get xs i x x h)
+
+-- ---- each element
+
+-- nothing stands in an empty list, as nothing was sent or taken before the first step
+pub none_there : {X : Type 0} (x : X) → Contains [] x → ⊥
+none_there x h = omega (arith, h.1)
+
+-- an element of a list that isn't empty is its first or one of the others
+pub Contains-cons_cases : {X : Type 0} (x : X) (xs : List X) (y : X) → Contains (x ∷ xs) y → (x ≡ y) ⊎ Contains xs y
+Contains-cons_cases x xs y h =
+    elim (Contains-append_cases (x ∷ []) xs y h) [
+      | inl here ↦
+          elim (Contains-push_cases [] x y here) [ inl nowhere ↦ absurd (none_there y nowhere) | inr is ↦ inl is ]
+      | inr later ↦ inr later
+    ]
+
+-- what holds of each element
+pub each_has : {X : Type 0} (P : X → Type 0) (xs : List X) (x : X) → AllByRecursion P xs → Contains xs x → P x
+each_has P [] x all there = absurd (none_there x there)
+each_has P (y ∷ xs) x all there =
+    elim (Contains-cons_cases y xs x there) [
+      | inl is ↦ rw is at all.0
+      | inr later ↦ each_has P xs x all.1 later
+    ]
+
+-- and what holds of whatever stands in a list holds of each element in turn
+pub each_from : {X : Type 0} (P : X → Type 0) (xs : List X) → ((x : X) → Contains xs x → P x) → AllByRecursion P xs
+each_from P [] has = tt
+each_from P (x ∷ xs) has =
+    (has x (0, omega arith, refl), each_from P xs (λ y there. has y (Contains-append_right (x ∷ []) xs y there)))
+
+-- two lists, one after the other
+pub AllByRecursion-append : {X : Type 0} (P : X → Type 0) (xs ys : List X) → AllByRecursion P xs → AllByRecursion P ys
+    → AllByRecursion P (xs ++ ys)
+AllByRecursion-append P [] ys all more = more
+AllByRecursion-append P (x ∷ xs) ys all more = (all.0, AllByRecursion-append P xs ys all.1 more)

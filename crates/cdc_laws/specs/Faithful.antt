@@ -1,0 +1,51 @@
+-- What a subscriber may rely on: said of a ledger's history, its binding and what it has heard.
+use Rattle.std.specs.Prelude.{◌≡◌, ℕ, ◌-◌, ◌^◌, min, true, List, length, unwrap_or}
+use Rattle.cdc_ledger.specs.Balances.{as_of}
+use Rattle.cdc_ledger.specs.Events.{events}
+use Rattle.cdc_ledger.specs.History.{History}
+use Rattle.cdc_laws.specs.Line.{feed_of}
+use Rattle.cdc_match.specs.Arguments.{Arguments}
+use Rattle.cdc_message.specs.Items.{TimestampsRise, events_of, same_item}
+use Rattle.cdc_message.specs.Replays.{IsPrefix, firsts}
+use Rattle.cdc_subscriber.specs.declared.book.BookEntry.{BookEntry}
+use Rattle.cdc_subscriber.specs.Book.{balances_in, book_of}
+use Rattle.cdc_subscriber.specs.Heard.{Heard, has_ended}
+use Rattle.cdc_subscriber.specs.Kept.{Kept}
+use Rattle.cdc_types.specs.declared.accounts.Balances.{Balances}
+use Rattle.cdc_types.specs.declared.events.Event.{Event}
+use Rattle.cdc_types.specs.Timestamps.{last_timestamp}
+
+-- the events that a subscriber has applied: those that it has heard, without repeats
+abbrev pub applied : Heard → List Event
+applied heard = events_of (firsts same_item heard.items)
+
+-- the balances of an account that no event has shown
+abbrev pub no_balances : Balances
+no_balances = record { debits_pending = 0; debits_posted = 0; credits_pending = 0; credits_posted = 0 }
+
+-- the balances that a book has for a number; an account that isn't in it counts as four zeros
+abbrev pub balances_held : List BookEntry → ℕ → Balances
+balances_held book id = unwrap_or (balances_in book id) no_balances
+
+-- a book of events has for every number the ledger's balances as of the last of them
+abbrev pub HoldsBalances : History → List Event → Type 0
+HoldsBalances h told = (id : ℕ) → balances_held (book_of told) id ≡ as_of h (last_timestamp told) id
+
+-- a subscriber has applied the first so many of the events that its binding takes, whose timestamps rise, so that none
+-- came twice or out of order; once it has heard the end it has applied all, and the ledger is closed; and where its
+-- binding takes every event, its book has the balances that the ledger had at the last one applied
+pub record IsFaithful (h : History) (binding : Arguments) (heard : Heard) : Type 0 where
+  pub prefix : IsPrefix (applied heard) (feed_of h binding)
+  pub rising : TimestampsRise (applied heard)
+  pub whole : has_ended heard ≡ true → (h.closed ≡ true) × (applied heard ≡ feed_of h binding)
+  pub balances : feed_of h binding ≡ events h → HoldsBalances h (applied heard)
+
+-- what a subscriber keeps, told by what it has applied; it counts up to 2^64-1
+abbrev pub kept_from : Heard → Kept
+kept_from heard = record {
+  book = book_of (applied heard);
+  last = last_timestamp (applied heard);
+  applied = min (length (applied heard)) (2 ^ 64 - 1);
+  ended = has_ended heard;
+  closed = heard.closed;
+}

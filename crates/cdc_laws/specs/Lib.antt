@@ -1,0 +1,4 @@
+pub mod Deliveries
+pub mod Faithful
+pub mod Laws
+pub mod Line
