@@ -7,7 +7,9 @@ use Rattle.cdc_world.specs.declared.steps.Did.{Did}
 use Rattle.cdc_types.specs.declared.steps.Step.{Step}
 use Rattle.cdc_world.specs.declared.steps.StepError.{StepError}
 use Rattle.cdc_world.specs.Next.{Next, loads}
-use Rattle.cdc_world.specs.Stands.{DoesAll, Moves, Parts, Plays, Stands, StopsAt}
+use Rattle.cdc_world.specs.Moves.{DoesAll, Moves, Plays, StopsAt}
+use Rattle.cdc_world.specs.Parts.{Parts}
+use Rattle.cdc_world.specs.Stands.{Stands}
 use Rattle.cdc_world.specs.Worlds.{WorldState}
 
 -- so many of these steps are done

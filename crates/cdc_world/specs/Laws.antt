@@ -1,12 +1,12 @@
 -- What holds of the definitions themselves.
 use Rattle.std.specs.Prelude.{◌≡◌, ℕ, List, Option, Some, Result}
+use Rattle.cdc_laws.specs.Faithful.{IsFaithful}
 use Rattle.cdc_match.specs.Arguments.{Arguments}
 use Rattle.cdc_progress.specs.Records.{Saved}
 use Rattle.cdc_types.specs.declared.steps.Step.{Step}
 use Rattle.cdc_world.specs.Closed.{AllStay}
 use Rattle.cdc_world.specs.declared.steps.Did.{Did}
 use Rattle.cdc_world.specs.declared.steps.StepError.{StepError}
-use Rattle.cdc_world.specs.Headline.{IsFaithful}
 use Rattle.cdc_world.specs.Moves.{IsPlay}
 use Rattle.cdc_world.specs.Next.{IsAtStart, IsReached, Next}
 use Rattle.cdc_world.specs.Worlds.{Subscription, WorldState, new_world, numbered}
@@ -15,7 +15,7 @@ use Rattle.cdc_world.specs.Worlds.{Subscription, WorldState, new_world, numbered
 -- or never, deliveries that are repeated or broken off, and closes among them
 abbrev pub SubscribersAreFaithful : Type 0
 SubscribersAreFaithful = (w : WorldState) → IsReached w
-    → (i : ℕ) (s : Subscription) → numbered w.subscriptions i ≡ Some s → IsFaithful w s
+    → (i : ℕ) (s : Subscription) → numbered w.subscriptions i ≡ Some s → IsFaithful w.history s.binding s.heard
 
 -- no step changes what a closed subscriber has heard, nor the binding of any
 abbrev pub ClosedSubscribersStay : Type 0

@@ -1,9 +1,7 @@
 -- what a reader has to believe: public clauses cite it
 pub mod Closed
 pub mod Errors
-pub mod Headline
 pub mod Laws
-pub mod Line
 pub mod Moves
 pub mod Next
 pub mod Parts

@@ -1,28 +1,11 @@
 -- What holds of a subscriber and its queue after whatever steps. Cited by proofs alone.
 use Rattle.std.specs.Prelude.{◌≡◌, ◌⊎◌, ℕ, ◌+◌, ◌-◌, ◌<◌, ◌≤◌, false, Some, List, [], ◌∷◌, ◌++◌, Contains, length, map, take}
 use Rattle.cdc_message.specs.declared.items.Delivery.{Delivery}
+use Rattle.cdc_laws.specs.Deliveries.{deliveries, items_in, positions_in}
 use Rattle.cdc_message.specs.declared.items.Item.{Item}
 use Rattle.cdc_message.specs.Replays.{IsReplay}
 use Rattle.cdc_subscriber.specs.Heard.{has_ended}
 use Rattle.cdc_world.specs.Worlds.{Subscription, WorldState, numbered, queue_in}
-
--- the items with their positions, from this position on
-abbrev pub deliveries_from : ℕ → List Item → List Delivery
-deliveries_from position [] = []
-deliveries_from position (item ∷ items) =
-    record { position = position; item = item } ∷ deliveries_from (position + 1) items
-
--- the items with their positions, from 1 on
-abbrev pub deliveries : List Item → List Delivery
-deliveries items = deliveries_from 1 items
-
--- the items of deliveries
-abbrev pub items_in : List Delivery → List Item
-items_in ds = map (λ (d : Delivery). d.item) ds
-
--- their positions
-abbrev pub positions_in : List Delivery → List ℕ
-positions_in ds = map (λ (d : Delivery). d.position) ds
 
 -- all that was handed out and came or may yet come, in order
 abbrev pub sent_to : Subscription → List Delivery

@@ -88,8 +88,10 @@ parts_of s = record { kept = kept_of s.heard; flight = s.flight; acks = s.acks }
 abbrev pub IsHandedOut : ℕ → ℕ → Type 0
 IsHandedOut handed position = (0 < position) × (position ≤ handed)
 
--- what is on its way to a subscriber, and what it has acknowledged, was handed out by its queue
+-- a queue's cursor stands at a position, and what is on its way to the subscriber, or was acknowledged by it, was handed
+-- out, up to this position
 pub record HasHandedOut (handed : ℕ) (s : Subscription) : Type 0 where
+  pub first : 0 < s.cursor.next
   pub flight : (d : Delivery) → Contains s.flight d → IsHandedOut handed d.position
   pub acks : (position : ℕ) → Contains s.acks position → IsHandedOut handed position
 
@@ -100,11 +102,11 @@ HaveHandedOut (q ∷ queues) [] = Unit {0}
 HaveHandedOut (q ∷ queues) (s ∷ subscriptions) = HasHandedOut q.handed s × HaveHandedOut queues subscriptions
 
 -- the queues, of the items that were taken, and what is kept of each subscription stand for the subscriptions
-pub record SubscribersStand (queues : List QueueState) (kept : List SubscriptionParts) (items : List Item)
-    (subscriptions : List Subscription) : Type 0 where
-  pub queues : map view_of queues ≡ map (queue_for items) subscriptions
-  pub subscriptions : kept ≡ map parts_of subscriptions
-  pub handed : HaveHandedOut queues subscriptions
+pub record SubscribersStand (qs : List QueueState) (kept : List SubscriptionParts) (items : List Item)
+    (ss : List Subscription) : Type 0 where
+  pub queues : map view_of qs ≡ map (queue_for items) ss
+  pub subscriptions : kept ≡ map parts_of ss
+  pub handed : HaveHandedOut qs ss
 
 -- ---- the whole
 

@@ -1,5 +1,5 @@
 -- The world: all that the actors have done, as far as anything to come can depend on it.
-use Rattle.std.specs.Prelude.{ℕ, ◌-◌, ◌^◌, ◌==◌, min, Option, None, List, [], length, map, slice_get, slice_set, if◌then◌else◌}
+use Rattle.std.specs.Prelude.{ℕ, ◌-◌, ◌==◌, Option, None, List, [], map, slice_get, slice_set, if◌then◌else◌}
 use Rattle.cdc_broker.specs.Cursors.{Cursor, first_cursor}
 use Rattle.cdc_broker.specs.Packets.{items_of}
 use Rattle.cdc_ledger.specs.History.{History, empty_history}
@@ -9,15 +9,9 @@ use Rattle.cdc_message.specs.declared.items.Delivery.{Delivery}
 use Rattle.cdc_message.specs.declared.items.Item.{Item}
 use Rattle.cdc_message.specs.declared.packets.Confirm.{Confirm}
 use Rattle.cdc_message.specs.declared.packets.Packet.{Packet}
-use Rattle.cdc_message.specs.Items.{events_of, same_item}
-use Rattle.cdc_message.specs.Replays.{firsts}
 use Rattle.cdc_progress.specs.Records.{Saved}
 use Rattle.cdc_publisher.specs.Courses.{Course}
-use Rattle.cdc_subscriber.specs.Book.{book_of}
-use Rattle.cdc_subscriber.specs.Heard.{Heard, has_ended, nothing}
-use Rattle.cdc_subscriber.specs.Kept.{Kept}
-use Rattle.cdc_types.specs.declared.events.Event.{Event}
-use Rattle.cdc_types.specs.Timestamps.{last_timestamp}
+use Rattle.cdc_subscriber.specs.Heard.{Heard, nothing}
 
 -- a subscriber and its queue: the binding; what the queue handed out and the subscriber has taken, in order; what was
 -- handed out and is on its way; the positions that the subscriber has acknowledged, in order; the cursor of the queue;
@@ -82,17 +76,3 @@ taken_items w = items_of w.accepted
 -- the queue of a subscriber
 abbrev pub queue_in : WorldState → Subscription → List Item
 queue_in w s = queue (taken_items w) s.binding
-
--- the events that a subscriber has applied: those that it has heard, without repeats
-abbrev pub applied : Subscription → List Event
-applied s = events_of (firsts same_item s.heard.items)
-
--- what a subscriber keeps, told by what it has applied
-abbrev pub kept_from : Subscription → Kept
-kept_from s = record {
-  book = book_of (applied s);
-  last = last_timestamp (applied s);
-  applied = min (length (applied s)) (2 ^ 64 - 1);
-  ended = has_ended s.heard;
-  closed = s.heard.closed;
-}

@@ -230,7 +230,12 @@ impl Actors {
         ensures next { ActorsMove self.old (Send i) result self.new }
     {
         let place = place_of(i, self.subscriptions.len()).ok_or(StepError::NotEnabled)?;
-        hand_out(alloc, &mut self.broker, place + 1, &mut self.subscriptions[place])?;
+        hand_out(
+            alloc,
+            &mut self.broker,
+            place + 1,
+            &mut self.subscriptions[place],
+        )?;
         Ok(Did::Done)
     }
 

@@ -64,7 +64,10 @@ impl Subscription {
 }
 
 /// As many subscriptions that nothing has come to.
-pub(crate) fn empty_subscriptions(alloc: Global, count: usize) -> Result<Vec<Subscription>, AllocError>
+pub(crate) fn empty_subscriptions(
+    alloc: Global,
+    count: usize,
+) -> Result<Vec<Subscription>, AllocError>
     ensures { IfOk result (λ subscriptions. map subscription_parts subscriptions.items ≡ replicate count empty_subscription) }
 {
     let mut subscriptions = Vec::with_capacity(alloc, count)?;

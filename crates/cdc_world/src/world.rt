@@ -1,14 +1,14 @@
 //! The world itself.
 
 ghost use Rattle.std.specs.Prelude.{◌≡◌, ◌<◌, ◌≤◌, ℕ, Some, IfOk, IfErr, IsTrue, OnOk, Err, length};
+ghost use Rattle.cdc_laws.specs.Faithful.{IsFaithful, kept_from};
 ghost use Rattle.cdc_progress.specs.Stores.{MayRefuseLoad};
 ghost use Rattle.cdc_subscriber.specs.Heard.{kept_of};
 ghost use Rattle.cdc_types.specs.declared.steps.Step.TheVariants.{Save, Start};
-ghost use Rattle.cdc_world.specs.Headline.{IsFaithful};
 ghost use Rattle.cdc_world.specs.Moves.{IsStoreCounted, Moves, PlayFixesClosed, Plays, StepFixesClosed};
 ghost use Rattle.cdc_world.specs.Next.{IsReached};
 ghost use Rattle.cdc_world.specs.Stands.{Stands};
-ghost use Rattle.cdc_world.specs.Worlds.{Subscription, WorldState, kept_from, new_world, numbered};
+ghost use Rattle.cdc_world.specs.Worlds.{Subscription, WorldState, new_world, numbered};
 
 use crate::actors::Actors;
 use crate::steps::{Did, StepError};
@@ -128,9 +128,10 @@ impl<S: ProgressStore> World<S> {
         ensures heard { (w : WorldState) → Stands self.now w → (s : Subscription)
             → numbered w.subscriptions i ≡ Some s → result.now ≡ kept_of s.heard }
         ensures applied { (w : WorldState) → Stands self.now w → IsReached w → (s : Subscription)
-            → numbered w.subscriptions i ≡ Some s → result.now ≡ kept_from s }
+            → numbered w.subscriptions i ≡ Some s → result.now ≡ kept_from s.heard }
         ensures faithful { (w : WorldState) → Stands self.now w → IsReached w → (s : Subscription)
-            → numbered w.subscriptions i ≡ Some s → IsFaithful w s }
+            → numbered w.subscriptions i ≡ Some s
+            → IsFaithful w.history s.binding s.heard }
     {
         &self.actors.subscription(i).subscriber
     }
