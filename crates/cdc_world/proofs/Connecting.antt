@@ -144,13 +144,19 @@ publish_done a kept kept' packets' is sends = (
       ),
 )
 
+-- something, where there is something
+some_of : {A : Type 0} (o : Option A) → is_some o ≡ true → (x : A) × (o ≡ Some x)
+some_of None is = cc
+some_of (Some x) is = (x, refl)
+
 -- the session is lost
-pub crash_done : (a : ActorParts) (kept : Kept) → a.session ≡ Some kept
+pub crash_done : (a : ActorParts) → is_some a.session ≡ true
     → ActorsMove a Crash (Ok Done) (record a { session = None })
-crash_done a kept is = (
+crash_done a up = (
   tt,
   λ w st.
-      let at = course_of a w kept st is in (
+      let kept = some_of a.session up in
+      let at = course_of a w kept.0 st kept.1 in (
         with_crash w,
         (
           record {
@@ -326,11 +332,11 @@ start_tried w down =
     subst IsTried (sym (starts_next w (begun w.held) down refl)) (started_tried w (begun w.held))
 
 -- a session starts over an honest store: it stands for a new course under the record that is now held
-pub start_done : (p : Parts) (actors' : ActorParts) (kept : Kept) (held : Option Saved) (honest : Bool) (failed' : ℕ)
-    → p.actors.session ≡ None → actors' ≡ record p.actors { session = Some kept }
-    → HasStarted p.honest p.held held p.failed failed' p.actors.window kept
+pub start_done : (p : Parts) (actors' : ActorParts) (kept : Kept) (held : Option Saved) (honest : Bool)
+    (failed' window : ℕ) → p.actors.session ≡ None → actors' ≡ record p.actors { session = Some kept }
+    → window ≡ p.actors.window → HasStarted p.honest p.held held p.failed failed' window kept
     → Moves p Start (Ok Done) (record { actors = actors'; held = held; honest = honest; failed = failed' })
-start_done p actors' kept held honest' failed' down new has honest w st =
+start_done p actors' kept held honest' failed' window down new waits has honest w st =
     let begins : begun w.held ≡ Some has.saved = ap begun (sym st.held) ∙ ap begun (sym (has.given (honest refl)))
     ∙ has.begins in
     let after : WorldState = record w { held = Some has.saved; session = Some (new_course has.saved w.window) } in (
@@ -342,8 +348,8 @@ start_done p actors' kept held honest' failed' down new has honest w st =
                 history = st.actors.history;
                 connector = record {
                   window = st.actors.connector.window;
-                  session = subst (λ (n : ℕ). StandsFor kept (new_course has.saved n)) st.actors.connector.window
-                      has.stands;
+                  session = subst (λ (n : ℕ). StandsFor kept (new_course has.saved n))
+                      (waits ∙ st.actors.connector.window) has.stands;
                   packets = st.actors.connector.packets;
                 };
                 broker = st.actors.broker;

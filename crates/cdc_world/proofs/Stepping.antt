@@ -1,6 +1,8 @@
 -- What is kept of the actors after a step that leaves the store alone, and the state that it stands for.
 use Rattle.std.proofs.Common.{◌≡◌, ℕ, true, IsTrue, List, [], ◌∷◌, Option, Some, None, Result, Ok, Err, refl, sym, ap, ap₂, ◌∙◌, subst, map, length, replicate, arith}
 use Rattle.std.specs.Result.{IsErrAnd}
+use Rattle.std.proofs.lemmas.List.{length-map, length-replicate}
+use Rattle.cdc_broker.specs.Broker.{BrokerState, empty_broker}
 use Rattle.cdc_broker.specs.Queues.{empty_queue}
 use Rattle.cdc_ledger.specs.History.{History}
 use Rattle.cdc_ledger.specs.Submit.{submit}
@@ -14,12 +16,13 @@ use Rattle.cdc_laws.proofs.Places.{none_there}
 use Rattle.cdc_world.specs.declared.steps.Did.{Did}
 use Rattle.cdc_world.specs.declared.steps.Did.TheVariants.{Submitted, Done}
 use Rattle.cdc_world.specs.declared.steps.StepError.{StepError}
-use Rattle.cdc_world.specs.declared.steps.StepError.TheVariants.{NotEnabled, OutOfMemory}
-use Rattle.cdc_world.specs.Moves.{Moves}
+use Rattle.cdc_world.specs.declared.steps.StepError.TheVariants.{NotEnabled, Refused, Store, SessionsExhausted, OutOfMemory}
+use Rattle.cdc_world.specs.Moves.{IsStoreCounted, Moves}
 use Rattle.cdc_world.specs.Next.{IsTried, next, takes_memory, with_batch, with_ledger_closed}
-use Rattle.cdc_world.specs.Parts.{ActorParts, Parts, SubscriptionParts}
+use Rattle.cdc_world.specs.declared.subscriptions.Subscription.{Subscription as Kept_subscription}
+use Rattle.cdc_world.specs.Parts.{ActorParts, Parts, subscription_parts}
 use Rattle.cdc_world.specs.Stands.{ActorsStand, HaveHandedOut, Stands, parts_of, queue_for, view_of}
-use Rattle.cdc_world.specs.Turns.{ActorsMove, empty_actors, empty_subscription}
+use Rattle.cdc_world.specs.Turns.{ActorsMove, IsNotOfStore, IsOfActors, empty_actors, empty_subscription}
 use Rattle.cdc_world.specs.Worlds.{Subscription, WorldState, new_subscription, new_world}
 
 -- ---- of every step
@@ -41,6 +44,13 @@ at_entry_err {q} {a} {new} step answer why is same moves =
     subst (λ (r : Result Did StepError). ActorsMove a step r new) (sym (refusal_is answer why is))
     (at_entry step (Err why) same moves)
 
+-- the same of one that has changed nothing
+pub at_entry_unchanged : {q a : ActorParts} (step : Step) (answer : Result Did StepError) (why : StepError)
+    → IsErrAnd answer (λ e. e ≡ why) → q ≡ a → ActorsMove q step (Err why) q → ActorsMove a step answer a
+at_entry_unchanged {q} {a} step answer why is same moves =
+    subst (λ (r : Result Did StepError). ActorsMove a step r a) (sym (refusal_is answer why is))
+    (subst (λ (r : ActorParts). ActorsMove r step (Err why) r) same moves)
+
 -- a step that has nothing to act on changes nothing
 pub unable : (a : ActorParts) (step : Step) → ((w : WorldState) → ActorsStand a w → next w step ≡ Err NotEnabled)
     → ActorsMove a step (Err NotEnabled) a
@@ -55,12 +65,46 @@ lacking a step takes tried = (tt, λ w st. (w, (st, ((takes, (tried w st, refl))
 pub tried : (w w' : WorldState) (step : Step) (did : Did) → next w step ≡ Ok (did, w') → IsTried (next w step)
 tried w w' step did is = subst IsTried (sym is) tt
 
+-- ---- of the world
+
+-- a step from what is kept as a call begins
+pub moves_entry : {q p new : Parts} (step : Step) (answer : Result Did StepError) → q ≡ p → Moves q step answer new
+    → Moves p step answer new
+moves_entry {q} {p} {new} step answer same moves = subst (λ (r : Parts). Moves r step answer new) same moves
+
+-- a call that gives up on the error of a part
+pub moves_entry_err : {q p new : Parts} (step : Step) (answer : Result Did StepError) (why : StepError)
+    → IsErrAnd answer (λ e. e ≡ why) → q ≡ p → Moves q step (Err why) new → Moves p step answer new
+moves_entry_err {q} {p} {new} step answer why is same moves =
+    subst (λ (r : Result Did StepError). Moves p step r new) (sym (refusal_is answer why is))
+    (moves_entry step (Err why) same moves)
+
 -- a step of the actors is one of the world
-pub Moves-actors : (p p' : Parts) (step : Step) (answer : Result Did StepError)
-    → ActorsMove p.actors step answer p'.actors → p'.held ≡ p.held → Moves p step answer p'
-Moves-actors p p' step answer moves held honest w st =
+pub Moves-actors : (p : Parts) (actors' : ActorParts) (step : Step) (answer : Result Did StepError)
+    → ActorsMove p.actors step answer actors' → Moves p step answer (record p { actors = actors' })
+Moves-actors p actors' step answer moves honest w st =
     let after = moves.1 w st.actors in
-    (after.0, (record { actors = after.1.0; held = held ∙ (st.held ∙ sym after.1.1.1) }, after.1.1.0))
+    (after.0, (record { actors = after.1.0; held = st.held ∙ sym after.1.1.1 }, after.1.1.0))
+
+-- a step of the actors that is refused leaves the store's count of failures
+refused_counted : (failed : ℕ) (why : StepError) → IsNotOfStore why → IsStoreCounted failed failed (Err why)
+refused_counted failed NotEnabled own = refl
+refused_counted failed (Refused why) own = refl
+refused_counted failed (Store why) own = absurd own
+refused_counted failed SessionsExhausted own = refl
+refused_counted failed OutOfMemory own = refl
+
+-- and so does each
+actors_counted : (failed : ℕ) (answer : Result Did StepError) → IsOfActors answer → IsStoreCounted failed failed answer
+actors_counted failed (Ok did) own = refl
+actors_counted failed (Err why) own = refused_counted failed why own
+
+-- the same from what is kept as a call begins
+pub counted_entry : {q p : Parts} (answer : Result Did StepError) → q ≡ p → IsOfActors answer
+    → IsStoreCounted p.failed q.failed answer
+counted_entry {q} {p} answer same own =
+    subst (λ (n : ℕ). IsStoreCounted n q.failed answer) (ap (λ (r : Parts). r.failed) same)
+    (actors_counted q.failed answer own)
 
 -- ---- the ledger's steps
 
@@ -123,6 +167,14 @@ new_handed (binding ∷ bindings) = (
   },
   new_handed bindings,
 )
+
+-- as many subscriptions as queues
+pub new_counts : (bindings : List Arguments) (count : ℕ) (items : List Kept_subscription) (b : BrokerState)
+    → count ≡ length bindings → map subscription_parts items ≡ replicate count empty_subscription
+    → b ≡ empty_broker bindings → length items ≡ length b.queues
+new_counts bindings count items b counted kept is =
+    sym (length-map items subscription_parts) ∙ (ap length kept ∙ (length-replicate count empty_subscription ∙ (counted
+    ∙ (sym (length-map bindings empty_queue) ∙ ap (λ (b : BrokerState). length b.queues) (sym is)))))
 
 -- so actors who have done nothing stand for a new world
 pub new_stands : (p : Parts) (bindings : List Arguments) (window : ℕ) (held : Option Saved)

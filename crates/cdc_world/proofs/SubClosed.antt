@@ -9,7 +9,7 @@ use Rattle.cdc_message.specs.declared.items.Delivery.{Delivery}
 use Rattle.cdc_message.specs.declared.packets.Packet.{Packet}
 use Rattle.cdc_progress.specs.Records.{Saved}
 use Rattle.cdc_publisher.specs.Courses.{Course, begun, next_packet, wanted}
-use Rattle.cdc_subscriber.specs.Heard.{Heard, has_ended, next}
+use Rattle.cdc_subscriber.specs.Heard.{Heard, has_ended}
 use Rattle.cdc_types.specs.declared.batches.BatchResults.{BatchResults}
 use Rattle.cdc_world.specs.declared.steps.Did.{Did}
 use Rattle.cdc_types.specs.declared.steps.Step.{Step}
@@ -145,26 +145,26 @@ AllStay-step w (step.Close i) =
 -- whatever is answered
 pub AllStay-next : (w : WorldState) (s : Step) (answer : Result Did StepError) (w' : WorldState)
     → Next w s answer w' → AllStay w w'
-AllStay-next w s answer w' next =
-    next_leaves (AllStay w) w s answer w' next (AllStay-same w) (λ saved. AllStay-same w)
+AllStay-next w s answer w' is =
+    next_leaves (AllStay w) w s answer w' is (AllStay-same w) (λ saved. AllStay-same w)
     (AllStay-step w s)
 
 -- ---- steps in a row
 
 -- one that stays twice stays
 Stays-trans : (a b c : Subscription) → Stays a b → Stays b c → Stays a c
-Stays-trans a b c first then = record {
-  binding = then.binding ∙ first.binding;
+Stays-trans a b c first second = record {
+  binding = second.binding ∙ first.binding;
   closed = λ shut.
       let same : b.heard ≡ a.heard = first.closed shut in
-      then.closed (ap (λ (heard : Heard). heard.closed) same ∙ shut) ∙ same;
+      second.closed (ap (λ (heard : Heard). heard.closed) same ∙ shut) ∙ same;
 }
 
 -- and so do all
 pub AllStay-trans : (w between w' : WorldState) → AllStay w between → AllStay between w' → AllStay w w'
-AllStay-trans w between w' first then i before found =
+AllStay-trans w between w' first second i before found =
     let b = first i before found in
-    let c = then i b.0 b.1 in
+    let c = second i b.0 b.1 in
     (c.0, c.1, Stays-trans before b.0 c.0 b.2 c.2)
 
 -- through steps that are all done

@@ -205,11 +205,11 @@ AreQueued-step w (step.Close i) are =
 pub next_leaves : (P : WorldState → Type 0) (w : WorldState) (s : Step)
     (answer : Result Did StepError) (w' : WorldState) → Next w s answer w' → P w
     → ((saved : Saved) → P (record w { held = Some saved })) → Leaves P (next w s) → P w'
-next_leaves P w s (Ok did) w' next before held holds = Leaves_so P (next w s) did w' holds next
-next_leaves P w s (Err NotEnabled) w' next before held holds = subst P (sym next.1) before
-next_leaves P w s (Err (Refused why)) w' next before held holds = subst P (sym next.1) before
-next_leaves P w s (Err SessionsExhausted) w' next before held holds = subst P (sym next.1) before
-next_leaves P w s (Err OutOfMemory) w' next before held holds = subst P (sym next.1.1) before
+next_leaves P w s (Ok did) w' is before held holds = Leaves_so P (next w s) did w' holds is
+next_leaves P w s (Err NotEnabled) w' is before held holds = subst P (sym is.1) before
+next_leaves P w s (Err (Refused why)) w' is before held holds = subst P (sym is.1) before
+next_leaves P w s (Err SessionsExhausted) w' is before held holds = subst P (sym is.1) before
+next_leaves P w s (Err OutOfMemory) w' is before held holds = subst P (sym is.1.1) before
 next_leaves P w s (Err (Store store.ReadFault)) w' (uses, (tried, (loads, same))) before held holds =
     subst P (sym same) before
 next_leaves P w s (Err (Store store.WriteFault)) w' (uses, (tried, (saved, is, either))) before held holds =
@@ -217,14 +217,14 @@ next_leaves P w s (Err (Store store.WriteFault)) w' (uses, (tried, (saved, is, e
       | inl same ↦ subst P (sym same) before
       | inr new ↦ subst P (sym new) (held saved)
     ]
-next_leaves P w s (Err (Store store.BadRecord)) w' next before held holds = absurd next.1.1
-next_leaves P w s (Err (Store store.OutOfMemory)) w' next before held holds = absurd next.1.1
+next_leaves P w s (Err (Store store.BadRecord)) w' is before held holds = absurd is.1.1
+next_leaves P w s (Err (Store store.OutOfMemory)) w' is before held holds = absurd is.1.1
 
 -- and so does every step, whatever its answer
 AreQueued-next : (w : WorldState) (s : Step) (answer : Result Did StepError) (w' : WorldState)
     → Next w s answer w' → AreQueued w → AreQueued w'
-AreQueued-next w s answer w' next are =
-    next_leaves AreQueued w s answer w' next are (λ saved. are) (AreQueued-step w s are)
+AreQueued-next w s answer w' is are =
+    next_leaves AreQueued w s answer w' is are (λ saved. are) (AreQueued-step w s are)
 
 -- and steps in a row
 AreQueued-leads : (w : WorldState) (steps : List Step) (w' : WorldState)

@@ -1,6 +1,6 @@
 -- What is kept of the actors after a step of a subscriber and its queue.
-use Rattle.std.proofs.Common.{◌≡◌, ℕ, suc, ◌+◌, ◌-◌, ◌<◌, ◌≤◌, ◌==◌, max, Bool, true, false, List, [], ◌∷◌, ◌++◌, Option, Some, None, Result, Ok, Err, refl, sym, ap, ap₂, ◌∙◌, subst, map, length, drop, get_or, inl, inr, arith}
-use Rattle.std.specs.Prelude.{Contains, MatchResult, is_ok, nat_lt, ◌||◌, not, option_map, slice_set, unwrap_or, if◌then◌else◌}
+use Rattle.std.proofs.Common.{◌≡◌, ℕ, zero, suc, ◌+◌, ◌-◌, ◌<◌, ◌≤◌, ◌==◌, max, Bool, true, false, List, [], ◌∷◌, ◌++◌, Option, Some, None, Result, Ok, Err, refl, sym, ap, ap₂, ◌∙◌, subst, map, length, drop, get_or, inl, inr, arith}
+use Rattle.std.specs.Prelude.{Contains, MatchResult, is_ok, nat_lt, ◌||◌, not, ok_or, option_map, slice_set, unwrap_or, if◌then◌else◌}
 use Rattle.std.specs.List.{slice_get}
 use Rattle.std.proofs.lemmas.List.{length-map, map-set}
 use Rattle.std.proofs.lemmas.List.Elements.{Contains-push_cases}
@@ -561,19 +561,30 @@ close_done a i s s' above here has = (
 
 -- ---- by the place that the code finds
 
--- there is no subscription of this number, so a step that acts on one isn't enabled
-pub none_of_number : (a : ActorParts) (step : Step) (i count : ℕ) (items : List Kept_subscription)
-    (rest : WorldState → Subscription → Outcome)
-    → ((w : WorldState) → next w step ≡ (numbered w.subscriptions i >>= rest w))
-    → a.subscriptions ≡ map subscription_parts items → count ≡ length items → place_in i count ≡ None
-    → ActorsMove a step (Err NotEnabled) a
-none_of_number a step i count items rest is same counted none =
-    unable a step
-    (λ w st.
-    let many : count ≡ length w.subscriptions =
-    counted ∙ sym (length-map items subscription_parts) ∙ ap length (sym same ∙ st.subscribers.subscriptions)
-    ∙ length-map w.subscriptions parts_of in
-    is w ∙ ap (λ (found : Option Subscription). found >>= rest w) (numbered_none w.subscriptions i count many none))
+-- where no place is found, the step isn't enabled
+refused_none : (place : Option ℕ) (why : StepError) → ok_or place NotEnabled ≡ Err why → (place ≡ None) × (why ≡ NotEnabled)
+refused_none None why is = (refl, cc)
+refused_none (Some place) why is = cc
+
+-- within a list something stands
+slice_get_within : {X : Type 0} (xs : List X) (k : ℕ) → k < length xs → (x : X) × (slice_get xs k ≡ Some x)
+slice_get_within [] k inside = absurd (omega arith)
+slice_get_within (x ∷ xs) zero inside = (x, refl)
+slice_get_within (x ∷ xs) (suc k) inside = slice_get_within xs k (omega arith)
+
+-- the queue of a subscriber goes back, by the place that the code finds for the number
+pub rewind_at : (a : ActorParts) (i count place : ℕ) (items : List Kept_subscription) (b' : BrokerState)
+    → a.subscriptions ≡ map subscription_parts items → count ≡ length items → place_in i count ≡ Some place
+    → b' ≡ with_queue (place + 1) (rewound_queue (queue_of a.broker (place + 1))) a.broker
+    → ActorsMove a (Rewind i) (Ok Done) (record a { broker = b' })
+rewind_at a i count place items b' same counted found state =
+    let at = place_is i count place found in
+    let many : length a.subscriptions ≡ length items = ap length same ∙ length-map items subscription_parts in
+    let kept = slice_get_within a.subscriptions (i - 1) (omega (arith, at.inside, counted, many)) in
+    let number : place + 1 ≡ i = omega (arith, at.above, at.here) in
+    subst (λ (b : BrokerState). ActorsMove a (Rewind i) (Ok Done) (record a { broker = b }))
+    (sym (state ∙ ap (λ (n : ℕ). with_queue n (rewound_queue (queue_of a.broker n)) a.broker) number))
+    (rewind_done a i kept.0 at.above kept.1)
 
 module _ (a : ActorParts) (i count place : ℕ) (items : List Kept_subscription) (s : Kept_subscription)
     (same : a.subscriptions ≡ map subscription_parts items) (counted : count ≡ length items)
@@ -631,15 +642,6 @@ module _ (a : ActorParts) (i count place : ℕ) (items : List Kept_subscription)
       (subst (λ (n : ℕ). HandsAt n a.broker (subscription_parts s) (next_of_queue (queue_of a.broker n)) (Err why) b'
       (subscription_parts s')) number_is hands))
 
-  -- or goes back
-  pub rewind_at : (b' : BrokerState)
-      → b' ≡ with_queue (place + 1) (rewound_queue (queue_of a.broker (place + 1))) a.broker
-      → ActorsMove a (Rewind i) (Ok Done) (record a { broker = b' })
-  rewind_at b' state =
-      subst (λ (b : BrokerState). ActorsMove a (Rewind i) (Ok Done) (record a { broker = b }))
-      (sym (state ∙ ap (λ (n : ℕ). with_queue n (rewound_queue (queue_of a.broker n)) a.broker) number_is))
-      (rewind_done a i (subscription_parts s) is_at.above kept_at)
-
   -- or goes back while what is on its way is lost
   pub break_at : (s' : Kept_subscription) (b' : BrokerState)
       → b' ≡ with_queue (place + 1) (rewound_queue (queue_of a.broker (place + 1))) a.broker
@@ -693,9 +695,12 @@ module _ (a : ActorParts) (i count place : ℕ) (items : List Kept_subscription)
       else a.broker) number_is)
 
   -- one that it never gave doesn't
-  pub ack_at_none : (k : ℕ) → numbered (subscription_parts s).acks k ≡ None
-      → ActorsMove a (Ack i k) (Err NotEnabled) a
-  ack_at_none k none = ack_none a i k (subscription_parts s) is_at.above kept_at none
+  pub ack_at_none : (k : ℕ) (why : StepError) (place' : Option ℕ) → ok_or place' NotEnabled ≡ Err why
+      → (place' ≡ None → numbered (subscription_parts s).acks k ≡ None) → ActorsMove a (Ack i k) (Err why) a
+  ack_at_none k why place' refused none =
+      let is = refused_none place' why refused in
+      subst (λ (e : StepError). ActorsMove a (Ack i k) (Err e) a) (sym is.1)
+      (ack_none a i k (subscription_parts s) is_at.above kept_at (none is.0))
 
   -- it closes
   pub close_at : (s' : Kept_subscription) → HasClosed (subscription_parts s) (subscription_parts s')
