@@ -37,7 +37,17 @@ cat >"$room/bin/rt" <<'RT'
 name=$(basename "$PWD")
 echo "$name: $*" >>"$CALLS"
 case "$1" in
-lib) ;;
+lib)
+    # one that is named in SLOW waits for the other that is named there, and at most so many seconds
+    if [ -f "$SLOW" ] && grep -q "^$name " "$SLOW"; then
+        read -r _ other seconds < <(grep "^$name " "$SLOW")
+        for _ in $(seq $((10 * seconds))); do
+            if grep -q "^$other: " "$CALLS"; then break; fi
+            sleep 0.1
+        done
+        echo "$name: done" >>"$CALLS"
+    fi
+    ;;
 run)
     mkdir -p out
     # the real one leaves a program alone whose sources have the content that it was built from
@@ -58,7 +68,7 @@ if [ -f "$REFUSED" ] && [ "$name" = "$(cat "$REFUSED")" ]; then
 fi
 RT
 chmod +x "$room/bin/rt"
-export PATH=$room/bin:$PATH CALLS=$room/calls REFUSED=$room/refused
+export PATH=$room/bin:$PATH CALLS=$room/calls REFUSED=$room/refused SLOW=$room/slow
 
 call() { # runs the script; $out, $err, $status and $calls say what came of it
     : >"$CALLS"
@@ -68,8 +78,8 @@ call() { # runs the script; $out, $err, $status and $calls say what came of it
     calls=$(cat "$CALLS")
 }
 
-built='low: lib
-high: lib
+built='low: lib --jobs 1
+high: lib --jobs 1
 cdc_app: run -- --version'
 
 call "$room/top/relayplum" books x
@@ -126,6 +136,46 @@ check 'and again, until it is mended' 1 "$status"
 rm "$REFUSED"
 call "$room/top/relayplum" books x
 check 'a mended crate builds' "$built" "$calls"
+
+# Side by side: `side` stands on nothing, so it starts beside `low`, and `high` only after both. Lines come in any order.
+mkdir -p "$room/top/crates/side/src"
+echo '// side' >"$room/top/crates/side/src/lib.rt"
+printf 'cdc_app : low, high side clap\nhigh may_abort=0: low  side # both\n\nlow:\nside:\n' >"$room/top/crates.txt"
+printf 'low side 5\nside low 5\n' >"$SLOW"
+RT_JOBS=2 call "$room/top/relayplum" books x
+check 'side by side: the program runs' 'run with books x' "$out"
+check 'side by side: each has begun before the other ends' "$(printf '%s\n' 'low: lib --jobs 1' 'side: lib --jobs 1')" \
+    "$(head -n 2 <<<"$calls" | LC_ALL=C sort)"
+check 'side by side: what stands on both comes after them' "$(printf '%s\n' 'low: done' 'side: done' 'high: lib --jobs 1' \
+    'cdc_app: run -- --version')" "$(tail -n +3 <<<"$calls" | sed '1,2{s/^side: done$/low: done/;}' | sed '2s/low/side/')"
+has 'side by side: it says what it waits for' '^relayplum: proving side, 2 of 4$' "$err"
+has 'side by side: the last' '^relayplum: cdc_app proved, 4 of 4, [0-9]* s$' "$err"
+
+echo '// again' >>"$room/top/crates/side/src/lib.rt"
+printf 'low side 1\nside low 1\n' >"$SLOW"
+RT_JOBS=1 call "$room/top/relayplum" books x
+check 'one at a time: in turn' "$(printf '%s\n' 'low: lib --jobs 1' 'low: done' 'side: lib --jobs 1' 'side: done' \
+    'high: lib --jobs 1' 'cdc_app: run -- --version')" "$calls"
+
+# One that is refused ends the other that is being proved.
+echo low >"$REFUSED"
+echo '// wrong' >>"$room/top/crates/low/src/lib.rt"
+printf 'low side 5\nside none 5\n' >"$SLOW"
+RT_JOBS=2 call "$room/top/relayplum" books x
+check 'side by side: one that is refused ends the script' 1 "$status"
+has 'side by side: it names the crate' '^relayplum: low isn.t proved$' "$err"
+has 'side by side: it shows why' 'a goal is open' "$err"
+sleep 6
+check 'side by side: the other is ended too' '' "$(grep 'side: done' "$CALLS")"
+rm "$REFUSED" "$SLOW"
+
+printf 'low: side\nside: low\nhigh:\ncdc_app: high\n' >"$room/top/crates.txt"
+call "$room/top/relayplum" books x
+check 'crates that wait for one another: the script ends' 1 "$status"
+has 'crates that wait for one another: it says so' '^relayplum: crates.txt: these wait for one another: low side side low$' "$err"
+printf 'low:\nhigh: low\ncdc_app: low high clap\n' >"$room/top/crates.txt"
+call "$room/top/relayplum" books x
+check 'and then the program runs again' 'run with books x' "$out"
 
 ln -s "$room/top/relayplum" "$room/elsewhere/link"
 cd "$room/elsewhere" || exit 1

@@ -122,6 +122,10 @@ bad_words "'--window'" books one.script --window
 bad_words '<FILE>' simulate
 bad_words '<STEPS>' simulate one.script
 bad_words "'--fast'" simulate one.script three.steps --fast
+bad_words "'other.steps'" simulate one.script three.steps other.steps
+bad_words "'--window" simulate one.script three.steps --window
+bad_words "'--window" simulate one.script three.steps --window 1 --window 1
+bad_words "'--window'" books one.script --window 1
 for window in 0 2 64 65 x ''; do
     bad_words 'a window is 1' simulate one.script three.steps --window "$window"
 done
@@ -172,6 +176,11 @@ same 'too long: standard output' 'fault: script line 0: too_long
 ' "$out"
 has 'too long: standard error' 'long.script: too_long: ' "$err"
 has 'too long: how long' '1048576' "$err"
+head -c 1048576 /dev/zero | tr '\0' ' ' >long.script
+run books long.script
+same 'as long as a script may be: status' 2 "$status"
+same 'as long as a script may be: standard output' 'fault: script line 0: no_subscriber
+' "$out"
 printf 'subscriber all\naccounts x\n' >input
 run books -
 has 'a bad script on standard input' 'standard input:2: bad_number: ' "$err"
@@ -217,7 +226,8 @@ progress 1 0
 subscriber 1 applied 0 last 0 ended no closed no
 '
 printf '%s' "$one_transfer" >input
-for words in 'one.script three.steps' '- three.steps' 'one.script three.steps --window 1' '--window=01 - ./three.steps'; do
+for words in 'one.script three.steps' '- three.steps' 'one.script three.steps --window 1' '--window=01 - ./three.steps' \
+    'one.script --window 1 -- three.steps'; do
     run simulate $words
     same "words 'simulate $words'" "$its_world" "$out"
     ends_well "words 'simulate $words'"
@@ -256,11 +266,19 @@ bad_steps() {
     has "steps, $fault: what was expected" "$expected" "$err"
 }
 bad_steps 2 bad_text 'printable ASCII' 'start\npoll\t\n'
-bad_steps 1 unknown_word 'send or take' 'crash\n'
+bad_steps 1 unknown_word 'send or take' 'jump\n'
 bad_steps 1 wrong_count 'have one number' 'arrive\n'
 bad_steps 1 bad_number 'a number is one or more digits from 0 to 9' 'arrive x\n'
 bad_steps 1 number_out_of_range '64 bits' 'answer 18446744073709551616\n'
 bad_steps 0 too_long '1048576' "$(head -c 1048577 /dev/zero | tr '\0' ' ')"
+head -c 1048576 /dev/zero | tr '\0' ' ' >long.steps
+printf 'subscriber all\n' >alone.script
+run simulate alone.script long.steps
+same 'as long as a step file may be' 'steps 0 of 0
+progress none
+subscriber 1 applied 0 last 0 ended no closed no
+' "$out"
+ends_well 'as long as a step file may be'
 run simulate one.script no-such.steps
 same 'no step file: status' 1 "$status"
 same 'no step file: standard output' 'fault: read_fault
@@ -312,6 +330,24 @@ run books "$top/examples/refusals.script"
 same 'the example of refusals' "$its_refusals" "$out"
 ends_well 'the example of refusals'
 
+# A batch of 1,001 accounts, and batches at the greatest timestamp.
+{
+    printf '%s\n' 'subscriber all' 'accounts 1'
+    for id in {1..1001}; do echo "account id=$id ledger=1 code=1"; done
+    printf '%s\n' 'accounts 9223372036854775807' 'account id=1 ledger=1 code=1' 'account id=2 ledger=1 code=1'
+    printf '%s\n' 'accounts 9223372036854775807' 'account id=1 ledger=1 code=1'
+    printf '%s\n' 'pulse 5' 'accounts 5' 'account id=2 ledger=1 code=1'
+} >crowded.script
+run books crowded.script
+same 'batches that are refused' 'batch 1 refused: 2 batch_too_large
+batch 2 refused: 3 timestamps_exhausted
+batch 3: 0
+batch 4: pulse 0
+batch 5 refused: 3 timestamps_exhausted
+subscriber 1 applied 0 last 0 ended yes closed no
+' "$out"
+ends_well 'batches that are refused'
+
 # A large simulation: 10,000 transfers, each of which is published, confirmed and taken, in 60,014 steps.
 {
     printf '%s\n' 'subscriber all' 'accounts 1000' 'account id=1 ledger=700 code=10' 'account id=2 ledger=700 code=10'
@@ -338,6 +374,17 @@ run simulate large.script large.steps
 found=$(tail -n 5 output)
 same 'a large simulation' "$its_end" "$found"
 ends_well 'a large simulation'
+
+# The books and the messages of that script.
+its_end='subscriber 1 applied 10000 last 11999 ended yes closed no
+account 1 0 10000 0 0
+account 2 0 0 0 10000'
+run books large.script
+same 'a large script' "$its_end" "$(tail -n 3 output)"
+ends_well 'a large script'
+run messages large.script
+same 'a large script: lines of its messages' 20000 "$(wc -l <output)"
+ends_well 'a large script: its messages'
 
 # Bodies are JSON texts to an outside reader too.
 if command -v python3 >/dev/null; then

@@ -2,8 +2,6 @@
 use Rattle.std.specs.Prelude.{ℕ, ◌≡◌, Result, Ok, Err, List, [], ◌∷◌, ◌++◌, codes}
 use Rattle.std.proofs.Common.{refl}
 use Rattle.std.specs.Fmt.{digits}
-use Rattle.cdc_types.specs.declared.accounts.NewAccount.{NewAccount}
-use Rattle.cdc_types.specs.declared.batches.Batch.TheVariants as batch
 use Rattle.cdc_types.specs.declared.batches.BatchResults.TheVariants as results
 use Rattle.cdc_types.specs.declared.events.Event.{Event}
 use Rattle.cdc_types.specs.declared.events.EventAccount.{EventAccount}
@@ -14,70 +12,11 @@ use Rattle.cdc_match.specs.declared.pairs.Mode.TheVariants as mode
 use Rattle.cdc_match.specs.declared.pairs.Pair.TheVariants as pair
 use Rattle.cdc_message.specs.Bodies.{body}
 use Rattle.cdc_app.specs.declared.endings.Ending.TheVariants.{Done, BadScript}
-use Rattle.cdc_app.specs.declared.faults.FaultKind.{FaultKind}
-use Rattle.cdc_app.specs.declared.faults.FaultKind.TheVariants as kind
-use Rattle.cdc_app.specs.declared.faults.ScriptFault.{ScriptFault}
-use Rattle.cdc_app.specs.declared.scripts.Script.{Script}
+use Rattle.cdc_script.specs.declared.faults.FaultKind.TheVariants as kind
 use Rattle.cdc_app.specs.Feeds.{line_of, subscribers_text}
 use Rattle.cdc_app.specs.Held.{every_event}
-use Rattle.cdc_app.specs.Printed.{outcome_of}
-use Rattle.cdc_app.specs.declared.commands.Report.TheVariants.{Books, Messages}
+use Rattle.cdc_app.specs.Printed.{books_outcome, messages_outcome}
 use Rattle.cdc_app.specs.Report.{batch_line}
-use Rattle.cdc_app.specs.Scripts.{script_of}
-
--- an account of ledger 700
-abbrev account : ℕ → ℕ → NewAccount
-account id code =
-    record { id = id; user_data_128 = 0; user_data_64 = 0; user_data_32 = 0; ledger = 700; code = code; flags = 0 }
-
--- the fault of a line
-abbrev fault : ℕ → FaultKind → Result Script ScriptFault
-fault line kind = Err (record { line = line; kind = kind })
-
--- a script with a comment, a blank line and a carriage return: two batches, the second one of client 2 and empty
-reads_batches : script_of
-    (codes "# a comment\nsubscriber all\r\naccounts 1000\naccount id=1 ledger=700\n\n"
-    ++ codes "account code=10 ledger=700 id=002\nclient 2\ntransfers 2000\n")
-    ≡ Ok (record {
-      bindings = record { mode = mode.All; pairs = [] } ∷ [];
-      batches =
-          record { client = 1; batch = batch.Accounts 1000 (account 1 0 ∷ account 2 10 ∷ []) }
-          ∷ record { client = 2; batch = batch.Transfers 2000 [] } ∷ [];
-    })
-reads_batches = refl
-
--- a moment that is no number; of two faults the one that stands first; of one word the least
-refuses_words : (script_of (codes "subscriber all\naccounts x\n") ≡ fault 2 kind.BadNumber)
-    × (script_of (codes "subscriber all\nclient 9 9\n") ≡ fault 2 kind.BadClient)
-    × (script_of (codes "subscriber all\naccounts 5\naccount id=1 id=x\n") ≡ fault 3 kind.BadNumber)
-    × (script_of (codes "subscriber all\naccounts 5\naccount id=1 id=2\n") ≡ fault 3 kind.KeyTwice)
-refuses_words = (refl, refl, refl, refl)
-
--- an item outside its batch, a ninth subscriber whatever its binding, and a script without one
-refuses_lines : (script_of (codes "subscriber all\naccount x\n") ≡ fault 2 kind.NoOpenBatch)
-    × (script_of
-    (codes "subscriber all\nsubscriber all\nsubscriber all\nsubscriber all\n"
-    ++ codes "subscriber all\nsubscriber all\nsubscriber all\nsubscriber all\nsubscriber x\n")
-    ≡ fault 9 kind.TooManySubscribers)
-    × (script_of [] ≡ fault 0 kind.NoSubscriber)
-refuses_lines = (refl, refl, refl)
-
--- subscribers with bindings of their own, in the order of their lines
-reads_bindings : script_of (codes "subscriber any ledger=700 event_type=single_phase\nsubscriber all\n")
-    ≡ Ok (record {
-      bindings = record { mode = mode.Any; pairs = pair.Ledger 700 ∷ pair.EventType SinglePhase ∷ [] }
-          ∷ record { mode = mode.All; pairs = [] } ∷ [];
-      batches = [];
-    })
-reads_bindings = refl
-
--- a binding without a mode, or with another key; a byte that isn't printable, right of such a fault, left of it, at it
-refuses_bindings : (script_of (codes "subscriber\n") ≡ fault 1 kind.BadBinding)
-    × (script_of (codes "subscriber all id=1\n") ≡ fault 1 kind.BadBinding)
-    × (script_of (codes "subscriber none \t\n") ≡ fault 1 kind.BadBinding)
-    × (script_of (codes "subscriber all \t id=1\n") ≡ fault 1 kind.BadText)
-    × (script_of (codes "subscriber all id=\t\n") ≡ fault 1 kind.BadText)
-refuses_bindings = (refl, refl, refl, refl, refl)
 
 -- the lines of batches
 prints_batches : (batch_line 2 (Ok (results.Transfers (Accepted ∷ OverflowsDebitsPosted ∷ [])))
@@ -147,7 +86,7 @@ one_transfer =
     ++ codes "transfer id=1 debit_account_id=1 credit_account_id=2 amount=100 ledger=700 code=1\n"
 
 -- from bytes to bytes: the book of one transfer
-prints_transfer : outcome_of Books one_transfer ≡ record {
+prints_transfer : books_outcome one_transfer ≡ record {
   text = codes "batch 1: 0 0\nbatch 2: 0\nsubscriber 1 applied 1 last 2000 ended yes closed no\n"
       ++ codes "account 1 0 100 0 0\naccount 2 0 0 0 100\n";
   ending = Done;
@@ -175,13 +114,13 @@ its_body =
     ++ codes "\"user_data_32\":0,\"user_data_64\":\"0\"},\"type\":\"single_phase\"}"
 
 -- from bytes to bytes: the message of one transfer
-prints_message : outcome_of Messages one_transfer
+prints_message : messages_outcome one_transfer
     ≡ record { text = its_headers ++ codes "\n" ++ (its_body ++ codes "\n"); ending = Done }
 unfolding digits body
 prints_message = refl
 
 -- from bytes to bytes: a bad script
-prints_fault : outcome_of Messages (codes "subscriber all\naccounts x") ≡ record {
+prints_fault : messages_outcome (codes "subscriber all\naccounts x") ≡ record {
   text = codes "fault: script line 2: bad_number\n";
   ending = BadScript (record { line = 2; kind = kind.BadNumber });
 }

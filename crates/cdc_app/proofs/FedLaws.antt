@@ -28,7 +28,7 @@ use Rattle.cdc_subscriber.specs.Book.{accounts_of, book_of}
 use Rattle.cdc_subscriber.specs.Heard.{Heard, is_end, kept_of, next, nothing}
 use Rattle.cdc_subscriber.specs.Kept.{Kept}
 use Rattle.cdc_world.proofs.BookLaws.{book_of-prefix}
-use Rattle.cdc_app.specs.declared.scripts.Script.{Script}
+use Rattle.cdc_script.specs.declared.scripts.Script.{Script}
 use Rattle.cdc_app.specs.Feeds.{fed, hearing, line_of}
 use Rattle.cdc_app.specs.Held.{HasWholeFeed, HoldsBalances, entry_as_of, every_event}
 use Rattle.cdc_app.specs.Printed.{history_after, history_of}

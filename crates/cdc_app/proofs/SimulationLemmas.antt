@@ -9,14 +9,14 @@ use Rattle.cdc_subscriber.specs.Heard.{kept_of}
 use Rattle.cdc_subscriber.specs.Kept.{Kept}
 use Rattle.cdc_subscriber.specs.Lines.{subscriber_text}
 use Rattle.cdc_world.specs.declared.steps.Did.{Did}
-use Rattle.cdc_world.specs.declared.steps.Step.{Step}
+use Rattle.cdc_types.specs.declared.steps.Step.{Step}
 use Rattle.cdc_world.specs.declared.steps.StepError.{StepError}
 use Rattle.cdc_world.specs.Next.{Next}
 use Rattle.cdc_world.specs.Stands.{Parts, Stands}
 use Rattle.cdc_world.specs.Worlds.{Subscription, WorldState, numbered}
-use Rattle.cdc_app.specs.declared.scripts.ClientBatch.{ClientBatch}
+use Rattle.cdc_script.specs.declared.scripts.ClientBatch.{ClientBatch}
 use Rattle.cdc_app.specs.declared.simulations.Simulation.{Simulation}
-use Rattle.cdc_app.specs.declared.step_files.Act.{Act}
+use Rattle.cdc_script.specs.declared.step_files.Act.{Act}
 use Rattle.cdc_app.specs.Private.Stages.{IsAt}
 use Rattle.cdc_app.specs.Simulations.{ActsTo, AnswersTo, PlaysTo, Stage, asked, did_text, moved_on, progress_line, refusal_line, simulation_text, steps_line, subscriptions_text}
 use Rattle.cdc_app.proofs.TextLemmas.{pieces}

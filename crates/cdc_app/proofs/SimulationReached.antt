@@ -3,15 +3,15 @@ use Rattle.std.proofs.Common.{◌≡◌, ℕ, ◌+◌, List, [], ◌∷◌, Some
 use Rattle.std.specs.Prelude.{Option, All}
 use Rattle.std.proofs.lemmas.Option.{slice_get-get_or}
 use Rattle.cdc_match.specs.Arguments.{Arguments}
-use Rattle.cdc_world.specs.declared.steps.Step.{Step}
+use Rattle.cdc_types.specs.declared.steps.Step.{Step}
 use Rattle.cdc_world.specs.declared.steps.StepError.{StepError}
 use Rattle.cdc_world.specs.Headline.{IsFaithful}
 use Rattle.cdc_world.specs.Next.{IsReached, LeadsBy, offered}
 use Rattle.cdc_world.specs.Worlds.{WorldState}
 use Rattle.cdc_world.proofs.Reached.{faithful-reached}
-use Rattle.cdc_app.specs.declared.scripts.ClientBatch.{ClientBatch}
-use Rattle.cdc_app.specs.declared.scripts.Script.{Script}
-use Rattle.cdc_app.specs.declared.step_files.Act.{Act}
+use Rattle.cdc_script.specs.declared.scripts.ClientBatch.{ClientBatch}
+use Rattle.cdc_script.specs.declared.scripts.Script.{Script}
+use Rattle.cdc_script.specs.declared.step_files.Act.{Act}
 use Rattle.cdc_app.specs.Simulations.{AnswersTo, PlaysTo, Simulates, Stage, asked, at_start, simulation_text}
 use Rattle.cdc_app.proofs.SimulationLemmas.{numbered_found}
 
@@ -70,7 +70,8 @@ all_faithful bindings window batches acts refusal end plays = λ k d inside.
 pub simulated : (script : Script) (window : ℕ) (acts : List Act) (refusal : Option StepError) (printed : List ℕ)
     (batches : List ClientBatch) (bindings : List Arguments) (end : Stage) → batches ≡ script.batches
     → bindings ≡ script.bindings → PlaysTo batches (at_start bindings window) acts refusal end
-    → printed ≡ simulation_text (length acts) refusal end → Simulates script window acts refusal printed
+    → printed ≡ simulation_text (length acts) refusal end
+    → Simulates (record { script = script; window = window; acts = acts }) refusal printed
 simulated script window acts refusal printed batches bindings end whose of plays prints =
     let of_script : PlaysTo script.batches (at_start script.bindings window) acts refusal end =
     subst (λ (bs : List ClientBatch). PlaysTo bs (at_start script.bindings window) acts refusal end) whose

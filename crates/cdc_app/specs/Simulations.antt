@@ -7,18 +7,18 @@ use Rattle.cdc_subscriber.specs.Heard.{kept_of}
 use Rattle.cdc_subscriber.specs.Lines.{subscriber_text}
 use Rattle.cdc_world.specs.declared.steps.Did.{Did}
 use Rattle.cdc_world.specs.declared.steps.Did.TheVariants.{Submitted, Arrived, Counted, Took, Done}
-use Rattle.cdc_world.specs.declared.steps.Step.{Step}
-use Rattle.cdc_world.specs.declared.steps.Step.TheVariants as step
+use Rattle.cdc_types.specs.declared.steps.Step.{Step}
+use Rattle.cdc_types.specs.declared.steps.Step.TheVariants as step
 use Rattle.cdc_world.specs.declared.steps.StepError.{StepError}
 use Rattle.cdc_world.specs.declared.steps.StepError.TheVariants.{NotEnabled}
 use Rattle.cdc_world.specs.Errors.{step_error_name}
 use Rattle.cdc_world.specs.Headline.{IsFaithful}
 use Rattle.cdc_world.specs.Next.{Next}
 use Rattle.cdc_world.specs.Worlds.{Subscription, WorldState, new_world}
-use Rattle.cdc_app.specs.declared.scripts.ClientBatch.{ClientBatch}
-use Rattle.cdc_app.specs.declared.scripts.Script.{Script}
-use Rattle.cdc_app.specs.declared.step_files.Act.{Act}
-use Rattle.cdc_app.specs.declared.step_files.Act.TheVariants as act
+use Rattle.cdc_script.specs.declared.scripts.ClientBatch.{ClientBatch}
+use Rattle.cdc_script.specs.declared.scripts.Script.{Script}
+use Rattle.cdc_script.specs.declared.step_files.Act.{Act}
+use Rattle.cdc_script.specs.declared.step_files.Act.TheVariants as act
 use Rattle.cdc_app.specs.Report.{batch_line, spaced}
 
 -- how far a simulation has come: the world, how many of the script's batches are done, their lines, and how many acts
@@ -110,11 +110,16 @@ simulation_text all refusal end =
     end.lines ++ (steps_line end.done all ++ (refusal_line end.done refusal
     ++ (progress_line end.world.held ++ subscriptions_text 1 end.world.subscriptions)))
 
--- a simulation of this script by these acts prints this: the lines of a world that they lead to, each of whose
--- subscribers is faithful
-pub record Simulates (script : Script) (window : ℕ) (acts : List Act) (refusal : Option StepError) (printed : List ℕ)
-    : Type 0 where
+-- what is simulated: a script, the window of its sessions, and the acts
+pub record Plan : Type 0 where
+  pub script : Script
+  pub window : ℕ
+  pub acts : List Act
+
+-- a simulation of this plan prints this: the lines of a world that its acts lead to, each of whose subscribers is
+-- faithful
+pub record Simulates (plan : Plan) (refusal : Option StepError) (printed : List ℕ) : Type 0 where
   pub end : Stage
-  pub plays : PlaysTo script.batches (at_start script.bindings window) acts refusal end
-  pub prints : printed ≡ simulation_text (length acts) refusal end
+  pub plays : PlaysTo plan.script.batches (at_start plan.script.bindings plan.window) plan.acts refusal end
+  pub prints : printed ≡ simulation_text (length plan.acts) refusal end
   pub faithful : All (λ s. IsFaithful end.world s) end.world.subscriptions

@@ -1,8 +1,9 @@
 //! What standard error says to a person, beside the fault's line on standard output.
 
 use crate::endings::Ending;
-use crate::faults::{FaultKind, ProgramFault, ScriptFault};
-use crate::options::STANDARD_INPUT;
+use crate::faults::ProgramFault;
+use crate::sources::STANDARD_INPUT;
+use cdc_script::{FaultKind, ScriptFault};
 use std::io;
 
 /// Says why a command over a file gave up or refused the file's script: the place, the fault's name, and what was

@@ -6,13 +6,12 @@ ghost use Rattle.cdc_app.specs.Private.Stages.{IsAt, IsSimulationFault};
 ghost use Rattle.cdc_app.specs.Simulations.{ActsTo, PlaysTo, Simulates, Stage, asked, at_start, simulation_text};
 
 use crate::faults::ProgramFault;
-use crate::scripts::{ClientBatch, Script};
 use crate::simulation_report::{
     push_did, push_progress, push_refusal, push_steps, push_subscriptions,
 };
-use crate::step_files::Act;
 use cdc_match::Binding;
 use cdc_progress::MemoryStore;
+use cdc_script::{Act, ClientBatch, Script};
 use cdc_world::{Played, Step, StepError, World};
 use std::alloc::{AllocError, Global};
 
@@ -37,14 +36,15 @@ pub struct Simulation {
 }
 
 /// What is printed of a script that is taken step by step.
-pub fn simulate(
+pub fn play_script(
     alloc: Global,
     script: Script,
     window: usize,
     acts: &[Act],
 ) -> Result<Simulated, ProgramFault>
     requires { IsWindow window }
-    ensures prints { IfOk result (λ simulated. Simulates script window acts.now simulated.refusal simulated.text.items) }
+    ensures prints { IfOk result (λ simulated. Simulates
+        (record { script = script; window = window; acts = acts.now }) simulated.refusal simulated.text.items) }
     ensures fault { IfErr result IsSimulationFault }
 {
     let Script { bindings, batches } = script;

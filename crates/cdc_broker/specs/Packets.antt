@@ -1,6 +1,7 @@
 -- What packets make of a broker: which of them it takes, and what is in those.
 use Rattle.std.specs.Prelude.{ℕ, ◌+◌, ◌==◌, ◌&&◌, nat_lt, Bool, false, Option, Some, None, List, fold, if◌then◌else◌}
 use Rattle.std.specs.List.{filter_map}
+use Rattle.cdc_types.specs.Widths.{max_64}
 use Rattle.cdc_message.specs.declared.items.Item.{Item}
 use Rattle.cdc_message.specs.declared.packets.Packet.{Packet}
 use Rattle.cdc_message.specs.declared.packets.Packet.TheVariants.{Connect, Publish}
@@ -14,11 +15,7 @@ packet_item (Publish session tag item) = Some item
 abbrev pub items_of : List Packet → List Item
 items_of packets = filter_map packet_item packets
 
--- the greatest number of 64 bits, which is no tag
-abbrev pub max_64 : ℕ
-max_64 = 18446744073709551615
-
--- the tag that comes after this one
+-- the tag that comes after this one; the greatest number of 64 bits is no tag
 abbrev pub tag_after : ℕ → Option ℕ
 tag_after tag = if nat_lt (tag + 1) max_64 then Some (tag + 1) else None
 

@@ -170,7 +170,8 @@ impl Broker {
         requires last { i ≤ length self.old.queues }
         ensures answer { IfOk result (λ delivery. delivery ≡ next_delivery (queue_of self.old i)) }
         ensures ok { OnOk result (self.new ≡
-            with_queue i (with_delivery (next_delivery (queue_of self.old i)) (queue_of self.old i)) self.old) }
+            with_queue i
+            (with_delivery (next_delivery (queue_of self.old i)) (queue_of self.old i)) self.old) }
         ensures err { OnErr result (self.new ≡ self.old) }
         ensures accepted { (accepted : List SomeItem) → HasAccepted self.old accepted
             → HasAccepted self.new accepted }
@@ -186,7 +187,8 @@ impl Broker {
         requires last { i ≤ length self.old.queues }
         ensures answer { result ≡ not (is_unknown (queue_of self.old i) position) }
         ensures state { self.new ≡ (if result
-            then with_queue i (acknowledged position (queue_of self.old i)) self.old else self.old) }
+            then with_queue i (acknowledged position (queue_of self.old i)) self.old
+            else self.old) }
         ensures accepted { (accepted : List SomeItem) → HasAccepted self.old accepted
             → HasAccepted self.new accepted }
     {

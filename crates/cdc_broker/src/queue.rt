@@ -108,7 +108,8 @@ impl Queue {
         requires { IsInOrder self.old }
         ensures answer { result ≡ not (is_unknown (queue_state self.old) position) }
         ensures state { queue_state self.new
-            ≡ (if result then acknowledged position (queue_state self.old) else queue_state self.old) }
+            ≡ (if result then acknowledged position (queue_state self.old)
+            else queue_state self.old) }
         ensures in_order { IsInOrder self.new }
     {
         if position == 0 || position > self.handed {

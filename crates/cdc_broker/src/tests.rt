@@ -61,20 +61,43 @@ fn broker(alloc: Global, bindings: &[&[&str]]) -> Result<Broker, Fail> {
     Ok(Broker::new(alloc, parsed)?)
 }
 
-// What is handed to a broker, and what it answers.
-#[derive(Drop)]
+// What a broker is asked.
+#[derive(Clone, Copy)]
 enum Call {
-    Connect(u64, bool),
-    Publish(u64, u64, Option<u64>, Taken),
-    Len(usize, u64),
-    Next(usize, Option<u64>),
-    Ack(usize, u64, bool),
-    Acked(usize, u64),
+    Connect(u64),
+    // Under this connection and tag, the event of this timestamp or an end mark.
+    Publish(u64, u64, Option<u64>),
+    // Of the queue of this number.
+    Queue(usize, QueueCall),
 }
 
-const WRONG_TAG: Taken = Taken::Ignored(Refusal::WrongTag);
+// What a broker is asked of one queue.
+#[derive(Clone, Copy)]
+enum QueueCall {
+    Len,
+    HasNext,
+    Next,
+    Ack(u64),
+    Acked,
+    Rewind,
+}
 
-const WRONG_CONNECTION: Taken = Taken::Ignored(Refusal::WrongConnection);
+// What it answers.
+#[derive(Clone, Copy, Debug, PartialEq, Eq)]
+enum Answer {
+    Taken(Taken),
+    Says(bool),
+    Number(u64),
+    Position(Option<u64>),
+    Nothing,
+    NoQueue,
+}
+
+const ACCEPTED: Answer = Answer::Taken(Taken::Accepted);
+
+const WRONG_TAG: Answer = Answer::Taken(Taken::Ignored(Refusal::WrongTag));
+
+const WRONG_CONNECTION: Answer = Answer::Taken(Taken::Ignored(Refusal::WrongConnection));
 
 // The item of the event of that timestamp, or an end mark.
 fn item_at(alloc: Global, timestamp: Option<u64>) -> Result<Item, AllocError> {
@@ -93,110 +116,114 @@ fn position(delivery: Option<Delivery>) -> Option<u64> {
     }
 }
 
-#[test]
-fn connections_tags_and_queues(rt: HostRuntime) -> Result<(), Fail> {
-    let calls = [
-        Call::Publish(0, 1, Some(2000), WRONG_TAG),
-        Call::Publish(1, 1, Some(2000), WRONG_CONNECTION),
-        Call::Connect(0, false),
-        Call::Connect(1, true),
-        Call::Publish(1, 2, Some(2000), WRONG_TAG),
-        Call::Publish(1, 1, Some(2000), Taken::Accepted),
-        Call::Publish(1, 1, Some(2000), WRONG_TAG),
-        Call::Publish(2, 2, Some(2001), WRONG_CONNECTION),
-        Call::Connect(1, false),
-        Call::Connect(2, true),
-        Call::Publish(2, 2, Some(2001), WRONG_TAG),
-        Call::Publish(2, 1, Some(2001), Taken::Accepted),
-        Call::Publish(2, 2, None, Taken::Accepted),
-        Call::Len(1, 3),
-        Call::Len(2, 2),
-        Call::Len(3, 1),
-        Call::Next(1, Some(1)),
-        Call::Next(1, Some(2)),
-        Call::Next(1, Some(3)),
-        Call::Next(1, None),
-        Call::Next(2, Some(1)),
-        Call::Ack(1, 4, false),
-        Call::Ack(1, 0, false),
-        Call::Ack(1, 2, true),
-        Call::Acked(1, 2),
-        Call::Ack(1, 1, true),
-        Call::Acked(1, 2),
-        Call::Ack(2, 2, false),
-        Call::Acked(2, 0),
-    ];
-    let alloc = rt.alloc();
-    let mut broker = broker(alloc, &[&["all"], &["all", "ledger=700"], &["any"]])?;
-    for (place, call) in calls.iter().enumerate() {
-        match call {
-            Call::Connect(connection, wanted) => {
-                assert_eq!(rt; broker.connect(*connection), *wanted, "call {place}");
-            }
-            Call::Publish(connection, tag, timestamp, wanted) => {
-                let item = item_at(alloc, *timestamp)?;
-                let taken = broker.publish(alloc, *connection, *tag, item)?;
-                assert_eq!(rt; taken, *wanted, "call {place}");
-            }
-            Call::Len(i, wanted) => {
-                assert!(rt; *i > 0 && *i <= broker.queue_count());
-                assert_eq!(rt; broker.queue_len(*i), *wanted, "call {place}");
-            }
-            Call::Next(i, wanted) => {
-                assert!(rt; *i > 0 && *i <= broker.queue_count());
-                assert_eq!(rt;
-                    position(broker.next_for(alloc, *i)?),
-                    *wanted,
-                    "call {place}"
-                );
-            }
-            Call::Ack(i, position, wanted) => {
-                assert!(rt; *i > 0 && *i <= broker.queue_count());
-                assert_eq!(rt; broker.ack(*i, *position), *wanted, "call {place}");
-            }
-            Call::Acked(i, wanted) => {
-                assert!(rt; *i > 0 && *i <= broker.queue_count());
-                assert_eq!(rt; broker.acked(*i), *wanted, "call {place}");
-            }
-        }
+fn ask_queue(
+    alloc: Global,
+    broker: &mut Broker,
+    i: usize,
+    call: QueueCall,
+) -> Result<Answer, AllocError> {
+    if i == 0 || i > broker.queue_count() {
+        return Ok(Answer::NoQueue);
     }
-    Ok(())
+    Ok(match call {
+        QueueCall::Len => Answer::Number(broker.queue_len(i)),
+        QueueCall::HasNext => Answer::Says(broker.has_next(i)),
+        QueueCall::Next => Answer::Position(position(broker.next_for(alloc, i)?)),
+        QueueCall::Ack(position) => Answer::Says(broker.ack(i, position)),
+        QueueCall::Acked => Answer::Number(broker.acked(i)),
+        QueueCall::Rewind => {
+            broker.rewind(i);
+            Answer::Nothing
+        }
+    })
 }
 
+fn ask(alloc: Global, broker: &mut Broker, call: Call) -> Result<Answer, AllocError> {
+    match call {
+        Call::Connect(connection) => Ok(Answer::Says(broker.connect(connection))),
+        Call::Publish(connection, tag, timestamp) => {
+            let item = item_at(alloc, timestamp)?;
+            Ok(Answer::Taken(broker.publish(alloc, connection, tag, item)?))
+        }
+        Call::Queue(i, call) => ask_queue(alloc, broker, i, call),
+    }
+}
+
+// Of a broker whose first queue takes everything, the second what is of ledger 700, and the third only end marks.
+const CALLS: [(Call, Answer); 39] = [
+    (Call::Publish(0, 1, Some(2000)), WRONG_TAG),
+    (Call::Publish(1, 1, Some(2000)), WRONG_CONNECTION),
+    (Call::Connect(0), Answer::Says(false)),
+    (Call::Connect(1), Answer::Says(true)),
+    (Call::Publish(1, 2, Some(2000)), WRONG_TAG),
+    (Call::Queue(1, QueueCall::HasNext), Answer::Says(false)),
+    (Call::Publish(1, 1, Some(2000)), ACCEPTED),
+    (Call::Queue(1, QueueCall::HasNext), Answer::Says(true)),
+    (Call::Publish(1, 1, Some(2000)), WRONG_TAG),
+    (Call::Publish(2, 2, Some(2001)), WRONG_CONNECTION),
+    (Call::Connect(1), Answer::Says(false)),
+    (Call::Connect(2), Answer::Says(true)),
+    (Call::Publish(2, 2, Some(2001)), WRONG_TAG),
+    (Call::Publish(2, 1, Some(2001)), ACCEPTED),
+    (Call::Publish(2, 2, None), ACCEPTED),
+    (Call::Queue(1, QueueCall::Len), Answer::Number(3)),
+    (Call::Queue(2, QueueCall::Len), Answer::Number(2)),
+    (Call::Queue(3, QueueCall::Len), Answer::Number(1)),
+    (Call::Queue(4, QueueCall::Len), Answer::NoQueue),
+    (Call::Queue(1, QueueCall::Next), Answer::Position(Some(1))),
+    (Call::Queue(1, QueueCall::Next), Answer::Position(Some(2))),
+    (Call::Queue(1, QueueCall::Next), Answer::Position(Some(3))),
+    (Call::Queue(1, QueueCall::Next), Answer::Position(None)),
+    (Call::Queue(2, QueueCall::Next), Answer::Position(Some(1))),
+    (Call::Queue(1, QueueCall::Ack(4)), Answer::Says(false)),
+    (Call::Queue(1, QueueCall::Ack(0)), Answer::Says(false)),
+    (Call::Queue(1, QueueCall::Rewind), Answer::Nothing),
+    (Call::Queue(1, QueueCall::Next), Answer::Position(Some(1))),
+    (Call::Queue(1, QueueCall::Ack(2)), Answer::Says(true)),
+    (Call::Queue(1, QueueCall::Next), Answer::Position(Some(3))),
+    (Call::Queue(1, QueueCall::Ack(1)), Answer::Says(true)),
+    (Call::Queue(1, QueueCall::Acked), Answer::Number(2)),
+    (Call::Queue(1, QueueCall::Rewind), Answer::Nothing),
+    (Call::Queue(1, QueueCall::Next), Answer::Position(Some(3))),
+    (Call::Queue(2, QueueCall::Ack(2)), Answer::Says(false)),
+    (Call::Queue(2, QueueCall::Acked), Answer::Number(0)),
+    (Call::Queue(2, QueueCall::Next), Answer::Position(Some(2))),
+    (Call::Queue(3, QueueCall::Next), Answer::Position(Some(1))),
+    (Call::Queue(3, QueueCall::Next), Answer::Position(None)),
+];
+
 #[test]
-fn an_item_waits_until_it_is_handed_out(rt: HostRuntime) -> Result<(), Fail> {
-    let alloc = rt.alloc();
-    let mut broker = broker(alloc, &[&["all"]])?;
-    assert!(rt; broker.queue_count() == 1 && !broker.has_next(1));
-    assert!(rt; broker.connect(1));
-    assert_eq!(rt;
-        broker.publish(alloc, 1, 1, Item::EndMark)?,
-        Taken::Accepted
-    );
-    assert!(rt; broker.queue_count() == 1 && broker.has_next(1));
-    assert_eq!(rt; position(broker.next_for(alloc, 1)?), Some(1));
-    assert!(rt; broker.queue_count() == 1 && !broker.has_next(1));
+fn connections_tags_and_queues(rt: HostRuntime) -> Result<(), Fail> {
+    let mut broker = broker(rt.alloc(), &[&["all"], &["all", "ledger=700"], &["any"]])?;
+    for (place, (call, answer)) in CALLS.iter().enumerate() {
+        assert_eq!(rt;
+            ask(rt.alloc(), &mut broker, *call)?,
+            *answer,
+            "call {place}"
+        );
+    }
     Ok(())
 }
 
 #[test]
 fn a_queue_of_ten_thousand(rt: HostRuntime) -> Result<(), Fail> {
-    let alloc = rt.alloc();
-    let mut broker = broker(alloc, &[&["all"], &["any", "ledger=700"]])?;
-    assert!(rt; broker.connect(1));
+    let mut broker = broker(rt.alloc(), &[&["all"], &["any", "ledger=700"]])?;
+    assert_eq!(rt;
+        ask(rt.alloc(), &mut broker, Call::Connect(1))?,
+        Answer::Says(true)
+    );
     for tag in 1..=10_000 {
-        let item = item(alloc, &event(1, 5, 5, 2000, 700))?;
-        assert_eq!(rt; broker.publish(alloc, 1, tag, item)?, Taken::Accepted);
+        let publish = Call::Publish(1, tag, Some(2000));
+        assert_eq!(rt; ask(rt.alloc(), &mut broker, publish)?, ACCEPTED);
     }
     for i in 1..=2 {
-        assert!(rt; i > 0 && i <= broker.queue_count());
-        assert_eq!(rt; broker.queue_len(i), 10_000);
         for wanted in 1..=10_000 {
-            assert!(rt; i <= broker.queue_count());
-            assert_eq!(rt; position(broker.next_for(alloc, i)?), Some(wanted));
+            let next = Call::Queue(i, QueueCall::Next);
+            assert_eq!(rt;
+                ask(rt.alloc(), &mut broker, next)?,
+                Answer::Position(Some(wanted))
+            );
         }
-        assert!(rt; i <= broker.queue_count());
-        assert_eq!(rt; position(broker.next_for(alloc, i)?), None);
     }
     Ok(())
 }

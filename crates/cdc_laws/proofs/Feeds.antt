@@ -110,3 +110,16 @@ module _ (es : List Event) (rise : TimestampsRise es) where
       → events_of (firsts same_item w) ≡ rises (events_of w)
   rises-told closed w replay =
       rises-firsts (told es closed) (apart closed) (rw (events_told closed) rise) w replay
+
+  -- the first of each of its items are a beginning of the line
+  pub IsPrefix-line : (closed : Bool) (w : List Item) → IsReplay w (told es closed)
+      → IsPrefix (firsts same_item w) (told es closed)
+  IsPrefix-line closed w replay = IsPrefix-firsts same_item Decides-same_item w (told es closed) (apart closed) replay
+
+  -- and where the end mark has come, they are the whole line
+  pub whole-line : (closed : Bool) (w : List Item) → IsReplay w (told es closed) → Contains w EndMark
+      → (closed ≡ true) × (firsts same_item w ≡ told es closed)
+  whole-line true w replay there =
+      (refl, firsts-all same_item Decides-same_item w (map OfEvent es) EndMark (apart true) replay there)
+  whole-line false w replay there =
+      absurd (no_end_there es (IsReplay-Contains w (map OfEvent es ++ []) EndMark replay there))

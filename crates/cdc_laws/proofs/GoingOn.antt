@@ -1,6 +1,6 @@
 -- A batch only adds later events to a ledger that isn't closed.
-use Rattle.std.proofs.Common.{◌≡◌, ℕ, ◌+◌, ◌<◌, ◌≤◌, Bool, true, false, List, [], ◌∷◌, ◌++◌, refl, sym, ap, ◌∙◌, subst, append_assoc, append-nil, arith}
-use Rattle.std.specs.Prelude.{◌==◌, Option, Some, None, Ok, if◌then◌else◌}
+use Rattle.std.proofs.Common.{◌≡◌, ℕ, ◌+◌, ◌<◌, ◌≤◌, Bool, true, false, List, [], ◌∷◌, ◌++◌, refl, sym, ap, ap₂, ◌∙◌, subst, append_assoc, append-nil, arith}
+use Rattle.std.specs.Prelude.{◌==◌, Option, Some, None, Result, Ok, Err, if◌then◌else◌}
 use Rattle.std.specs.List.{AllByRecursion}
 use Rattle.cdc_ledger.specs.declared.errors.BatchError.{BatchError}
 use Rattle.cdc_ledger.specs.Changes.{expiry}
@@ -8,11 +8,13 @@ use Rattle.cdc_ledger.specs.Due.{due}
 use Rattle.cdc_ledger.specs.Events.{event_of, events}
 use Rattle.cdc_ledger.specs.History.{History, Opened}
 use Rattle.cdc_ledger.specs.Sound.{HasAccounts, IsSound}
-use Rattle.cdc_ledger.specs.Submit.{accounts_from, after_account, after_transfer, answered, base, entry_of, expiries_from, opened_by, refusal_of, submit, taken, transfers_from}
+use Rattle.cdc_ledger.specs.Submit.{accounts_from, after_account, after_transfer, answered, base, entry_of, expiries_from, opened_by, refusal_of, submit, submit_by, taken, transfers_from, Extends, after_batches, closed_if, history_or}
 use Rattle.cdc_ledger.specs.Verdict.{account_verdict, transfer_verdict}
 use Rattle.cdc_ledger.proofs.Changes.{pushed, with_account, timed}
 use Rattle.cdc_ledger.proofs.Elements.{AllByRecursion-weaker, AllByRecursion_push}
 use Rattle.cdc_ledger.proofs.EventLaws.{events-pushed, events-with_account}
+use Rattle.cdc_ledger.proofs.KeptLaws.{IsSound-after_batches}
+use Rattle.cdc_ledger.proofs.SoundLaws.{IsSound-closed}
 use Rattle.cdc_ledger.proofs.LegalLaws.{submit_open}
 use Rattle.cdc_ledger.proofs.OpenedLaws.{HasAccounts-with_account}
 use Rattle.cdc_types.specs.declared.accounts.NewAccount.{NewAccount}
@@ -27,7 +29,7 @@ use Rattle.cdc_types.specs.declared.transfers.Transfer.{Transfer}
 use Rattle.cdc_types.specs.declared.events.Event.{Event}
 use Rattle.cdc_types.specs.Features.{features}
 use Rattle.cdc_types.specs.Results.{account_number, transfer_number}
-use Rattle.cdc_laws.proofs.Lines.{GoesOn}
+use Rattle.cdc_laws.specs.GoingOn.{GoesOn}
 use Rattle.cdc_laws.proofs.Places.{AllByRecursion-append}
 
 -- what is asked of a history so that a request adds to it: no entry is past the last timestamp, and both accounts of
@@ -220,3 +222,57 @@ GoesOn-closed h = record {
   last = omega arith;
   shut = λ closed. (refl, refl);
 }
+
+-- ---- whole histories
+
+-- a history goes on to itself
+pub GoesOn-same : (h : History) → GoesOn h h
+GoesOn-same h = record {
+  new = [];
+  whole = sym (append-nil (events h));
+  later = tt;
+  last = omega arith;
+  shut = λ closed. (closed, refl);
+}
+
+-- what goes on from a history that goes on from another goes on from that
+pub GoesOn-trans : (h g k : History) → GoesOn h g → GoesOn g k → GoesOn h k
+GoesOn-trans h g k first second = record {
+  new = first.new ++ second.new;
+  whole = second.whole ∙ ap (λ es. es ++ second.new) first.whole ∙ append_assoc (events h) first.new second.new;
+  later = AllByRecursion-append (λ e. h.last < e.timestamp) first.new second.new first.later
+      (AllByRecursion-weaker (λ e. g.last < e.timestamp) (λ e. h.last < e.timestamp)
+      (λ e later. omega (arith, first.last, later)) second.new second.later);
+  last = omega (arith, first.last, second.last);
+  shut = λ closed.
+      let before = first.shut closed in
+      let after = second.shut before.0 in
+      (after.0, ap₂ (λ xs ys. xs ++ ys) before.1 after.1);
+}
+
+-- so batches go on, refused ones among them
+GoesOn-batch : (h : History) (answer : Result (BatchResults × History) BatchError)
+    → ((found : BatchResults × History) → answer ≡ Ok found → GoesOn h found.1) → GoesOn h (history_or h answer)
+GoesOn-batch h (Ok found) taken = taken found refl
+GoesOn-batch h (Err why) taken = GoesOn-same h
+
+pub GoesOn-batches : (h : History) (bs : List Batch) → IsSound h → GoesOn h (after_batches features h bs)
+GoesOn-batches h [] sound = GoesOn-same h
+GoesOn-batches h (b ∷ bs) sound =
+    let g : History = history_or h (submit_by features h b) in
+    GoesOn-trans h g (after_batches features g bs)
+    (GoesOn-batch h (submit_by features h b) (λ found is. GoesOn-submit h b found sound is))
+    (GoesOn-batches g bs (IsSound-after_batches h (b ∷ []) sound))
+
+-- whatever a ledger makes of a history goes on from it, and is sound where that was
+pub GoesOn-extends : (g h : History) → IsSound h → Extends g h → GoesOn h g × IsSound g
+GoesOn-extends g h sound extends =
+    let k : History = after_batches features h extends.batches in
+    let is : IsSound k = IsSound-after_batches h extends.batches sound in
+    let on : GoesOn h k = GoesOn-batches h extends.batches sound in
+    subst (λ (x : History). GoesOn h x × IsSound x) (sym extends.made) (closes extends.close k is on)
+  where
+    closes : (close : Bool) (k : History) → IsSound k → GoesOn h k
+        → GoesOn h (closed_if close k) × IsSound (closed_if close k)
+    closes true k is on = (GoesOn-trans h k (record k { closed = true }) on (GoesOn-closed k), IsSound-closed k is)
+    closes false k is on = (on, is)

@@ -1,11 +1,22 @@
+pub mod Arrivals
+pub mod Bases
 pub mod Books
+pub mod Brokers
+pub mod Connectors
+pub mod Courses
 pub mod Deliveries
 mod Examples
 pub mod Faithful
 pub mod Feeds
 pub mod GoingOn
+pub mod Hearing
 pub mod Lines
+pub mod LongerRuns
+pub mod Offers
 pub mod Places
+pub mod Queues
 pub mod Replays
 pub mod Rising
+pub mod Sessions
 pub mod Splits
+pub mod Taking

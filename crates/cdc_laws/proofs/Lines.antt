@@ -13,6 +13,7 @@ use Rattle.cdc_message.specs.declared.items.Item.{Item}
 use Rattle.cdc_message.specs.declared.items.Item.TheVariants.{Event as OfEvent}
 use Rattle.cdc_types.specs.declared.events.Entry.{Entry}
 use Rattle.cdc_types.specs.declared.events.Event.{Event}
+pub use Rattle.cdc_laws.specs.GoingOn.{GoesOn}
 use Rattle.cdc_laws.specs.Line.{end_mark_if, line, line_after, told}
 use Rattle.cdc_laws.proofs.Rising.{events_rise}
 use Rattle.cdc_laws.proofs.Splits.{SplitsAt, split_at, events_after-all}
@@ -46,14 +47,6 @@ pub split_events : (h : History) (t : ℕ) → sound.IsSound h
 split_events h t is = split_at t 0 (events h) (events_rise h is)
 
 -- ---- a history that goes on
-
--- g has the events of h and later ones; none, where h is closed, and then so is g
-pub record GoesOn (h g : History) : Type 0 where
-  pub new : List Event
-  pub whole : events g ≡ events h ++ new
-  pub later : AllByRecursion (λ e. h.last < e.timestamp) new
-  pub last : h.last ≤ g.last
-  pub shut : h.closed ≡ true → (g.closed ≡ true) × (new ≡ [])
 
 -- what is told grows at its back alone, and once an end mark stands there it doesn't grow
 told_more : (es new : List Event) (b c : Bool) → (b ≡ true → (c ≡ true) × (new ≡ []))

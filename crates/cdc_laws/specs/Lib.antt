@@ -1,4 +1,13 @@
+pub mod Arrivals
+pub mod Brokers
+pub mod ConnectorRuns
+pub mod Connectors
 pub mod Deliveries
 pub mod Faithful
+pub mod GoingOn
+pub mod Hearing
 pub mod Laws
 pub mod Line
+pub mod Readings
+pub mod RunLaws
+pub mod StepLaws

@@ -20,7 +20,8 @@ use Rattle.cdc_types.specs.Features.{Features}
 use Rattle.cdc_types.specs.Flags.{is_pending_request, is_post_request, is_void_request, is_plain_request}
 use Rattle.cdc_types.specs.Lines.{first_line}
 use Rattle.cdc_types.specs.Results.{account_number, transfer_number}
-use Rattle.cdc_types.specs.Shapes.{max_128, account_shape_lines, asks_for_two_kinds, transfer_shape_lines}
+use Rattle.cdc_types.specs.Shapes.{account_shape_lines, asks_for_two_kinds, transfer_shape_lines}
+use Rattle.cdc_types.specs.Widths.{max_128}
 use Rattle.cdc_ledger.specs.Balances.{balances, resolved, resolves, some_by}
 use Rattle.cdc_ledger.specs.Filling.{stored, filled, filled_by, filled_from, as_asked, or_own, settled_amount, expires_at}
 use Rattle.cdc_ledger.specs.Follows.{Follows}

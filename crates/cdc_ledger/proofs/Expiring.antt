@@ -1,12 +1,12 @@
 -- A pulse on its way: some of what was due expired, and what is due now is the rest.
-use Rattle.std.proofs.Common.{ℕ, ◌+◌, ◌<◌, Option, Some, None, List, ◌∷◌, ◌≡◌, length, refl, ap, sym, subst, ◌∙◌, arith}
+use Rattle.std.proofs.Common.{ℕ, ◌+◌, ◌<◌, Option, Some, None, List, [], ◌∷◌, ◌≡◌, ◌≢◌, length, refl, ap, sym, subst, ◌∙◌, arith}
 use Rattle.std.specs.Option.{IsSome}
 use Rattle.cdc_types.specs.declared.transfers.Transfer.{Transfer}
 use Rattle.cdc_expiry.specs.declared.triple.Triple.{Triple}
 use Rattle.cdc_expiry.specs.Triples.{Triples, due_at, IsLeast}
 use Rattle.cdc_ledger.specs.Changes.{pushed, expiry}
 use Rattle.cdc_ledger.specs.Due.{due}
-use Rattle.cdc_ledger.specs.Follows.{Follows}
+use Rattle.cdc_ledger.specs.Follows.{IsDueNext}
 use Rattle.cdc_ledger.specs.History.{History}
 use Rattle.cdc_ledger.specs.OpenTriples.{index_of}
 use Rattle.cdc_ledger.specs.Sound.{IsSound}
@@ -21,35 +21,31 @@ pub record GoesOn (h : History) (base now count done : ℕ) (g : History) : Type
   pub rest : expiries_from g (base + done) (due g now) ≡ expiries_from h base (due h now)
 
 -- the next one expires
-pub GoesOn-step : (h : History) (base now count done : ℕ) (g : History) (t : Triple) → GoesOn h base now count done g
-    → (next : IsNext g now t)
-    → g.last < base + done → GoesOn h base now count (done + 1)
-    (pushed g (expiry next.found.entry.transfer (base + done)))
-GoesOn-step h base now count done g t on next later =
-    let first : due g now ≡ next.found.entry.transfer ∷ due
-    (pushed g (expiry next.found.entry.transfer (base + done))) now = next.first (base + done) later in
+pub GoesOn-step : (h : History) (base now count done : ℕ) (g : History) (p : Transfer) → GoesOn h base now count done g
+    → IsDueNext g now p → g.last < base + done → GoesOn h base now count (done + 1) (pushed g (expiry p (base + done)))
+GoesOn-step h base now count done g p on next later =
+    let first : due g now ≡ p ∷ due (pushed g (expiry p (base + done))) now = next.first (base + done) later in
     let long = ap (λ (ps : List Transfer). length ps) first in
     record {
       left = omega (arith, on.left, long);
       rest =
-          ap (λ n. expiries_from (pushed g (expiry next.found.entry.transfer (base + done))) n
-          (due (pushed g (expiry next.found.entry.transfer (base + done))) now)) (omega arith)
+          ap (λ n. expiries_from (pushed g (expiry p (base + done))) n (due (pushed g (expiry p (base + done))) now))
+          (omega arith)
           ∙ (sym (ap (expiries_from g (base + done)) first) ∙ on.rest);
     }
 
--- while some are left the index has an answer
-pub GoesOn-some : (h : History) (base now count done : ℕ) (g : History) (answer : Option Triple)
-    → GoesOn h base now count done g → done < count
-    → IsLeast (due_at (index_of g) now) answer → IsSome answer
-GoesOn-some h base now count done g None on more least =
-    let none = ap (λ (ps : List Transfer). length ps) (due-none g now least) in absurd (omega (arith, on.left, none))
-GoesOn-some h base now count done g (Some t) on more least = refl
+-- while some are left, some are due
+pub GoesOn-some : (h : History) (base now count done : ℕ) (g : History) → GoesOn h base now count done g
+    → done < count → due g now ≢ []
+GoesOn-some h base now count done g on more none =
+    let long = ap (λ (ps : List Transfer). length ps) none in absurd (omega (arith, on.left, long))
 
--- it may come to its end at any later moment
-pub Follows-next : (g : History) (now t : ℕ) (x : Triple) → IsSound g → (next : IsNext g now x)
-    → Follows g (expiry next.found.entry.transfer t)
-Follows-next g now t x sound next =
-    Follows-expiry g next.found.entry t sound next.found.stored next.found.pending next.found.unsettled
+-- the index has an answer where some are due, so that the first of them is found
+pub IsSome-answer : (g : History) (s : Triples) (now : ℕ) (answer : Option Triple) → s ≡ index_of g → due g now ≢ []
+    → IsLeast (due_at s now) answer → IsSome answer
+IsSome-answer g s now None kept some least =
+    absurd (some (due-none g now (subst (λ u. IsLeast (due_at u now) None) kept least)))
+IsSome-answer g s now (Some t) kept some least = refl
 
 -- what the index answers, where it is kept
 pub IsNext-answer : (g : History) (s : Triples) (now : ℕ) (answer : Option Triple) (x : Triple) → IsSound g
@@ -59,9 +55,10 @@ IsNext-answer g s now answer x sound kept least is =
     IsNext-least g now x sound (subst (λ a. IsLeast (due_at (index_of g) now) a) is
     (subst (λ u. IsLeast (due_at u now) answer) kept least))
 
--- the same of the set that the index keeps, so that each turn of the loop finds a transfer to expire
-pub GoesOn-answer : (h : History) (base now count done : ℕ) (g : History) (s : Triples) (answer : Option Triple)
-    → GoesOn h base now count done g → done < count
-    → s ≡ index_of g → IsLeast (due_at s now) answer → IsSome answer
-GoesOn-answer h base now count done g s answer on more kept least =
-    GoesOn-some h base now count done g answer on more (subst (λ u. IsLeast (due_at u now) answer) kept least)
+-- its transfer may come to its end at any later moment, and the others are due after it
+pub IsDueNext-next : (g : History) (now : ℕ) (x : Triple) → IsSound g → (next : IsNext g now x)
+    → IsDueNext g now next.found.entry.transfer
+IsDueNext-next g now x sound next = record {
+  follows = λ t. Follows-expiry g next.found.entry t sound next.found.stored next.found.pending next.found.unsettled;
+  first = next.first;
+}

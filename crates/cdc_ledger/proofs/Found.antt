@@ -2,10 +2,8 @@
 use Rattle.std.proofs.Common.{ℕ, Bool, true, false, cond, List, [], ◌∷◌, ◌≡◌, Option, Some, refl, ap, ◌∙◌, map}
 use Rattle.std.specs.Prelude.{◌==◌, find, option_map}
 use Rattle.cdc_types.specs.declared.accounts.Account.{Account}
-use Rattle.cdc_ledger.specs.declared.tables.Tables.{Tables}
 use Rattle.cdc_ledger.specs.Events.{account_now, accounts_now}
 use Rattle.cdc_ledger.specs.History.{History, opened}
-use Rattle.cdc_ledger.specs.Tables.{IsKept, history_of}
 
 module _ {A B : Type 0} (p : B → Bool) (f : A → B) where
   -- the first element passes and is found, or the search goes on, before the change as after it
@@ -24,8 +22,7 @@ pub find-accounts_now : (h : History) (id : ℕ)
     → find (λ a. a.id == id) (accounts_now h) ≡ option_map (account_now h) (opened h id)
 find-accounts_now h id = find-map (λ (a : Account). a.id == id) (account_now h) h.accounts
 
--- what is found among the kept accounts is the account with its balances now
-pub find-kept : (t : Tables) (id : ℕ) → IsKept t
-    → find (λ a. a.id == id) t.accounts.items ≡ option_map (account_now (history_of t)) (opened (history_of t) id)
-find-kept t id kept = ap (λ (xs : List Account). find (λ a. a.id == id) xs) kept.balanced
-    ∙ find-accounts_now (history_of t) id
+-- the same among the accounts that the tables keep, which are these
+pub find-same : (h : History) (xs : List Account) (id : ℕ) → xs ≡ accounts_now h
+    → find (λ a. a.id == id) xs ≡ option_map (account_now h) (opened h id)
+find-same h xs id same = ap (λ (ys : List Account). find (λ a. a.id == id) ys) same ∙ find-accounts_now h id

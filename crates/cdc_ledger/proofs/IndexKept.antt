@@ -1,13 +1,15 @@
 -- The set that an index keeps, after each change of a history, and what its answers say of what is due.
-use Rattle.std.proofs.Common.{ℕ, ◌<◌, ◌≤◌, Bool, true, false, Some, None, List, [], ◌∷◌, ◌≡◌, length, refl, ap, sym, ◌∙◌, arith, subst, ⊎_elim}
-use Rattle.std.specs.Prelude.{nat_le, filter}
+use Rattle.std.proofs.Common.{ℕ, ◌<◌, ◌≤◌, ◌^◌, Bool, true, false, Option, Some, None, List, [], ◌∷◌, ◌≡◌, length, refl, ap, sym, ◌∙◌, arith, subst, ⊎_elim}
+use Rattle.std.specs.Prelude.{nat_le, filter, not, ◌==◌, if◌then◌else◌, IfSome}
 use Rattle.std.specs.FinSet as set
 use Rattle.std.specs.List.{All}
-use Rattle.std.proofs.lemmas.Bool.{cases_eq}
+use Rattle.std.proofs.lemmas.Bool.{and_parts, cases_eq, eqb-false, false≢true, not-true}
 use Rattle.std.proofs.lemmas.List.Elements.{All-from_recursion}
 use Rattle.cdc_types.specs.declared.events.Entry.{Entry}
+use Rattle.cdc_types.specs.declared.events.EventKind.{EventKind}
+use Rattle.cdc_types.specs.declared.events.EventKind.TheVariants.{SinglePhase, TwoPhasePending, TwoPhasePosted, TwoPhaseVoided, TwoPhaseExpired}
 use Rattle.cdc_types.specs.declared.transfers.Transfer.{Transfer}
-use Rattle.cdc_expiry.specs.Triples.{due_at, IsLeast, IsNewTimestamp, without}
+use Rattle.cdc_expiry.specs.Triples.{Triples, due_at, IsLeast, IsNewTimestamp, without}
 use Rattle.cdc_expiry.proofs.Lists.{set_of-push, without-set_of, due_at-set_of, due_count-set_of, IsNewTimestamp-set_of, IsLeastOf-set_of}
 use Rattle.cdc_ledger.specs.Changes.{pushed}
 use Rattle.cdc_ledger.specs.Due.{due}
@@ -16,7 +18,7 @@ use Rattle.cdc_ledger.specs.Filling.{expires_at}
 use Rattle.cdc_ledger.specs.Follows.{Follows}
 use Rattle.cdc_ledger.specs.History.{Opened, History}
 use Rattle.cdc_ledger.specs.Kinds.{holds, stores, settles, settled_id}
-use Rattle.cdc_ledger.specs.OpenTriples.{index_of, is_open, opens, open_triples, triple_at}
+use Rattle.cdc_ledger.specs.OpenTriples.{ends_after, index_of, is_open, opens, open_triples, triple_at}
 use Rattle.cdc_ledger.specs.Sound.{IsSound, Settles, Stands}
 use Rattle.cdc_ledger.specs.Verdict.{max_timestamp}
 use Rattle.cdc_ledger.proofs.BalanceLaws.{settled_by_is, settled_by_none, stores-holds}
@@ -146,3 +148,54 @@ due-none h now least =
     none_long : (xs : List Transfer) → length xs ≡ 0 → xs ≡ []
     none_long [] long = refl
     none_long (x ∷ xs) long = absurd (omega arith)
+
+-- an entry that has a triple of its own settles nothing
+pub opens-unsettling : (e : Entry) → opens e ≡ true → settles e.kind ≡ false
+opens-unsettling e is = by_kind e.kind (and_parts (holds e.kind) (not (e.transfer.timeout == 0)) is).0
+  where
+    by_kind : (k : EventKind) → holds k ≡ true → settles k ≡ false
+    by_kind SinglePhase held = refl
+    by_kind TwoPhasePending held = refl
+    by_kind TwoPhasePosted held = absurd (false≢true held)
+    by_kind TwoPhaseVoided held = absurd (false≢true held)
+    by_kind TwoPhaseExpired held = absurd (false≢true held)
+
+-- so after an entry the set is that of the history with the entry, whatever the entry does
+pub index_of-ended : (h : History) (e : Entry) → IsSound h → Follows h e → h.last < e.timestamp
+    → index_of (pushed h e) ≡ ends_after (settled_by h e) e (length h.entries) (index_of h)
+index_of-ended h e sound follows after = by_settled (settled_by h e) refl
+  where
+    by_opening : (b : Bool) → opens e ≡ b → settled_by h e ≡ None
+        → index_of (pushed h e)
+        ≡ (if b then set.insert (index_of h) (triple_at (length h.entries) e) else index_of h)
+    by_opening true is none = index_of-pending h e sound follows after none is
+    by_opening false is none = index_of-unpending h e sound follows after none is
+
+    by_settled : (o : Option Transfer) → settled_by h e ≡ o
+        → index_of (pushed h e) ≡ ends_after o e (length h.entries) (index_of h)
+    by_settled (Some p) is = index_of-settled h e p sound follows after is
+    by_settled None is = by_opening (opens e) refl is
+
+-- the end of what it settles can be computed
+pub settled-end : (h : History) (e : Entry) (o : Option Transfer) → IsSound h → Follows h e → o ≡ settled_by h e
+    → IfSome o (λ p. expires_at p < 2 ^ 64)
+settled-end h e None sound follows is = tt
+settled-end h e (Some p) sound follows is =
+    let fits = expires_at-settled h e p sound follows (sym is) in omega (arith, fits)
+
+-- and so can its own end, where it has a triple
+pub opens-end : (h : History) (e : Entry) → Follows h e → opens e ≡ true → expires_at e.transfer < 2 ^ 64
+opens-end h e follows is =
+    let timeout = eqb-false e.transfer.timeout 0
+    (not-true (e.transfer.timeout == 0) (and_parts (holds e.kind) (not (e.transfer.timeout == 0)) is).1) in
+    let fits = follows.timely (and_parts (holds e.kind) (not (e.transfer.timeout == 0)) is).0 timeout in
+    omega (arith, fits)
+
+-- the timestamp of such an entry's transfer is new to the set
+pub opens-new : (h : History) (e : Entry) (ends : Triples) → IsSound h → Follows h e → h.last < e.timestamp
+    → ends ≡ index_of h → opens e ≡ true → IsNewTimestamp ends e.transfer.timestamp
+opens-new h e ends sound follows after same is =
+    let own = follows.dated (stores-holds e.kind
+    (and_parts (holds e.kind) (not (e.transfer.timeout == 0)) is).0) in
+    subst (λ s. IsNewTimestamp s e.transfer.timestamp) (sym same)
+    (IsNewTimestamp-index_of h e.transfer.timestamp sound (omega (arith, own, after)))

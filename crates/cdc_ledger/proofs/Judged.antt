@@ -17,11 +17,10 @@ use Rattle.cdc_types.specs.Flags.{is_pending_request, is_post_request, is_void_r
 use Rattle.cdc_types.specs.Lines.{first_line}
 use Rattle.cdc_types.specs.Results.{transfer_number}
 use Rattle.cdc_types.specs.Shapes.{transfer_shape_lines, transfer_refusal}
-use Rattle.cdc_ledger.specs.declared.tables.Tables.{Tables}
 use Rattle.cdc_ledger.specs.Accounts.{HasBoundedSums, lines_between}
 use Rattle.cdc_ledger.specs.Balances.{balances, some_by}
 use Rattle.cdc_ledger.specs.Effects.{settled_in, settled_by}
-use Rattle.cdc_ledger.specs.Events.{account_now, account_with}
+use Rattle.cdc_ledger.specs.Events.{account_now, account_with, accounts_now}
 use Rattle.cdc_ledger.specs.Filling.{stored, filled, filled_by, filled_from, as_asked}
 use Rattle.cdc_ledger.specs.History.{History, Opened, opened}
 use Rattle.cdc_ledger.specs.Kinds.{posts, voids, expires}
@@ -29,15 +28,14 @@ use Rattle.cdc_ledger.specs.Movements.{IsPlace}
 use Rattle.cdc_ledger.specs.Parts.{field_lines, end_lines}
 use Rattle.cdc_ledger.specs.Sound.{IsBounded}
 use Rattle.cdc_ledger.specs.Submit.{entry_of}
-use Rattle.cdc_ledger.specs.Tables.{IsKept, history_of}
 use Rattle.cdc_ledger.specs.Verdict.{transfer_lines, known_transfer_lines, plain_lines, settling_lines}
 use Rattle.cdc_ledger.proofs.BalanceLaws.{balances_later}
 use Rattle.cdc_ledger.proofs.Changes.{IsUpTo}
 use Rattle.cdc_ledger.proofs.Elements.{AllByRecursion-weaker, list_any_same}
-use Rattle.cdc_ledger.proofs.Found.{find-kept}
+use Rattle.cdc_ledger.proofs.Found.{find-same}
 use Rattle.cdc_ledger.proofs.LineLaws.{first_line-append_none, first_line-append_some, test_fails}
 use Rattle.cdc_ledger.proofs.OpenedLaws.{opened_id}
-use Rattle.cdc_ledger.proofs.Places.{place-find, position_in}
+use Rattle.cdc_ledger.proofs.Places.{place-find}
 
 -- the lines on a request's own fields and on a known id don't apply: its own lines decide
 module _ (h : History) (r : NewTransfer) (t : ℕ) (shape : transfer_refusal features r ≡ None)
@@ -88,47 +86,32 @@ opened_from : (h : History) (id : ℕ) (a : Account) (o : Option Opened) → ope
 opened_from h id a None is e = cc
 opened_from h id a (Some o) is e = record { account = o; found = is; now = cc }
 
--- the account at the place of an id is the one that was opened with it, so its running balances may decide
-pub IsOpened-place : (t : Tables) (id place : ℕ) (d : Account) → IsKept t → IsPlace t.accounts.items id place
-    → IsOpened (history_of t) id (get_or t.accounts.items place d)
-IsOpened-place t id place d kept at =
-    opened_from (history_of t) id (get_or t.accounts.items place d) (opened (history_of t) id) refl
-    (sym (place-find t.accounts.items id place d at) ∙ find-kept t id kept)
-
--- the same where it was found among these accounts
-pub IsOpened-found : (t : Tables) (xs : List Account) (id place : ℕ) (found : Option ℕ) (d : Account) → IsKept t
-    → found ≡ position (λ a. a.id == id) xs → xs ≡ t.accounts.items → found ≡ Some place
-    → IsOpened (history_of t) id (get_or t.accounts.items place d)
-IsOpened-found t xs id place found d kept at same is =
-    IsOpened-place t id place d kept (position_in xs t.accounts.items id found (Some place) at same is)
-
 -- a search that answers no place has come past the end
 no_place : (b : Bool) (n : ℕ) → cond b (Some n) None ≡ None → b ≡ false
 no_place true n e = cc
 no_place false n e = refl
 
--- an id without a place was never opened, so that the line on a missing account applies
-pub unopened-no_place : (t : Tables) (id : ℕ) → IsKept t → position (λ a. a.id == id) t.accounts.items ≡ None
-    → opened (history_of t) id ≡ None
-unopened-no_place t id kept at =
-    let p : Account → Bool = λ a. a.id == id in
-    let past : length t.accounts.items ≤ position_or_len p t.accounts.items =
-    ltb-false (position_or_len p t.accounts.items) (length t.accounts.items)
-    (no_place (nat_lt (position_or_len p t.accounts.items) (length t.accounts.items)) _ at) in
-    none_from_option_map (account_now (history_of t)) (opened (history_of t) id)
-    (sym (find_at p t.accounts.items ∙ slice_get_past t.accounts.items _ past) ∙ find-kept t id kept)
+-- where a search among the accounts with their balances now ends, its account is there, or there is none
+module _ (h : History) (xs : List Account) (id : ℕ) (same : xs ≡ accounts_now h) where
+  -- the account at the place of an id is the one that was opened with it, so its running balances may decide
+  pub IsOpened-place : (place : ℕ) (d : Account) → IsPlace xs id place → IsOpened h id (get_or xs place d)
+  IsOpened-place place d at =
+      opened_from h id (get_or xs place d) (opened h id) refl
+      (sym (place-find xs id place d at) ∙ find-same h xs id same)
 
--- the same where it wasn't found among these accounts
-pub unopened-not_found : (t : Tables) (xs : List Account) (id : ℕ) (found : Option ℕ) → IsKept t
-    → found ≡ position (λ a. a.id == id) xs → xs ≡ t.accounts.items → found ≡ None → opened (history_of t) id ≡ None
-unopened-not_found t xs id found kept at same is =
-    unopened-no_place t id kept (position_in xs t.accounts.items id found None at same is)
+  -- an id without a place was never opened, so that the line on a missing account applies
+  pub unopened-no_place : position (λ a. a.id == id) xs ≡ None → opened h id ≡ None
+  unopened-no_place at =
+      let p : Account → Bool = λ a. a.id == id in
+      let past : length xs ≤ position_or_len p xs =
+      ltb-false (position_or_len p xs) (length xs) (no_place (nat_lt (position_or_len p xs) (length xs)) _ at) in
+      none_from_option_map (account_now h) (opened h id)
+      (sym (find_at p xs ∙ slice_get_past xs _ past) ∙ find-same h xs id same)
 
--- an account that is there has a place
-pub IsSome-place : (t : Tables) (id : ℕ) (place : Option ℕ) → IsKept t → IsSome (opened (history_of t) id)
-    → place ≡ position (λ a. a.id == id) t.accounts.items → IsSome place
-IsSome-place t id None kept has at = subst IsSome (unopened-no_place t id kept (sym at)) has
-IsSome-place t id (Some place) kept has at = refl
+  -- an account that is there has a place
+  pub IsSome-place : (place : Option ℕ) → IsSome (opened h id) → place ≡ position (λ a. a.id == id) xs → IsSome place
+  IsSome-place None has at = subst IsSome (unopened-no_place (sym at)) has
+  IsSome-place (Some place) has at = refl
 
 -- the sums of an account that is there fit
 pub bounded-opened : (h : History) (id : ℕ) (a : Account) → IsOpened h id a → IsBounded h → HasBoundedSums a

@@ -3,7 +3,7 @@ use Rattle.std.proofs.Common.{ℕ, ◌≤◌, Bool, List, [], ◌∷◌, ◌++�
 use Rattle.std.proofs.lemmas.List.{map_push}
 use Rattle.std.specs.FinSet.{from_list}
 use Rattle.cdc_types.specs.declared.accounts.NewAccount.{NewAccount}
-use Rattle.cdc_ledger.specs.declared.tables.Tables.{Tables}
+use Rattle.cdc_ledger.specs.declared.tables.Tables.TheInside.{Inside}
 use Rattle.cdc_ledger.specs.Accounts.{opened_as, fresh_account}
 use Rattle.cdc_ledger.specs.Changes.{with_account}
 use Rattle.cdc_ledger.specs.Events.{accounts_now, events}
@@ -23,7 +23,7 @@ index_of-later : (h : History) (accounts : List Opened) (t : ℕ) (closed : Bool
 index_of-later h accounts t closed sound later = ap from_list (open_triples-later h accounts t closed sound later)
 
 -- from the history that the tables hold
-pub IsKept-from : (t : Tables) (h : History) → history_of t ≡ h → t.accounts.items ≡ accounts_now h
+pub IsKept-from : (t : Inside) (h : History) → history_of t ≡ h → t.accounts.items ≡ accounts_now h
     → t.log.events ≡ events h → t.index.triples ≡ index_of h → IsSound h → IsKept t
 IsKept-from t h same balanced logged indexed sound = record {
   balanced = balanced ∙ ap accounts_now (sym same);
@@ -33,7 +33,7 @@ IsKept-from t h same balanced logged indexed sound = record {
 }
 
 -- a refused request, which only takes its timestamp, leaves balances, log and index right
-pub IsKept-timed : (t : Tables) (n : ℕ) → IsKept t → t.last ≤ n → n ≤ max_timestamp → IsKept (record t { last = n })
+pub IsKept-timed : (t : Inside) (n : ℕ) → IsKept t → t.last ≤ n → n ≤ max_timestamp → IsKept (record t { last = n })
 IsKept-timed t n kept later within = record {
   balanced = kept.balanced ∙ sym (accounts_now-timed (history_of t) n kept.sound.past later);
   logged = kept.logged;
@@ -42,7 +42,7 @@ IsKept-timed t n kept later within = record {
 }
 
 -- tables with one more account hold the history with one more account
-pub history-opened : (t t' : Tables) (r : NewAccount) (n : ℕ)
+pub history-opened : (t t' : Inside) (r : NewAccount) (n : ℕ)
     → t'.accounts.items ≡ t.accounts.items ++ fresh_account r n ∷ []
     → t'.entries.items ≡ t.entries.items → t'.last ≡ n → t'.closed ≡ t.closed
     → history_of t' ≡ with_account (history_of t) (record { request = r; timestamp = n })
@@ -53,7 +53,7 @@ history-opened t t' r n accounts entries last closed =
     cc
 
 -- a new account has no amount, no event and no triple, so balances, log and index stay right
-pub IsKept-opened : (t t' : Tables) (r : NewAccount) (n : ℕ) → IsKept t → opened (history_of t) r.id ≡ None → t.last ≤ n
+pub IsKept-opened : (t t' : Inside) (r : NewAccount) (n : ℕ) → IsKept t → opened (history_of t) r.id ≡ None → t.last ≤ n
     → n ≤ max_timestamp
     → t'.accounts.items ≡ t.accounts.items ++ fresh_account r n ∷ [] → t'.log.events ≡ t.log.events
     → t'.index.triples ≡ t.index.triples

@@ -11,26 +11,29 @@ use Rattle.cdc_types.specs.declared.accounts.Balances.{Balances}
 use Rattle.cdc_types.specs.declared.events.Entry.{Entry}
 use Rattle.cdc_types.specs.declared.events.Event.{Event}
 use Rattle.cdc_types.specs.declared.events.EventAccount.{EventAccount}
-use Rattle.cdc_types.specs.Shapes.{max_128}
+use Rattle.cdc_types.specs.declared.transfers.Transfer.{Transfer}
+use Rattle.cdc_types.specs.Widths.{max_128}
 use Rattle.cdc_types.specs.Timestamps.{last_timestamp_from, last_timestamp}
 use Rattle.cdc_ledger.specs.declared.movements.Movement.{Movement}
-use Rattle.cdc_ledger.specs.declared.tables.Tables.{Tables}
+use Rattle.cdc_ledger.specs.declared.tables.Tables.TheInside.{Inside}
 use Rattle.cdc_ledger.specs.Accounts.{opened_as, no_balances, shown_as, shown_in, event_from}
 use Rattle.cdc_ledger.specs.Balances.{balances}
 use Rattle.cdc_ledger.specs.Changes.{pushed}
+use Rattle.cdc_ledger.specs.Contents.{Contents}
 use Rattle.cdc_ledger.specs.Effects.{Effect, effect_of, effect_by, settled_by, account_changed}
 use Rattle.cdc_ledger.specs.Events.{accounts_now, account_now, account_at, events, shown_account, shown_transfer, event_of, nobody}
 use Rattle.cdc_ledger.specs.Follows.{Follows}
 use Rattle.cdc_ledger.specs.History.{History, Opened, opened}
 use Rattle.cdc_ledger.specs.Kinds.{settles}
-use Rattle.cdc_ledger.specs.Movements.{IsPlace, IsPlaced, SideFits, Takes, account_ids, accounts_changed, effect_of_movement}
-use Rattle.cdc_ledger.specs.OpenTriples.{index_of}
+use Rattle.cdc_ledger.specs.Movements.{IsPlace, IsPlaced, IsMovement, SideFits, Takes, account_ids, accounts_changed, effect_of_movement}
+use Rattle.cdc_ledger.specs.OpenTriples.{index_of, ends_after}
 use Rattle.cdc_ledger.specs.Sound.{AreApart, IsSound}
-use Rattle.cdc_ledger.specs.Tables.{IsKept, history_of}
+use Rattle.cdc_ledger.specs.Tables.{IsKept, contents_of, history_of}
 use Rattle.cdc_ledger.specs.Verdict.{max_timestamp}
 use Rattle.cdc_ledger.proofs.AccountLaws.{accounts_now-pushed}
 use Rattle.cdc_ledger.proofs.BalanceLaws.{released_debit, released_credit}
 use Rattle.cdc_ledger.proofs.Elements.{map-map}
+use Rattle.cdc_ledger.proofs.IndexKept.{index_of-ended}
 use Rattle.cdc_ledger.proofs.Found.{find-accounts_now}
 use Rattle.cdc_ledger.proofs.OpenedLaws.{opened_id}
 use Rattle.cdc_ledger.proofs.EventLaws.{events-pushed}
@@ -81,24 +84,46 @@ effect-movement : (h : History) (m : Movement) → m.settled ≡ settled_by h m.
     → effect_of_movement m ≡ effect_of h m.entry
 effect-movement h m settled = ap (λ p. effect_by p m.entry) settled
 
+-- a movement that the tables can take: its entry may come next
+pub record CanTake (t : Inside) (m : Movement) : Type 0 where
+  pub kept : IsKept t
+  pub follows : Follows (history_of t) m.entry
+  pub later : t.last < m.entry.timestamp
+  pub movement : IsMovement (history_of t) m
+
+-- the same, from what is known of the tables' contents
+pub CanTake-from : (t : Inside) (v : Contents) (m : Movement) → contents_of t ≡ v → IsKept t
+    → Follows v.history m.entry → v.history.last < m.entry.timestamp → IsMovement v.history m → CanTake t m
+CanTake-from t v m is kept follows later movement =
+    let same : history_of t ≡ v.history = ap (λ (u : Contents). u.history) is in
+    record {
+      kept = kept;
+      follows = subst (λ (h : History). Follows h m.entry) (sym same) follows;
+      later = subst (λ (h : History). h.last < m.entry.timestamp) (sym same) later;
+      movement = subst (λ (h : History). IsMovement h m) (sym same) movement;
+    }
+
 -- the running balances take the movement, so that no sum or difference of `apply` passes its width
-pub All-Takes : (t : Tables) (m : Movement) → IsKept t → Follows (history_of t) m.entry → t.last < m.entry.timestamp
-    → m.settled ≡ settled_by (history_of t) m.entry
+pub All-Takes : (t : Inside) (m : Movement) → CanTake t m
     → All (Takes (effect_of_movement m) m.entry.transfer.debit_account_id m.entry.transfer.credit_account_id)
     t.accounts.items
-All-Takes t m kept follows after settled =
+All-Takes t m can =
     let P : Effect → List Account → Type 0 =
     λ g xs. All (Takes g m.entry.transfer.debit_account_id m.entry.transfer.credit_account_id) xs in
-    subst (λ xs. P (effect_of_movement m) xs) (sym kept.balanced)
-    (subst (λ g. P g (accounts_now (history_of t))) (sym (effect-movement (history_of t) m settled))
-    (takes_each (history_of t) m.entry kept.sound follows after))
+    subst (λ xs. P (effect_of_movement m) xs) (sym can.kept.balanced)
+    (subst (λ g. P g (accounts_now (history_of t))) (sym (effect-movement (history_of t) m can.movement.settled))
+    (takes_each (history_of t) m.entry can.kept.sound can.follows can.later))
+
+-- the movement's places are those of the accounts that the tables keep
+pub IsPlaced-kept : (t : Inside) (m : Movement) → CanTake t m → IsPlaced t.accounts.items m
+IsPlaced-kept t m can = subst (λ (xs : List Account). IsPlaced xs m) (sym can.kept.balanced) can.movement.placed
 
 -- accounts have the ids that they were opened with, whatever their balances
 ids_opened : (xs : List Account) → account_ids xs ≡ map (λ o. o.request.id) (map opened_as xs)
 ids_opened xs = sym (map-map (λ (o : Opened). o.request.id) opened_as xs)
 
 -- no two accounts of the tables have one id, so that a movement changes just two of them
-pub AreApart-kept : (t : Tables) → IsKept t → AreApart (account_ids t.accounts.items)
+pub AreApart-kept : (t : Inside) → IsKept t → AreApart (account_ids t.accounts.items)
 AreApart-kept t kept = subst AreApart (sym (ids_opened t.accounts.items)) kept.sound.unique
 
 -- a change of balances opens no account and moves none
@@ -128,7 +153,7 @@ module _ (m : Movement) where
       })
 
   -- so the tables hold the history with one more entry, and nothing else new
-  pub history-recorded : (t t' : Tables) → t'.accounts.items ≡ accounts_changed m t.accounts.items
+  pub history-recorded : (t t' : Inside) → t'.accounts.items ≡ accounts_changed m t.accounts.items
       → t'.entries.items ≡ t.entries.items ++ m.entry ∷ [] → t'.last ≡ m.entry.timestamp → t'.closed ≡ t.closed
       → history_of t' ≡ pushed (history_of t) m.entry
   history-recorded t t' accounts entries last closed =
@@ -166,16 +191,15 @@ event_from-now h e debit credit last =
     ∙ ap (account_at h e.transfer.credit_account_id) last)
 
 -- the accounts after the movement are those after its entry
-pub accounts-recorded : (t : Tables) (m : Movement) → IsKept t → Follows (history_of t) m.entry
-    → t.last < m.entry.timestamp
-    → m.settled ≡ settled_by (history_of t) m.entry
+pub accounts-recorded : (t : Inside) (m : Movement) → CanTake t m
     → accounts_changed m t.accounts.items ≡ accounts_now (pushed (history_of t) m.entry)
-accounts-recorded t m kept follows after settled =
+accounts-recorded t m can =
     let d : ℕ = m.entry.transfer.debit_account_id in
     let c : ℕ = m.entry.transfer.credit_account_id in
-    ap (λ (g : Effect). map (account_changed g d c) t.accounts.items) (effect-movement (history_of t) m settled)
-    ∙ ap (map (account_changed (effect_of (history_of t) m.entry) d c)) kept.balanced
-    ∙ sym (accounts_now-pushed (history_of t) m.entry kept.sound follows after)
+    ap (λ (g : Effect). map (account_changed g d c) t.accounts.items)
+    (effect-movement (history_of t) m can.movement.settled)
+    ∙ ap (map (account_changed (effect_of (history_of t) m.entry) d c)) can.kept.balanced
+    ∙ sym (accounts_now-pushed (history_of t) m.entry can.kept.sound can.follows can.later)
 
 -- events have the timestamps of their entries, of which none is past the last one
 last_timestamp_from-events : (h : History) (s : ℕ) (es : List Entry) → s ≤ h.last
@@ -184,7 +208,7 @@ last_timestamp_from-events h s [] before all = before
 last_timestamp_from-events h s (e ∷ es) before all = last_timestamp_from-events h e.timestamp es all.0 all.1
 
 -- no event is past the last timestamp
-pub last_timestamp-kept : (t : Tables) → IsKept t → last_timestamp t.log.events ≤ t.last
+pub last_timestamp-kept : (t : Inside) → IsKept t → last_timestamp t.log.events ≤ t.last
 last_timestamp-kept t kept =
     let P : List Event → Type 0 = λ told. last_timestamp told ≤ t.last in
     subst P (sym kept.logged)
@@ -197,25 +221,29 @@ items-with_items v f ws xs mapped same =
     let written : ws ≡ map f v.items = mapped ∙ ap (map f) same in
     with_items_is v ws (ap length written ∙ length-map v.items f ∙ sym v.ok.0) ∙ written
 
--- what is kept of the tables is kept after the movement
-pub IsKept-recorded : (t t' : Tables) (m : Movement) → IsKept t → Follows (history_of t) m.entry
-    → t.last < m.entry.timestamp
-    → m.entry.timestamp ≤ max_timestamp → m.settled ≡ settled_by (history_of t) m.entry
+-- what is kept of the tables is kept after the movement, whose entry takes this place
+pub IsKept-recorded : (t t' : Inside) (m : Movement) (place : ℕ) → CanTake t m → m.entry.timestamp ≤ max_timestamp
+    → place ≡ length t.entries.items
     → t'.accounts.items ≡ accounts_changed m t.accounts.items
     → t'.log.events ≡ t.log.events ++ event_from t'.accounts.items m.entry ∷ []
-    → t'.index.triples ≡ index_of (pushed (history_of t) m.entry)
+    → t'.index.triples ≡ ends_after m.settled m.entry place t.index.triples
     → history_of t' ≡ pushed (history_of t) m.entry → IsKept t'
-IsKept-recorded t t' m kept follows after top settled accounts log index same =
+IsKept-recorded t t' m place can top at accounts log index same =
     let h : History = history_of t in
     let now : t'.accounts.items ≡ accounts_now (pushed h m.entry) =
-    accounts ∙ accounts-recorded t m kept follows after settled in
+    accounts ∙ accounts-recorded t m can in
     let told : event_from t'.accounts.items m.entry ≡ event_of (pushed h m.entry) m.entry =
     ap (λ (xs : List Account). event_from xs m.entry) now
-    ∙ event_from-now (pushed h m.entry) m.entry follows.accounts.0 follows.accounts.1 refl in
+    ∙ event_from-now (pushed h m.entry) m.entry can.follows.accounts.0 can.follows.accounts.1 refl in
+    let ends : ends_after m.settled m.entry place t.index.triples ≡ index_of (pushed h m.entry) =
+    ap (λ (o : Option Transfer). ends_after o m.entry place t.index.triples) can.movement.settled
+    ∙ ap₂ (λ n s. ends_after (settled_by h m.entry) m.entry n s) at can.kept.indexed
+    ∙ sym (index_of-ended h m.entry can.kept.sound can.follows can.later) in
     record {
       balanced = now ∙ ap accounts_now (sym same);
-      logged = log ∙ ap₂ (λ xs x. xs ++ x ∷ []) kept.logged told ∙ sym (events-pushed h m.entry kept.sound.past after)
+      logged = log ∙ ap₂ (λ xs x. xs ++ x ∷ []) can.kept.logged told
+          ∙ sym (events-pushed h m.entry can.kept.sound.past can.later)
           ∙ ap events (sym same);
-      indexed = index ∙ ap index_of (sym same);
-      sound = subst IsSound (sym same) (IsSound-pushed h m.entry kept.sound follows after top);
+      indexed = index ∙ ends ∙ ap index_of (sym same);
+      sound = subst IsSound (sym same) (IsSound-pushed h m.entry can.kept.sound can.follows can.later top);
     }

@@ -10,7 +10,7 @@ use Rattle.cdc_types.specs.declared.results.TransferResult.{TransferResult}
 use Rattle.cdc_types.specs.declared.results.TransferResult.TheVariants as transfer
 use Rattle.cdc_types.specs.declared.transfers.NewTransfer.{NewTransfer}
 use Rattle.cdc_ledger.specs.History.{Opened}
-use Rattle.cdc_types.specs.Shapes.{max_128}
+use Rattle.cdc_types.specs.Widths.{max_128}
 use Rattle.cdc_ledger.specs.Events.{account_with, shown_account, shown_transfer, nobody}
 use Rattle.cdc_ledger.specs.Submit.{opened_by}
 use Rattle.cdc_ledger.specs.Verdict.{sum_lines}

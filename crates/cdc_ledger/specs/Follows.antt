@@ -1,8 +1,11 @@
 -- What it takes that an entry comes after a history (for private contracts and the laws).
-use Rattle.std.specs.Prelude.{◌+◌, ◌≤◌, ◌≡◌, ◌≢◌, true, false, None}
+use Rattle.std.specs.Prelude.{ℕ, ◌+◌, ◌<◌, ◌≤◌, ◌≡◌, ◌≢◌, true, false, None, ◌∷◌}
 use Rattle.cdc_types.specs.declared.events.Entry.{Entry}
-use Rattle.cdc_types.specs.Shapes.{max_128}
+use Rattle.cdc_types.specs.declared.transfers.Transfer.{Transfer}
+use Rattle.cdc_types.specs.Widths.{max_128}
 use Rattle.cdc_ledger.specs.Balances.{balances, resolved}
+use Rattle.cdc_ledger.specs.Changes.{pushed, expiry}
+use Rattle.cdc_ledger.specs.Due.{due}
 use Rattle.cdc_ledger.specs.Filling.{stored, expires_at}
 use Rattle.cdc_ledger.specs.History.{History}
 use Rattle.cdc_ledger.specs.Kinds.{holds, settles, stores}
@@ -34,3 +37,9 @@ pub record Follows (h : History) (e : Entry) : Type 0 where
   -- a single-phase or a pending one has room; any other one settles a pending transfer
   pub room : settles e.kind ≡ false → HasRoom h e
   pub settling : settles e.kind ≡ true → SettlesOpen h e
+
+-- the pending transfer p is the first to end of those that are due at the moment now: at any later moment it may
+-- expire, and the others are due after it
+pub record IsDueNext (h : History) (now : ℕ) (p : Transfer) : Type 0 where
+  pub follows : (t : ℕ) → Follows h (expiry p t)
+  pub first : (t : ℕ) → h.last < t → due h now ≡ p ∷ due (pushed h (expiry p t)) now

@@ -13,6 +13,7 @@ pub mod Submit
 pub mod Verdict
 -- what only private contracts and the laws cite, but for IsBounded of Sound
 pub mod Accounts
+pub mod Contents
 pub mod Effects
 pub mod Follows
 pub mod Movements

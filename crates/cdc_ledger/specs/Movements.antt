@@ -1,9 +1,16 @@
 -- What an entry and the places of its two accounts are beside a history (for private contracts).
-use Rattle.std.specs.Prelude.{ℕ, ◌+◌, ◌-◌, ◌<◌, ◌≤◌, ◌^◌, ◌≡◌, ◌==◌, Some, List, map, position}
+use Rattle.std.specs.Prelude.{ℕ, ◌+◌, ◌-◌, ◌<◌, ◌≤◌, ◌^◌, ◌≡◌, ◌==◌, Some, None, List, map, position}
 use Rattle.cdc_types.specs.declared.accounts.Account.{Account}
+use Rattle.cdc_types.specs.declared.transfers.NewTransfer.{NewTransfer}
+use Rattle.cdc_types.specs.Features.{features}
+use Rattle.cdc_types.specs.Lines.{first_line}
 use Rattle.cdc_ledger.specs.declared.movements.Movement.{Movement}
 use Rattle.cdc_ledger.specs.Effects.{Effect, effect_by, settled_by, account_changed}
+use Rattle.cdc_ledger.specs.Events.{accounts_now}
+use Rattle.cdc_ledger.specs.Follows.{Follows}
 use Rattle.cdc_ledger.specs.History.{History}
+use Rattle.cdc_ledger.specs.Submit.{entry_of}
+use Rattle.cdc_ledger.specs.Verdict.{transfer_lines}
 
 -- the account of this id stands at this place
 abbrev pub IsPlace : List Account → ℕ → ℕ → Type 0
@@ -20,9 +27,16 @@ pub record IsPlaced (accounts : List Account) (m : Movement) : Type 0 where
 
 -- the movement is that of its entry after the history: it knows the places of its two accounts, and the pending
 -- transfer that it settles
-pub record IsMovement (accounts : List Account) (h : History) (m : Movement) : Type 0 where
-  pub placed : IsPlaced accounts m
+pub record IsMovement (h : History) (m : Movement) : Type 0 where
+  pub placed : IsPlaced (accounts_now h) m
   pub settled : m.settled ≡ settled_by h m.entry
+
+-- no line refuses the request at the moment n, and the movement is that of its entry, which may come next
+pub record IsJudged (h : History) (r : NewTransfer) (n : ℕ) (m : Movement) : Type 0 where
+  pub unrefused : first_line (transfer_lines features h r n) ≡ None
+  pub entry : m.entry ≡ entry_of h r n
+  pub movement : IsMovement h m
+  pub follows : Follows h m.entry
 
 -- one side's sums take the effect: what is released is there, and what is added fits 128 bits
 pub record SideFits (f : Effect) (pending posted : ℕ) : Type 0 where

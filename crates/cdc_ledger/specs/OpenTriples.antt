@@ -1,10 +1,11 @@
 -- What an index of ends has: a triple for each pending transfer with a timeout that nothing brought to its end yet (for
 -- private contracts and the laws).
-use Rattle.std.specs.Prelude.{ℕ, ◌+◌, Bool, ◌==◌, ◌&&◌, not, List, [], ◌∷◌, if◌then◌else◌}
-use Rattle.std.specs.FinSet.{from_list}
+use Rattle.std.specs.Prelude.{ℕ, ◌+◌, Bool, ◌==◌, ◌&&◌, not, Option, Some, None, List, [], ◌∷◌, if◌then◌else◌}
+use Rattle.std.specs.FinSet.{from_list, insert}
 use Rattle.cdc_types.specs.declared.events.Entry.{Entry}
+use Rattle.cdc_types.specs.declared.transfers.Transfer.{Transfer}
 use Rattle.cdc_expiry.specs.declared.triple.Triple.{Triple}
-use Rattle.cdc_expiry.specs.Triples.{Triples}
+use Rattle.cdc_expiry.specs.Triples.{Triples, without}
 use Rattle.cdc_ledger.specs.History.{History}
 use Rattle.cdc_ledger.specs.Kinds.{holds}
 use Rattle.cdc_ledger.specs.Balances.{resolved}
@@ -36,3 +37,9 @@ index_of h = from_list (open_triples h)
 -- the entry has a triple of its own until something brings its transfer to its end
 abbrev pub opens : Entry → Bool
 opens e = holds e.kind && not (e.transfer.timeout == 0)
+
+-- the set after an entry at this place: without the triple of the pending transfer that it settles, if any, or with its
+-- own, if it has one
+abbrev pub ends_after : Option Transfer → Entry → ℕ → Triples → Triples
+ends_after (Some p) e place ends = without ends (expires_at p) p.timestamp
+ends_after None e place ends = if opens e then insert ends (triple_at place e) else ends

@@ -9,7 +9,7 @@ use Rattle.cdc_types.specs.declared.results.TransferResult.TheVariants as transf
 use Rattle.cdc_types.specs.declared.transfers.NewTransfer.{NewTransfer}
 use Rattle.cdc_types.specs.declared.transfers.Transfer.{Transfer}
 use Rattle.cdc_types.specs.Flags.{has_flag, is_pending_request, is_void_request}
-use Rattle.cdc_types.specs.Shapes.{max_128}
+use Rattle.cdc_types.specs.Widths.{max_128}
 use Rattle.cdc_ledger.specs.Filling.{as_asked, expires_at, settled_amount}
 use Rattle.cdc_ledger.specs.Kinds.{holds, posts, voids, expires}
 use Rattle.cdc_ledger.specs.Verdict.{is_other, max_timestamp}

@@ -13,6 +13,7 @@ use Rattle.cdc_types.specs.declared.results.AccountResult.{AccountResult}
 use Rattle.cdc_types.specs.declared.results.TransferResult.{TransferResult}
 use Rattle.cdc_types.specs.declared.transfers.NewTransfer.{NewTransfer}
 use Rattle.cdc_types.specs.declared.transfers.Transfer.{Transfer}
+use Rattle.cdc_types.specs.declared.bounds.TheConstants.Limits.{BATCH_ITEMS}
 use Rattle.cdc_types.specs.Features.{Features, features}
 use Rattle.cdc_types.specs.Flags.{is_pending_request, is_post_request, is_void_request}
 use Rattle.cdc_types.specs.Lines.{first_line}
@@ -90,8 +91,8 @@ items_of h (batch.Pulse now) = length (due h now)
 
 -- the batch has more items than one may have; a pulse has none of its own
 abbrev pub is_too_large : Batch → Bool
-is_too_large (batch.Accounts now items) = nat_lt 1000 (length items)
-is_too_large (batch.Transfers now items) = nat_lt 1000 (length items)
+is_too_large (batch.Accounts now items) = nat_lt BATCH_ITEMS (length items)
+is_too_large (batch.Transfers now items) = nat_lt BATCH_ITEMS (length items)
 is_too_large (batch.Pulse now) = false
 
 -- n items from the moment now on would pass the greatest timestamp

@@ -10,10 +10,12 @@ use Rattle.cdc_types.specs.declared.results.TransferResult.{TransferResult}
 use Rattle.cdc_types.specs.declared.results.TransferResult.TheVariants as transfer
 use Rattle.cdc_types.specs.declared.transfers.NewTransfer.{NewTransfer}
 use Rattle.cdc_types.specs.declared.transfers.Transfer.{Transfer}
+use Rattle.cdc_types.specs.declared.bounds.TheConstants.Limits.{TIMESTAMP}
 use Rattle.cdc_types.specs.Features.{Features}
 use Rattle.cdc_types.specs.Flags.{has_flag, is_pending_request, is_void_request, is_plain_request}
 use Rattle.cdc_types.specs.Lines.{first_line}
-use Rattle.cdc_types.specs.Shapes.{max_128, account_shape_lines, transfer_shape_lines}
+use Rattle.cdc_types.specs.Shapes.{account_shape_lines, transfer_shape_lines}
+use Rattle.cdc_types.specs.Widths.{max_128}
 use Rattle.cdc_ledger.specs.History.{Opened, History, opened}
 use Rattle.cdc_ledger.specs.Kinds.{holds, posts, voids, expires}
 use Rattle.cdc_ledger.specs.Balances.{balances, some_by}
@@ -21,7 +23,7 @@ use Rattle.cdc_ledger.specs.Filling.{stored, settled_amount, filled, as_asked, i
 
 -- the greatest timestamp, in nanoseconds
 abbrev pub max_timestamp : ℕ
-max_timestamp = 9223372036854775807
+max_timestamp = TIMESTAMP
 
 -- every field of two requests for an account is equal
 abbrev pub is_same_account : NewAccount → NewAccount → Bool

@@ -6,17 +6,17 @@ ghost use Rattle.cdc_types.specs.Features.{features};
 ghost use Rattle.cdc_types.specs.Flags.{is_plain_request};
 ghost use Rattle.cdc_types.specs.Lines.{first_line};
 ghost use Rattle.cdc_types.specs.Shapes.{transfer_refusal};
+ghost use Rattle.cdc_ledger.specs.Events.{accounts_now};
 ghost use Rattle.cdc_ledger.specs.Filling as filling;
 ghost use Rattle.cdc_ledger.specs.Filling.{stored};
-ghost use Rattle.cdc_ledger.specs.Movements.{IsPlaced};
 ghost use Rattle.cdc_ledger.specs.Sound.{HasAccounts};
-ghost use Rattle.cdc_ledger.specs.Tables.{IsJudged, IsKept, history_of};
+ghost use Rattle.cdc_ledger.specs.Movements.{IsJudged, IsPlaced};
 ghost use Rattle.cdc_ledger.specs.Verdict.{max_timestamp, known_transfer_lines, transfer_lines};
 
 use crate::accounts::find_place;
 use crate::movements::Movement;
-use crate::settling::{end_refusal, field_refusal};
-use crate::sums::refusal_between;
+use crate::plain_refusals::refusal_between;
+use crate::settling_refusals::{end_refusal, field_refusal};
 use crate::tables::Tables;
 use crate::transfers::{as_asked, filled_from, is_same_transfer, kind_of};
 use cdc_types::{Entry, NewTransfer, Transfer, TransferResult};
@@ -24,7 +24,7 @@ use cdc_types::{Entry, NewTransfer, Transfer, TransferResult};
 impl Tables {
     /// The transfer that is stored for the request at this moment.
     fn filled(&self, request: &NewTransfer, timestamp: u64) -> Transfer
-        ensures { result ≡ filling.filled (history_of self.now) request.now timestamp }
+        ensures { result ≡ filling.filled self.now.history request.now timestamp }
     {
         if request.is_plain() {
             return as_asked(request, timestamp);
@@ -37,7 +37,7 @@ impl Tables {
 
     /// Why a request whose id is another transfer's is refused.
     fn known_refusal(&self, request: &NewTransfer) -> Option<TransferResult>
-        ensures { let h = history_of self.now in
+        ensures { let h = self.now.history in
             result ≡ first_line (known_transfer_lines (stored h request.now.id) h request.now) }
     {
         let entry = self.entry(request.id)?;
@@ -50,18 +50,17 @@ impl Tables {
 
     /// What a request for a single-phase or a pending transfer leads to, or the first line that refuses it.
     fn judge_plain(&self, request: &NewTransfer, timestamp: u64) -> Result<Movement, TransferResult>
-        requires kept { IsKept self.now }
-        requires later { self.now.last < timestamp }
+        requires later { self.now.history.last < timestamp }
         requires within { timestamp ≤ max_timestamp }
         requires shape { transfer_refusal features request.now ≡ None }
-        requires unknown { let h = history_of self.now in
+        requires unknown { let h = self.now.history in
             first_line (known_transfer_lines (stored h request.now.id) h request.now) ≡ None }
         requires plain { is_plain_request request.now ≡ true }
-        ensures { let lines = transfer_lines features (history_of self.now) request.now timestamp in
-            MatchResult result (IsJudged self.now request.now timestamp)
+        ensures { let lines = transfer_lines features self.now.history request.now timestamp in
+            MatchResult result (IsJudged self.now.history request.now timestamp)
             (λ refusal. first_line lines ≡ Some refusal) }
     {
-        let accounts = self.accounts.as_slice();
+        let accounts = self.accounts();
         let Some(debit) = find_place(accounts, request.debit_account_id) else {
             return Err(TransferResult::DebitAccountNotFound);
         };
@@ -91,13 +90,12 @@ impl Tables {
 
     /// The movement of an entry that posts, voids or ends this pending transfer, whose accounts are there.
     pub(crate) fn settling(&self, entry: Entry, pending: Transfer) -> Movement
-        requires kept { IsKept self.now }
-        requires accounts { HasAccounts (history_of self.now) entry }
+        requires { HasAccounts self.now.history entry }
         ensures entry { result.entry ≡ entry }
-        ensures placed { IsPlaced self.now.accounts.items result }
+        ensures placed { IsPlaced (accounts_now self.now.history) result }
         ensures settled { result.settled ≡ Some pending }
     {
-        let accounts = self.accounts.as_slice();
+        let accounts = self.accounts();
         Movement {
             entry,
             debit: find_place(accounts, entry.transfer.debit_account_id).unwrap(),
@@ -112,17 +110,17 @@ impl Tables {
         request: &NewTransfer,
         timestamp: u64,
     ) -> Result<Movement, TransferResult>
-        requires kept { IsKept self.now }
-        requires later { self.now.last < timestamp }
+        requires later { self.now.history.last < timestamp }
         requires within { timestamp ≤ max_timestamp }
         requires shape { transfer_refusal features request.now ≡ None }
-        requires unknown { let h = history_of self.now in
+        requires unknown { let h = self.now.history in
             first_line (known_transfer_lines (stored h request.now.id) h request.now) ≡ None }
         requires settles { is_plain_request request.now ≡ false }
-        ensures { let lines = transfer_lines features (history_of self.now) request.now timestamp in
-            MatchResult result (IsJudged self.now request.now timestamp)
+        ensures { let lines = transfer_lines features self.now.history request.now timestamp in
+            MatchResult result (IsJudged self.now.history request.now timestamp)
             (λ refusal. first_line lines ≡ Some refusal) }
     {
+        let entries = self.entries();
         let Some(entry) = self.entry(request.pending_id) else {
             return Err(TransferResult::PendingTransferNotFound);
         };
@@ -130,7 +128,7 @@ impl Tables {
             return Err(refusal);
         }
         let pending = entry.transfer;
-        if let Some(refusal) = end_refusal(self.entries.as_slice(), &pending, timestamp) {
+        if let Some(refusal) = end_refusal(entries, &pending, timestamp) {
             return Err(refusal);
         }
         let entry = Entry {
@@ -147,11 +145,10 @@ impl Tables {
         request: &NewTransfer,
         timestamp: u64,
     ) -> Result<Movement, TransferResult>
-        requires kept { IsKept self.now }
-        requires later { self.now.last < timestamp }
+        requires later { self.now.history.last < timestamp }
         requires within { timestamp ≤ max_timestamp }
-        ensures { let lines = transfer_lines features (history_of self.now) request.now timestamp in
-            MatchResult result (IsJudged self.now request.now timestamp)
+        ensures { let lines = transfer_lines features self.now.history request.now timestamp in
+            MatchResult result (IsJudged self.now.history request.now timestamp)
             (λ refusal. first_line lines ≡ Some refusal) }
     {
         if let Some(refusal) = request.check_shape() {

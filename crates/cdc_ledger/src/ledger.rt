@@ -2,7 +2,7 @@
 
 ghost use Rattle.std.specs.Prelude.{◌≡◌, ◌+◌, ◌≤◌, true, IfSome, option_map};
 ghost use Rattle.std.specs.Option.{option_copied};
-ghost use Rattle.cdc_types.specs.Shapes.{max_128};
+ghost use Rattle.cdc_types.specs.Widths.{max_128};
 ghost use Rattle.cdc_ledger.specs.Answers.{Answers};
 ghost use Rattle.cdc_ledger.specs.Balances as sums;
 ghost use Rattle.cdc_ledger.specs.Events.{account_now, accounts_now, events};
@@ -34,11 +34,11 @@ impl Model for Ledger {
 
     ghost Value = { History };
 
-    ghost use Rattle.cdc_ledger.specs.Tables.{IsSoundlyKept, history_of};
+    ghost use Rattle.cdc_ledger.specs.Submit.{IsLegal};
 
-    ghost view = { λ ledger. history_of ledger.tables };
+    ghost view = { λ ledger. ledger.tables.history };
 
-    ghost invariant = { λ ledger. IsSoundlyKept ledger.tables };
+    ghost invariant = { λ ledger. IsLegal ledger.tables.history };
 }
 
 impl Ledger {
@@ -117,7 +117,7 @@ impl Ledger {
     pub fn closed(&self) -> bool
         ensures { result ≡ self.now.closed }
     {
-        self.tables.closed
+        self.tables.closed()
     }
 
     /// The accounts in the order in which they were opened, with their balances now.
@@ -125,7 +125,7 @@ impl Ledger {
         ensures accounts { result.now ≡ accounts_now self.now }
         ensures bounded { IsBounded self.now }
     {
-        self.tables.accounts.as_slice()
+        self.tables.accounts()
     }
 
     /// The account of this id, if there is one, with its balances now.
@@ -157,7 +157,7 @@ impl Ledger {
     pub fn entries(&self) -> &[Entry]
         ensures { result.now ≡ self.now.entries }
     {
-        self.tables.entries.as_slice()
+        self.tables.entries()
     }
 
     /// The last timestamp that was given out, in nanoseconds, or 0.
@@ -166,13 +166,13 @@ impl Ledger {
         ensures within { self.now.last ≤ max_timestamp }
         ensures legal { IsLegal self.now }
     {
-        self.tables.last
+        self.tables.last()
     }
 
     /// The events of the movements, in order.
     pub fn log(&self) -> &EventLog
         ensures { result.now.events ≡ events self.now }
     {
-        &self.tables.log
+        self.tables.log()
     }
 }

@@ -2,12 +2,16 @@
 #![tactic(auto)]
 
 mod accounts;
+mod batches;
 pub mod errors;
 mod judging;
 pub mod ledger;
 mod movements;
-mod settling;
-mod sums;
+mod plain_refusals;
+mod pulses;
+mod recording;
+mod requests;
+mod settling_refusals;
 mod tables;
 mod transfers;
 

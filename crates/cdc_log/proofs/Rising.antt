@@ -1,52 +1,19 @@
--- Laws of a rising list of events.
-use Rattle.std.proofs.Common.{◌≡◌, ℕ, suc, ◌-◌, ◌<◌, List, [], ◌∷◌, ◌++◌, length, refl, arith, sub-one, zero, true, false, cond, nat_lt, nat_le, drop, sym, ap, ◌∙◌}
-use Rattle.std.specs.Prelude.{Some, slice_get}
-use Rattle.std.specs.List.{All}
+-- A rising list of events, and what of it is later than a moment.
+use Rattle.std.proofs.Common.{◌≡◌, ℕ, suc, ◌<◌, List, [], ◌∷◌, refl, arith, zero, true, false, cond, nat_lt, nat_le, drop, sym, ap, ◌∙◌}
 use Rattle.std.specs.List.Sorted.{IsNonDecreasingBy, IsPartitionPoint}
 use Rattle.std.proofs.lemmas.Bool.Decides.{nat_tests}
-use Rattle.std.proofs.lemmas.List.Elements.{All-nil, All-cons, All-get_or, All-weaker}
+use Rattle.std.proofs.lemmas.List.Elements.{All-get_or}
 use Rattle.cdc_types.specs.declared.events.Event.{Event}
-use Rattle.cdc_types.specs.Timestamps.{last_timestamp_from, last_timestamp}
-use Rattle.cdc_log.specs.Log.{events_after, RiseFrom}
-
--- a later event keeps the list rising
-pub RiseFrom-push : (t : ℕ) (es : List Event) (e : Event) → RiseFrom t es → last_timestamp_from t es < e.timestamp
-    → RiseFrom t (es ++ e ∷ [])
-RiseFrom-push t [] e rising later = (later, tt)
-RiseFrom-push t (x ∷ es) e rising later = (rising.0, RiseFrom-push x.timestamp es e rising.1 later)
-
--- the moment of a list's last event is that of the event in its last place
-last_timestamp_from-cons : (t : ℕ) (x : Event) (es : List Event) (e : Event) → slice_get (x ∷ es) (length es) ≡ Some e
-    → last_timestamp_from t (x ∷ es) ≡ e.timestamp
-last_timestamp_from-cons t x [] e found = cc
-last_timestamp_from-cons t x (y ∷ es) e found = last_timestamp_from-cons x.timestamp y es e found
-
--- so the last timestamp of a log can be read at its last place
-pub last_timestamp_from-slice_get : (es : List Event) (e : Event) → slice_get es (length es - 1) ≡ Some e
-    → last_timestamp es ≡ e.timestamp
-last_timestamp_from-slice_get [] e found = cc
-last_timestamp_from-slice_get (x ∷ es) e found = last_timestamp_from-cons 0 x es e (rw sub-one at found)
-
--- the last event is the one at the end
-pub last_timestamp_from-push : (t : ℕ) (es : List Event) (e : Event)
-    → last_timestamp_from t (es ++ e ∷ []) ≡ e.timestamp
-last_timestamp_from-push t [] e = refl
-last_timestamp_from-push t (x ∷ es) e = last_timestamp_from-push x.timestamp es e
-
--- every event of a rising list is later than the moment that it rises from
-RiseFrom-later : (t : ℕ) (es : List Event) → RiseFrom t es → All (λ e. t < e.timestamp) es
-RiseFrom-later t [] rising = All-nil (λ e. t < e.timestamp)
-RiseFrom-later t (x ∷ es) rising =
-    All-cons (λ e. t < e.timestamp) x es rising.0
-    (All-weaker (λ e. x.timestamp < e.timestamp) (λ e. t < e.timestamp) (λ e later. omega arith) es
-    (RiseFrom-later x.timestamp es rising.1))
+use Rattle.cdc_types.specs.Timestamps.{RiseFrom}
+use Rattle.cdc_types.proofs.Rising.{RiseFrom-above}
+use Rattle.cdc_log.specs.Log.{events_after}
 
 -- the timestamps of a rising list don't fall
 pub IsNonDecreasingBy-rising : (t : ℕ) (es : List Event) → RiseFrom t es → IsNonDecreasingBy (λ e. e.timestamp) es
 IsNonDecreasingBy-rising t [] rising i j d below within = absurd (omega arith)
 IsNonDecreasingBy-rising t (x ∷ es) rising zero zero d below within = omega arith
 IsNonDecreasingBy-rising t (x ∷ es) rising zero (suc j) d below within =
-    let all_later = RiseFrom-later x.timestamp es rising.1 in
+    let all_later = RiseFrom-above x.timestamp es rising.1 in
     let later = All-get_or (λ e. x.timestamp < e.timestamp) es j d (omega arith) all_later in
     omega arith
 IsNonDecreasingBy-rising t (x ∷ es) rising (suc i) zero d below within = absurd (omega arith)

@@ -3,10 +3,11 @@ use Rattle.std.proofs.Common.{◌≡◌, ℕ, suc, ◌+◌, ◌<◌, ◌≤◌, 
 use Rattle.std.specs.Option.{ok_or}
 use Rattle.std.proofs.Math.Seq.{split_at}
 use Rattle.std.proofs.lemmas.List.{take_more, take-take, get_or-take, length-take}
+use Rattle.cdc_types.specs.declared.bounds.TheConstants.Limits.{BINDING_PAIRS}
 use Rattle.cdc_match.specs.declared.errors.BindError.{BindError}
 use Rattle.cdc_match.specs.declared.errors.BindError.TheVariants.{UnknownKey, BadValue, OutOfMemory}
 use Rattle.cdc_match.specs.declared.pairs.Pair.{Pair}
-use Rattle.cdc_match.specs.Parsing.{Read, ◌>>=◌, each, most_pairs, pair_of, pair_with, key_named, pairs_of, BeginsWithPair}
+use Rattle.cdc_match.specs.Parsing.{Read, ◌>>=◌, each, pair_of, pair_with, key_named, pairs_of, BeginsWithPair}
 use Rattle.cdc_match.specs.Parts.{parted}
 
 -- what was read on the way to an answer without a fault
@@ -55,17 +56,17 @@ pairs_more words i found pair below h is =
     rw (take_more words i [] below) (each_more pair_of (take i words) found (get_or words i []) pair h is)
 
 -- the words up to the tenth, parted at word i
-around : (words : List (List ℕ)) (i : ℕ) → i < length words → i < most_pairs
-    → take most_pairs words ≡ take i words ++ get_or words i [] ∷ drop (suc i) (take most_pairs words)
+around : (words : List (List ℕ)) (i : ℕ) → i < length words → i < BINDING_PAIRS
+    → take BINDING_PAIRS words ≡ take i words ++ get_or words i [] ∷ drop (suc i) (take BINDING_PAIRS words)
 around words i below few =
-    let within : i < length (take most_pairs words) = rw (length-take most_pairs words) (omega arith) in
-    let le : i ≤ most_pairs = omega arith in
-    split_at (take most_pairs words) i [] within
-    ∙ rw (take-take i most_pairs words le, get_or-take most_pairs words i [] few) refl
+    let within : i < length (take BINDING_PAIRS words) = rw (length-take BINDING_PAIRS words) (omega arith) in
+    let le : i ≤ BINDING_PAIRS = omega arith in
+    split_at (take BINDING_PAIRS words) i [] within
+    ∙ rw (take-take i BINDING_PAIRS words le, get_or-take BINDING_PAIRS words i [] few) refl
 
 -- the next word is at fault
 pub pairs_fault : (words : List (List ℕ)) (i : ℕ) (found : List Pair) (error : BindError) → i < length words
-    → i < most_pairs
+    → i < BINDING_PAIRS
     → each pair_of (take i words) ≡ Ok found → pair_of (get_or words i []) ≡ Err error → pairs_of words ≡ Err error
 pairs_fault words i found error below few h is =
     rw (around words i below few, each_fault pair_of (take i words) found (get_or words i []) error _ h is)

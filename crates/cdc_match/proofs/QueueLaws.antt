@@ -1,5 +1,5 @@
--- The events of a queue.
-use Rattle.std.proofs.Common.{◌≡◌, Bool, true, false, cond, List, [], ◌∷◌, refl, ap}
+-- The events of a queue, and the queue of events.
+use Rattle.std.proofs.Common.{◌≡◌, Bool, true, false, cond, List, [], ◌∷◌, map, refl, ap}
 use Rattle.cdc_types.specs.declared.events.Event.{Event}
 use Rattle.cdc_message.specs.declared.items.Item.{Item}
 use Rattle.cdc_message.specs.declared.items.Item.TheVariants.{Event as OfEvent, EndMark}
@@ -21,3 +21,17 @@ events_of-queue (OfEvent event ∷ items) binding =
     one_more event (queue items binding) (feed (events_of items) binding) (takes_event binding event)
     (events_of-queue items binding)
 events_of-queue (EndMark ∷ items) binding = events_of-queue items binding
+
+-- one message, whether or not the binding takes its event
+message_first : (event : Event) (items : List Item) (events : List Event) (b : Bool) → items ≡ map OfEvent events
+    → cond b (OfEvent event ∷ items) items ≡ map OfEvent (cond b (event ∷ events) events)
+message_first event items events true h = ap (λ rest. OfEvent event ∷ rest) h
+message_first event items events false h = h
+
+-- of the messages of events a queue has those of the feed, in order
+pub queue-map_messages : (events : List Event) (binding : Arguments)
+    → queue (map OfEvent events) binding ≡ map OfEvent (feed events binding)
+queue-map_messages [] binding = refl
+queue-map_messages (event ∷ events) binding =
+    message_first event (queue (map OfEvent events) binding) (feed events binding) (takes_event binding event)
+    (queue-map_messages events binding)

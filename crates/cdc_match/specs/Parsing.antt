@@ -3,6 +3,8 @@ use Rattle.std.specs.Prelude.{ℕ, List, [], ◌∷◌, take, length, nat_le, co
 use Rattle.std.specs.Option.{option_map, ok_or, IsSome}
 use Rattle.std.specs.Result.{IsOk}
 use Rattle.std.specs.Str.{bytes_eq}
+use Rattle.cdc_types.specs.Widths.{max_16, max_32}
+use Rattle.cdc_types.specs.declared.bounds.TheConstants.Limits.{BINDING_PAIRS}
 use Rattle.cdc_message.specs.Decimals.{decimal_up_to}
 use Rattle.cdc_message.specs.Kinds.{kind_named}
 use Rattle.cdc_match.specs.declared.errors.BindError.{BindError}
@@ -51,21 +53,13 @@ all_keys = key.EventType ∷ key.Ledger ∷ key.TransferCode ∷ key.DebitAccoun
 abbrev pub key_named : List ℕ → Option Key
 key_named name = find (λ k. bytes_eq (key_name k) name) all_keys
 
--- the greatest number that a header of 32 bits holds
-abbrev pub greatest_ledger : ℕ
-greatest_ledger = 4294967295
-
--- the greatest number that a header of 16 bits holds
-abbrev pub greatest_code : ℕ
-greatest_code = 65535
-
 -- the pair of a key and the value that a text writes for it, if it writes one
 abbrev pub pair_with : Key → List ℕ → Option Pair
 pair_with key.EventType text = option_map EventType (kind_named text)
-pair_with key.Ledger text = option_map Ledger (decimal_up_to greatest_ledger text)
-pair_with key.TransferCode text = option_map TransferCode (decimal_up_to greatest_code text)
-pair_with key.DebitAccountCode text = option_map DebitAccountCode (decimal_up_to greatest_code text)
-pair_with key.CreditAccountCode text = option_map CreditAccountCode (decimal_up_to greatest_code text)
+pair_with key.Ledger text = option_map Ledger (decimal_up_to max_32 text)
+pair_with key.TransferCode text = option_map TransferCode (decimal_up_to max_16 text)
+pair_with key.DebitAccountCode text = option_map DebitAccountCode (decimal_up_to max_16 text)
+pair_with key.CreditAccountCode text = option_map CreditAccountCode (decimal_up_to max_16 text)
 
 -- the pair of a word, which is parted at its first equals sign
 abbrev pub pair_of : List ℕ → Read Pair
@@ -82,15 +76,11 @@ each read (word ∷ words) = do
   rest ← each read words
   Ok (first ∷ rest)
 
--- how many pairs a binding may have
-abbrev pub most_pairs : ℕ
-most_pairs = 10
-
 -- the pairs of the words after the mode; an eleventh word is one too many, whatever it says
 abbrev pub pairs_of : List (List ℕ) → Read (List Pair)
 pairs_of words = do
-  pairs ← each pair_of (take most_pairs words)
-  if nat_le (length words) most_pairs then Ok pairs else Err TooManyPairs
+  pairs ← each pair_of (take BINDING_PAIRS words)
+  if nat_le (length words) BINDING_PAIRS then Ok pairs else Err TooManyPairs
 
 -- the binding of a mode and further words
 abbrev pub with_mode : Mode → List (List ℕ) → Read Arguments

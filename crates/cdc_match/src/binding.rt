@@ -9,12 +9,9 @@ ghost use Rattle.cdc_match.specs.Parsing as spec;
 use crate::errors::BindError;
 use crate::keys::pair_of;
 use crate::pairs::{Mode, Pair};
-use cdc_types::Headers;
+use cdc_types::{Headers, Limits};
 use std::alloc::{AllocError, Global};
 use std::marker::Model;
-
-// How many pairs a binding may have.
-const MOST_PAIRS: usize = 10;
 
 /// Which messages go to a queue, by their headers (AMQP 0-9-1, the headers exchange). A clause sees the mode and the
 /// pairs.
@@ -34,12 +31,14 @@ impl Model for Binding {
 
 // The pairs that words say.
 fn pairs_of(alloc: Global, words: &[&str]) -> Result<Vec<Pair>, BindError>
-    ensures pairs { FindsPairsUnlessMemory result (spec.pairs_of (map (λ word. word.now) words.now)) }
-    ensures memory { result ≡ Err BindError.OutOfMemory → spec.BeginsWithPair (map (λ word. word.now) words.now) }
+    ensures pairs { FindsPairsUnlessMemory result
+        (spec.pairs_of (map (λ word. word.now) words.now)) }
+    ensures memory { result ≡ Err BindError.OutOfMemory
+        → spec.BeginsWithPair (map (λ word. word.now) words.now) }
 {
     let mut pairs = Vec::new(alloc);
     for word in words {
-        if pairs.len() == MOST_PAIRS {
+        if pairs.len() == Limits::BINDING_PAIRS {
             return Err(BindError::TooManyPairs);
         }
         let pair = pair_of(word)?;
@@ -56,8 +55,10 @@ impl Binding {
     ///
     /// The first fault from the left is answered, and `OutOfMemory` where there was no memory for the pairs before it.
     pub fn parse(alloc: Global, words: &[&str]) -> Result<Binding, BindError>
-        ensures binding { GivesUnlessMemory result (spec.arguments_of (map (λ word. word.now) words.now)) }
-        ensures memory { result ≡ Err BindError.OutOfMemory → spec.NeedsMemory (map (λ word. word.now) words.now) }
+        ensures binding { GivesUnlessMemory result
+            (spec.arguments_of (map (λ word. word.now) words.now)) }
+        ensures memory { result ≡ Err BindError.OutOfMemory
+            → spec.NeedsMemory (map (λ word. word.now) words.now) }
     {
         let (first, rest) = words.split_first().ok_or(BindError::BadMode)?;
         let mode = Mode::named(first).ok_or(BindError::BadMode)?;

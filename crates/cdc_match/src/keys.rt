@@ -2,6 +2,7 @@
 
 ghost use Rattle.std.specs.Prelude.{◌≡◌, ◌≤◌, IfSome};
 ghost use Rattle.std.specs.Option.{option_map};
+ghost use Rattle.cdc_types.specs.Widths.{max_16, max_32};
 ghost use Rattle.cdc_message.specs.Decimals as decimals;
 ghost use Rattle.cdc_match.specs.Parsing as spec;
 ghost use Rattle.cdc_match.specs.Parts.{parted};
@@ -35,16 +36,16 @@ const KEYS: [Key; 5] = [
 
 // The number of a ledger.
 fn ledger(text: &str) -> Option<u32>
-    ensures { result ≡ decimals.decimal_up_to spec.greatest_ledger text.now }
+    ensures { result ≡ decimals.decimal_up_to max_32 text.now }
 {
-    Some(decimal_up_to(text, u128::from(u32::MAX))? as u32)
+    Some(decimal_up_to(text.as_bytes(), u128::from(u32::MAX))? as u32)
 }
 
 // The code of an account or a transfer.
 fn code(text: &str) -> Option<u16>
-    ensures { result ≡ decimals.decimal_up_to spec.greatest_code text.now }
+    ensures { result ≡ decimals.decimal_up_to max_16 text.now }
 {
-    Some(decimal_up_to(text, u128::from(u16::MAX))? as u16)
+    Some(decimal_up_to(text.as_bytes(), u128::from(u16::MAX))? as u16)
 }
 
 impl Key {

@@ -1,10 +1,15 @@
 -- What a decimal text is read as.
-use Rattle.std.proofs.Common.{◌≡◌, ◌≤◌, ◌<◌, ◌==◌, ◌&&◌, ℕ, List, length, Bool, true, false, not, Some, None, refl, arith, rules, le-leb}
+use Rattle.std.proofs.Common.{◌≡◌, ◌≤◌, ◌<◌, ◌==◌, ◌&&◌, ◌-◌, ◌^◌, ◌∙◌, ℕ, List, length, get_or, Bool, true, false, not, Some, None, Result, Ok, Err, IsUtf8, refl, sym, ap, arith, rules, le-leb}
+use Rattle.std.proofs.lemmas.Bool.Decides.{nat_tests}
+use Rattle.std.proofs.lemmas.List.Sums.{AllPass-from_list_all}
+use Rattle.std.proofs.lemmas.Str.{IsUtf8-from_ascii}
+use Rattle.std.proofs.lemmas.Str.Ascii.{IsAscii-from_all}
 use Rattle.std.proofs.lemmas.Str.Parse.{IsNumeralModel, numerals_by_value}
 use Rattle.std.specs.Char.{is_ascii_digit}
 use Rattle.std.specs.List.{list_all}
+use Rattle.std.specs.Result.{OkIff, result_ok}
 use Rattle.std.specs.Str.Parse.{digits_value}
-use Rattle.cdc_message.specs.Decimals.{is_decimal, at_most, decimal_up_to}
+use Rattle.cdc_message.specs.Decimals.{is_decimal, at_most}
 
 -- `parse` and the definitions mean the same digits
 pub own_digits : IsNumeralModel (λ text. list_all is_ascii_digit text ≡ true) (digits_value 10)
@@ -36,7 +41,19 @@ small greatest n h = rw (le-leb n greatest h)
 large : (greatest n : ℕ) → (n ≤ greatest → ⊥) → at_most greatest n ≡ None
 large greatest n h = grind arith
 
--- digits of a number that is too large
-pub decimal_large : (greatest : ℕ) (text : List ℕ) → is_decimal text ≡ true → (digits_value 10 text ≤ greatest → ⊥)
-    → decimal_up_to greatest text ≡ None
-decimal_large greatest text h over = rw h (large greatest _ over)
+-- a number of 128 bits that `parse` gives is taken, and one that it refuses is too large
+pub parsed_at_most : {E P : Type 0} (r : Result ℕ E) (n : ℕ) → OkIff r (P × (n < 2 ^ 128)) n → P
+    → result_ok r ≡ at_most (2 ^ 128 - 1) n
+parsed_at_most (Ok x) n is some = ap Some is.1 ∙ sym (small (2 ^ 128 - 1) n (omega (arith, is.0.1)))
+parsed_at_most (Err e) n is some = sym (large (2 ^ 128 - 1) n (λ few. is (some, omega (arith, few))))
+
+-- a digit's byte is one of ASCII
+digit_is_ascii : (b : ℕ) → is_ascii_digit b ≡ true → b < 128
+digit_is_ascii b digit = grind (arith, nat_tests)
+
+-- digits are text, so they can be handed to `parse`
+pub digits_are_text : (text : List ℕ) → list_all is_ascii_digit text ≡ true → IsUtf8 text
+digits_are_text text digits =
+    IsUtf8-from_ascii text
+    (IsAscii-from_all text
+    (λ k d below. digit_is_ascii (get_or text k d) (AllPass-from_list_all is_ascii_digit text digits k d below)))

@@ -1,12 +1,13 @@
 -- Laws of replays, whatever the lists hold.
 use Rattle.std.proofs.Common.{◌≡◌, ℕ, zero, suc, ◌+◌, ◌<◌, ◌≤◌, Bool, true, false, cond, List, [], ◌∷◌, ◌++◌, length, get_or, take, drop, refl, sym, ap, ◌∙◌, subst, inl, inr, arith, add-one}
-use Rattle.std.specs.Prelude.{Contains, max}
+use Rattle.std.specs.Prelude.{Contains, Some, max, slice_get}
 use Rattle.std.specs.Bool.{Decides}
 use Rattle.std.proofs.lemmas.Bool.{cases_Bool, cases_lt}
 use Rattle.std.proofs.lemmas.Bool.Decides.{Decides-by_or, not_from_Decides}
 use Rattle.std.proofs.lemmas.List.{take_all, take_at, take-take, take-append-le, take-append-drop, take_more, length-take, length-append, get_or-take, get_or_default, get_or_at}
 use Rattle.std.proofs.lemmas.List.Elements.{Contains-append_left, Contains-push, Contains-push_cases, Decides-contains}
 use Rattle.std.proofs.lemmas.List.Sums.{fold-append}
+use Rattle.std.proofs.lemmas.Option.{get_or_from_slice_get, slice_get_within}
 use Rattle.cdc_message.specs.Replays.{HaveSame, IsReplay, IsPrefix, HasNoneTwice, has_same, firsts}
 
 -- ---- lists with the same elements
@@ -299,6 +300,32 @@ pub IsReplay-place : {X : Type 0} (w f : List X) (x : X) (n i : ℕ) → IsRepla
     → get_or f i x ≡ x → IsReplay (w ++ x ∷ []) f
 IsReplay-place w f x n i replay same near below here =
     IsReplay-push w f x (max n (i + 1)) replay (HaveSame-place w f x n i same near below here)
+
+-- what stands in a beginning stands in the list
+pub Contains-take_all : {X : Type 0} (n : ℕ) (xs : List X) (x : X) → Contains (take n xs) x → Contains xs x
+Contains-take_all n xs x there =
+    subst (λ ys. Contains ys x) (take-append-drop n xs) (Contains-append_left (take n xs) (drop n xs) x there)
+
+-- and in each longer beginning
+pub Contains-take_longer : {X : Type 0} (m n : ℕ) (xs : List X) (x : X) → m ≤ n → Contains (take m xs) x
+    → Contains (take n xs) x
+Contains-take_longer m n xs x less there =
+    Contains-take_all m (take n xs) x (subst (λ ys. Contains ys x) (sym (take-take m n xs less)) there)
+
+-- an element may come once all that stands before it has come, and from then on again and again
+pub IsReplay-in_turn : {X : Type 0} (w f : List X) (x : X) (n : ℕ) → IsReplay w f → slice_get f n ≡ Some x
+    → ((y : X) → Contains (take n f) y → Contains w y) → IsReplay (w ++ x ∷ []) f
+IsReplay-in_turn w f x n replay found before =
+    let within : n < length f = slice_get_within f n x found in
+    let here : get_or f n x ≡ x = get_or_from_slice_get f n x x found in
+    let all = IsReplay-all w f replay in
+    elim (cases_lt n all.0) [
+      | inl early ↦ IsReplay-place w f x all.0 n replay all.1 (omega arith) within here
+      | inr late ↦
+          let same : HaveSame w (take n f) =
+          record { forth = λ y there. Contains-take_longer all.0 n f y late (all.1.forth y there); back = before } in
+          IsReplay-place w f x n n replay same (omega arith) within here
+    ]
 
 -- no two places of a list without repeats hold one element
 one_place : {X : Type 0} (f : List X) (x : X) (i j : ℕ) → HasNoneTwice f → i < length f → j < length f

@@ -9,7 +9,8 @@ use Rattle.std.proofs.lemmas.List.{append-nil, append_assoc, get_or_append_left,
 use Rattle.std.proofs.lemmas.List.Elements.{All-contains, Contains-get_or, filter_map-append}
 use Rattle.std.proofs.lemmas.List.Sums.{fold-append}
 use Rattle.cdc_types.specs.declared.events.Event.{Event}
-use Rattle.cdc_types.specs.Timestamps.{last_timestamp_from, last_timestamp}
+use Rattle.cdc_types.specs.Timestamps.{last_timestamp}
+use Rattle.cdc_types.proofs.Rising.{last_timestamp_from-push}
 use Rattle.cdc_message.specs.declared.items.Item.{Item}
 use Rattle.cdc_message.specs.declared.items.Item.TheVariants.{Event as OfEvent, EndMark}
 use Rattle.cdc_message.specs.Items.{item_event, events_of, same_item, is_newest, newest_after, rises, TimestampsRise}
@@ -74,11 +75,6 @@ latest_from-push : (t : ℕ) (es : List Event) (e : Event)
     → latest_from t (es ++ e ∷ []) ≡ max (latest_from t es) e.timestamp
 unfolding latest_from
 latest_from-push t es e = fold-append (λ latest (x : Event). max latest x.timestamp) t es (e ∷ [])
-
--- where an event comes last, the last timestamp is its own
-last_timestamp_from-push : (t : ℕ) (es : List Event) (e : Event) → last_timestamp_from t (es ++ e ∷ []) ≡ e.timestamp
-last_timestamp_from-push t [] e = refl
-last_timestamp_from-push t (x ∷ es) e = last_timestamp_from-push x.timestamp es e
 
 -- a later event has the latest timestamp from then on
 max_later : (a b : ℕ) → nat_lt a b ≡ true → max a b ≡ b

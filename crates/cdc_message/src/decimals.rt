@@ -1,39 +1,48 @@
-//! Decimal numbers in text.
+//! Decimal numbers in text, in the one place that reads them: bodies, bindings, scripts and words call these.
 
-ghost use Rattle.std.specs.Prelude.{◌≡◌};
+ghost use Rattle.std.specs.Prelude.{◌≡◌, true};
 ghost use Rattle.std.specs.Char.{is_ascii_digit};
 ghost use Rattle.std.specs.List.{list_all};
+ghost use Rattle.std.specs.Str.Parse.{digits_value};
 ghost use Rattle.cdc_message.specs.Decimals as spec;
 
-fn has_digits_alone(text: &str) -> bool
+fn has_digits_alone(text: &[u8]) -> bool
     ensures { result ≡ list_all is_ascii_digit text.now }
 {
-    text.as_bytes().iter().all(|byte| byte.is_ascii_digit())
+    text.iter().all(|byte| byte.is_ascii_digit())
 }
 
 /// Whether a text is one or more of the digits 0 to 9, and nothing else.
-pub fn is_decimal(text: &str) -> bool
+pub fn is_decimal(text: &[u8]) -> bool
     ensures { result ≡ spec.is_decimal text.now }
 {
     !text.is_empty() && has_digits_alone(text)
 }
 
+// The number that digits write, if it has at most 128 bits.
+fn value_of(digits: &[u8]) -> Option<u128>
+    requires { spec.is_decimal digits.now ≡ true }
+    ensures { result ≡ spec.at_most u128.MAX (digits_value 10 digits.now) }
+{
+    let Ok(text) = str::from_utf8(digits) else {
+        return None;
+    };
+    text.parse().ok()
+}
+
 /// The number that a text writes in decimal, leading zeros allowed; none where it isn't one or more digits, or where
-/// the number is above `greatest`.
-pub fn decimal_up_to(text: &str, greatest: u128) -> Option<u128>
+/// the number is above `greatest`. So of a text that is no number the first is `!is_decimal`, and the second what is
+/// left.
+pub fn decimal_up_to(text: &[u8], greatest: u128) -> Option<u128>
     ensures { result ≡ spec.decimal_up_to greatest text.now }
 {
     if !is_decimal(text) {
         return None;
     }
-    match text.parse() {
-        Ok(number) => {
-            if number <= greatest {
-                Some(number)
-            } else {
-                None
-            }
-        }
-        Err(_) => None,
+    let number = value_of(text)?;
+    if number <= greatest {
+        Some(number)
+    } else {
+        None
     }
 }

@@ -29,6 +29,7 @@ fn member(object: &Value, field: Field) -> Result<&Value, DecodeError>
 fn decimal(text: &str, field: Field) -> Result<u128, DecodeError>
     ensures { result ≡ number_in field (string text.now) }
 {
+    let text = text.as_bytes();
     if !is_decimal(text) {
         return Err(DecodeError::WrongType(field));
     }

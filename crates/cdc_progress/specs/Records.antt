@@ -1,15 +1,16 @@
 -- What is saved of a publisher's way, and the text of it.
-use Rattle.std.specs.Prelude.{ℕ, ◌<◌, ◌^◌, List, ◌∷◌, ◌++◌, codes, decimal}
+use Rattle.std.specs.Prelude.{ℕ, ◌<◌, ◌≤◌, ◌^◌, List, ◌∷◌, ◌++◌, codes, decimal}
+use Rattle.cdc_types.specs.declared.bounds.TheConstants.Limits.{TIMESTAMP}
 
 -- the number of the last session, and the timestamp up to which every event is confirmed
 pub record Saved : Type 0 where
   pub session : ℕ
   pub timestamp : ℕ
 
--- the numbers fit: 64 bits and 63
+-- the numbers fit: 64 bits, and the greatest timestamp
 pub record Fits (saved : Saved) : Type 0 where
   pub session : saved.session < 2 ^ 64
-  pub timestamp : saved.timestamp < 2 ^ 63
+  pub timestamp : saved.timestamp ≤ TIMESTAMP
 
 -- two numbers with a space between them
 abbrev pub numbers_text : ℕ → ℕ → List ℕ

@@ -1,11 +1,22 @@
 -- What a store may answer.
-use Rattle.std.specs.Prelude.{◌≡◌, ◌⊎◌, ℕ, ◌-◌, ◌^◌, ◌<◌}
+use Rattle.std.specs.Prelude.{◌≡◌, ◌⊎◌, ℕ, ◌<◌, Bool, Option}
+use Rattle.cdc_types.specs.Widths.{max_64}
+use Rattle.cdc_progress.specs.Records.{Saved}
 use Rattle.cdc_progress.specs.declared.errors.StoreError.{StoreError}
 use Rattle.cdc_progress.specs.declared.errors.StoreError.TheVariants.{ReadFault, WriteFault, BadRecord, OutOfMemory}
 
+-- what calls make of a store: whether it is honest; what it holds, before and after; and how often a read or a write
+-- had failed before, and has failed after
+pub record StoreChange : Type 0 where
+  pub honest : Bool
+  pub before : Option Saved
+  pub after : Option Saved
+  pub failed_before : ℕ
+  pub failed_after : ℕ
+
 -- a failure was counted: the count rose, or stays at the greatest that there is
 abbrev pub IsCounted : ℕ → ℕ → Type 0
-IsCounted before after = (before < after) ⊎ ((before ≡ 2 ^ 64 - 1) × (after ≡ 2 ^ 64 - 1))
+IsCounted before after = (before < after) ⊎ ((before ≡ max_64) × (after ≡ max_64))
 
 -- a load may be refused like this, where the count of failures goes from one number to the other: only a read fault
 -- counts

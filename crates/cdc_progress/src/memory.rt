@@ -43,7 +43,12 @@ impl MemoryStore {
     /// 1; 0 is none. A save that fails holds the new record where `keeps_new`, and the old one else.
     pub fn with_faults(start: Option<Progress>, fails_at: u64, keeps_new: bool) -> MemoryStore
         requires { fails_at < 2 ^ 64 - 1 }
-        ensures { result ≡ record { held = start; calls = 0; fails_at = fails_at; keeps_new = keeps_new } }
+        ensures { result ≡ record {
+          held = start;
+          calls = 0;
+          fails_at = fails_at;
+          keeps_new = keeps_new;
+        } }
     {
         MemoryStore {
             held: start,
@@ -73,7 +78,8 @@ impl ProgressStore for MemoryStore {
     ghost is_honest = { λ _. true };
 
     fn load(&mut self) -> Result<Option<Progress>, StoreError>
-        ensures answer { result ≡ (if fails_next self.old then Err StoreError.ReadFault else Ok self.old.held) }
+        ensures answer { result
+            ≡ (if fails_next self.old then Err StoreError.ReadFault else Ok self.old.held) }
         ensures after { self.new ≡ called self.old }
         ensures bounds { HasBounds self.old }
     {
@@ -84,7 +90,8 @@ impl ProgressStore for MemoryStore {
     }
 
     fn save(&mut self, progress: Progress) -> Result<(), StoreError>
-        ensures answer { result ≡ (if fails_next self.old then Err StoreError.WriteFault else Ok tt) }
+        ensures answer { result
+            ≡ (if fails_next self.old then Err StoreError.WriteFault else Ok tt) }
         ensures after { self.new ≡ after_save self.old progress }
         ensures bounds { HasBounds self.old }
     {

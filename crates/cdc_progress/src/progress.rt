@@ -1,8 +1,8 @@
 //! How far a publisher has come.
 
-ghost use Rattle.std.specs.Prelude.{◌≡◌, ◌<◌, ◌^◌};
-ghost use Rattle.cdc_progress.specs.Records.{Saved};
+ghost use Rattle.std.specs.Prelude.{◌≡◌, ◌≤◌};
 
+use cdc_types::Limits;
 use std::marker::Model;
 
 /// How far a publisher has come: the number of its last session, and the timestamp up to which every event is
@@ -14,22 +14,29 @@ pub struct Progress {
 }
 
 impl Model for Progress {
+    ghost use Rattle.std.specs.Prelude.{◌≤◌};
+    ghost use Rattle.cdc_types.specs.declared.bounds.TheConstants.Limits.{TIMESTAMP};
+    ghost use Rattle.cdc_progress.specs.Records.{Saved};
+
     ghost Value = { Saved };
 
-    ghost view = { λ progress. record { session = progress.session; timestamp = progress.timestamp } };
+    ghost view = { λ progress. record {
+      session = progress.session;
+      timestamp = progress.timestamp;
+    } };
 
-    ghost invariant = { λ progress. progress.timestamp < 2 ^ 63 };
+    ghost invariant = { λ progress. progress.timestamp ≤ TIMESTAMP };
 
     ghost inverse = { λ saved. record { session = saved.session; timestamp = saved.timestamp } };
 }
 
 impl Progress {
     /// The greatest timestamp, in nanoseconds: 2^63-1.
-    pub const MAX_TIMESTAMP: u64 = 9_223_372_036_854_775_807;
+    pub const MAX_TIMESTAMP: u64 = Limits::TIMESTAMP;
 
     /// The progress of a session, with a timestamp in nanoseconds, at most `MAX_TIMESTAMP`.
     pub fn new(session: u64, timestamp: u64) -> Progress
-        requires { timestamp < 2 ^ 63 }
+        requires { timestamp ≤ Limits.TIMESTAMP }
         ensures { result ≡ record { session = session; timestamp = timestamp } }
     {
         Progress { session, timestamp }
@@ -45,7 +52,7 @@ impl Progress {
     /// The timestamp up to which every event is confirmed, in nanoseconds.
     pub fn timestamp(self) -> u64
         ensures value { result ≡ self.timestamp }
-        ensures fits { self.timestamp < 2 ^ 63 }
+        ensures fits { self.timestamp ≤ Limits.TIMESTAMP }
     {
         self.timestamp
     }

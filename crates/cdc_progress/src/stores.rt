@@ -24,8 +24,10 @@ pub trait ProgressStore {
     /// answer does. `BadRecord`: it is no record; an honest store never says so. `OutOfMemory`: there was no memory.
     fn load(&mut self) -> Result<Option<Progress>, StoreError>
         ensures given { IfOk result (λ given. held self.new ≡ given) }
-        ensures honest_load { IsTrue (is_honest self.old) → IfOk result (λ given. given ≡ held self.old) }
-        ensures honest_record { IsTrue (is_honest self.old) → ¬ (result ≡ Err StoreError.BadRecord) }
+        ensures honest_load { IsTrue (is_honest self.old)
+            → IfOk result (λ given. given ≡ held self.old) }
+        ensures honest_record { IsTrue (is_honest self.old)
+            → ¬ (result ≡ Err StoreError.BadRecord) }
         ensures refused { OnErr result (held self.new ≡ held self.old) }
         ensures refusals { IfErr result (MayRefuseLoad (failed self.old) (failed self.new)) }
         ensures uncounted { OnOk result (failed self.new ≡ failed self.old) }
@@ -37,8 +39,10 @@ pub trait ProgressStore {
     /// new record is. `OutOfMemory`: there was no memory, and what was held is held.
     fn save(&mut self, progress: Progress) -> Result<(), StoreError>
         ensures saved { OnOk result (held self.new ≡ Some progress) }
-        ensures refused { OnErr result ((held self.new ≡ held self.old) ⊎ (held self.new ≡ Some progress)) }
-        ensures without_memory { result ≡ Err StoreError.OutOfMemory → held self.new ≡ held self.old }
+        ensures refused { OnErr result
+            ((held self.new ≡ held self.old) ⊎ (held self.new ≡ Some progress)) }
+        ensures without_memory { result ≡ Err StoreError.OutOfMemory
+            → held self.new ≡ held self.old }
         ensures refusals { IfErr result (MayRefuseSave (failed self.old) (failed self.new)) }
         ensures uncounted { OnOk result (failed self.new ≡ failed self.old) }
         ensures honest { is_honest self.new ≡ is_honest self.old };

@@ -50,7 +50,8 @@ fn number_in(digits: &[u8]) -> Option<u64>
 // What stands before the first space and after it.
 fn split_at_space(bytes: &[u8]) -> Option<(&[u8], &[u8])>
     ensures { MatchOption result (All (λ b. (b == 32) ≡ false) bytes.now)
-        (λ parts. (bytes.now ≡ parts.0.now ++ 32 ∷ parts.1.now) × All (λ b. (b == 32) ≡ false) parts.0.now) }
+        (λ parts. (bytes.now ≡ parts.0.now ++ 32 ∷ parts.1.now)
+        × All (λ b. (b == 32) ≡ false) parts.0.now) }
 {
     let space = bytes.iter().position(|byte| *byte == b' ')?;
     Some((&bytes[..space], &bytes[space + 1..]))
@@ -61,7 +62,8 @@ fn numbers_in(bytes: &[u8]) -> Option<(u64, u64)>
     ensures { MatchOption result
         ((session timestamp : ℕ) → session < 2 ^ 64 → timestamp < 2 ^ 64
         → ¬ (bytes.now ≡ numbers_text session timestamp))
-        (λ found. (found.0 < 2 ^ 64) × (found.1 < 2 ^ 64) × (bytes.now ≡ numbers_text found.0 found.1)) }
+        (λ found. (found.0 < 2 ^ 64) × (found.1 < 2 ^ 64)
+        × (bytes.now ≡ numbers_text found.0 found.1)) }
 {
     let (session, timestamp) = split_at_space(bytes)?;
     Some((number_in(session)?, number_in(timestamp)?))
@@ -69,7 +71,8 @@ fn numbers_in(bytes: &[u8]) -> Option<(u64, u64)>
 
 // What stands between the head of a record and its line feed.
 fn inner(bytes: &[u8]) -> Option<&[u8]>
-    ensures { MatchOption result ((middle : List ℕ) → ¬ (bytes.now ≡ codes "tb-cdc 1 " ++ (middle ++ codes "\n")))
+    ensures { MatchOption result
+        ((middle : List ℕ) → ¬ (bytes.now ≡ codes "tb-cdc 1 " ++ (middle ++ codes "\n")))
         (λ middle. bytes.now ≡ codes "tb-cdc 1 " ++ (middle.now ++ codes "\n")) }
 {
     bytes.strip_prefix(HEAD)?.strip_suffix(b"\n")
@@ -77,7 +80,8 @@ fn inner(bytes: &[u8]) -> Option<&[u8]>
 
 /// The record that these bytes are the text of, to the last byte; any other bytes are none.
 pub fn parse(bytes: &[u8]) -> Option<Progress>
-    ensures record { MatchOption result ((saved : Saved) → Fits saved → ¬ (bytes.now ≡ text_of saved))
+    ensures record { MatchOption result
+        ((saved : Saved) → Fits saved → ¬ (bytes.now ≡ text_of saved))
         (λ saved. bytes.now ≡ text_of saved) }
     ensures fits { IfSome result Fits }
 {

@@ -7,7 +7,7 @@ use Rattle.cdc_types.specs.declared.events.EventKind.TheVariants.{SinglePhase}
 use Rattle.cdc_message.specs.declared.items.Item.TheVariants.{Event as OfEvent, EndMark}
 use Rattle.cdc_message.specs.declared.packets.Packet.TheVariants.{Connect, Publish}
 use Rattle.cdc_progress.specs.Records.{Saved}
-use Rattle.cdc_publisher.specs.Courses.{Course, begun, confirmed_timestamp, is_done, new_course, next_packet, takes_confirm, unconfirmed, wanted, with_confirm, with_offer, with_sent}
+use Rattle.cdc_publisher.specs.Courses.{Course, begun, confirmed_timestamp, is_done, new_course, next_packet, next_poll, takes_confirm, unconfirmed, with_confirm, with_offer, with_sent}
 
 -- an account as an event shows it
 abbrev side : ℕ → EventAccount
@@ -76,7 +76,7 @@ it_connects_first : next_packet offered ≡ Some (Connect 7)
 it_connects_first = refl
 
 -- at first it wants three events, those after the timestamp that was held
-three_are_wanted : wanted opened ≡ Some (record { after = 2000; limit = 3 })
+three_are_wanted : next_poll opened ≡ Some (record { after = 2000; limit = 3 })
 three_are_wanted = refl
 
 -- both events are sent, under tags 1 and 2

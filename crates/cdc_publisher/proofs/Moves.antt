@@ -9,6 +9,7 @@ use Rattle.cdc_types.specs.Timestamps.{last_timestamp_from}
 use Rattle.cdc_message.specs.declared.items.Item.TheVariants.{EndMark}
 use Rattle.cdc_message.specs.declared.packets.Packet.{Packet}
 use Rattle.cdc_message.specs.declared.packets.Packet.TheVariants.{Connect, Publish}
+use Rattle.cdc_types.proofs.Rising.{last_timestamp_from-push}
 use Rattle.cdc_publisher.specs.Courses.{Course, next_packet, numbers_from, tags_sent, takes_confirm, with_confirm, with_offer, with_sent}
 use Rattle.cdc_publisher.specs.Kept.{Kept, poll_of}
 use Rattle.cdc_publisher.specs.Offers.{IsOffered}
@@ -217,12 +218,6 @@ is_free kept events offer = free_by kept events kept.unsent kept.unconfirmed kep
 unknown_end : (ended complete : Bool) → (ended ≡ true → complete ≡ true) → complete ≡ false → ended ≡ false
 unknown_end true complete known not_yet = let is = known refl in cc
 unknown_end false complete known not_yet = refl
-
--- one more event is the last one
-last_timestamp_from-push : (moment : ℕ) (events : List Event) (event : Event)
-    → last_timestamp_from moment (events ++ event ∷ []) ≡ event.timestamp
-last_timestamp_from-push moment [] event = refl
-last_timestamp_from-push moment (first ∷ events) event = last_timestamp_from-push first.timestamp events event
 
 -- the event that was just offered is the one to be sent next
 slice_get-push : (events : List Event) (event : Event) (i : ℕ) → i ≡ length events

@@ -8,7 +8,7 @@ use Rattle.cdc_types.specs.declared.events.Event.{Event}
 use Rattle.cdc_message.specs.declared.items.Item.TheVariants.{Event as OfEvent, EndMark}
 use Rattle.cdc_message.specs.declared.packets.Packet.{Packet}
 use Rattle.cdc_message.specs.declared.packets.Packet.TheVariants.{Connect, Publish}
-use Rattle.cdc_publisher.specs.Courses.{Course, all_sent, confirmed_timestamp, is_confirmed, is_done, may_end, next_packet, numbers_from, publish_packet, tags_sent, takes_confirm, unconfirmed, wanted}
+use Rattle.cdc_publisher.specs.Courses.{Course, all_sent, confirmed_timestamp, is_confirmed, is_done, may_end, next_packet, next_poll, numbers_from, publish_packet, tags_sent, takes_confirm, unconfirmed}
 use Rattle.cdc_publisher.specs.Kept.{Kept, poll_of}
 use Rattle.cdc_publisher.specs.Stands.{IsLastTag, StandsFor, confirmed_count, flag_count, unsent_count, waiting}
 use Rattle.cdc_publisher.specs.Turns.{ends, packet_of, publish_of}
@@ -47,32 +47,32 @@ sent_all n tags (Some event) false count one = grind (arith, nat_tests)
 
 -- what is wanted after this moment, where all is sent or not, so many tags wait and so many may, and the end is known
 -- or not
-abbrev wanted_from : ℕ → Bool → ℕ → ℕ → Bool → Option Poll
-wanted_from after sent count window complete =
+abbrev poll_from : ℕ → Bool → ℕ → ℕ → Bool → Option Poll
+poll_from after sent count window complete =
     if sent && nat_lt count window && not complete
     then Some (record { after = after; limit = window - count })
     else None
 
 -- what the session wants by its own fields is what is wanted with a window of 1
-wanted_here : (after : ℕ) (unsent : Option Event) (w : Option ℕ) (complete : Bool)
+poll_here : (after : ℕ) (unsent : Option Event) (w : Option ℕ) (complete : Bool)
     → (if is_none unsent && (is_none w && not complete) then Some (record { after = after; limit = 1 }) else None)
-    ≡ wanted_from after (is_none unsent) (waiting w) 1 complete
-wanted_here after None None true = refl
-wanted_here after None None false = refl
-wanted_here after None (Some tag) complete = refl
-wanted_here after (Some event) w complete = refl
+    ≡ poll_from after (is_none unsent) (waiting w) 1 complete
+poll_here after None None true = refl
+poll_here after None None false = refl
+poll_here after None (Some tag) complete = refl
+poll_here after (Some event) w complete = refl
 
 -- so that the fields of the session can be put in for those of the course one by one
-wanted_same : (after after' : ℕ) (sent sent' : Bool) (count count' window window' : ℕ) (complete complete' : Bool)
+poll_same : (after after' : ℕ) (sent sent' : Bool) (count count' window window' : ℕ) (complete complete' : Bool)
     → after ≡ after' → sent ≡ sent' → count ≡ count' → window ≡ window' → complete ≡ complete'
-    → wanted_from after sent count window complete ≡ wanted_from after' sent' count' window' complete'
-wanted_same after after' sent sent' count count' window window' complete complete' a b c d e = cc
+    → poll_from after sent count window complete ≡ poll_from after' sent' count' window' complete'
+poll_same after after' sent sent' count count' window window' complete complete' a b c d e = cc
 
 -- the events that are wanted
-pub wanted_is : (kept : Kept) (course : Course) → StandsFor kept course → poll_of kept ≡ wanted course
-wanted_is kept course stands =
-    wanted_here kept.last kept.unsent kept.unconfirmed kept.complete
-    ∙ wanted_same kept.last _ (is_none kept.unsent) (all_sent course) (waiting kept.unconfirmed)
+pub poll_of_is : (kept : Kept) (course : Course) → StandsFor kept course → poll_of kept ≡ next_poll course
+poll_of_is kept course stands =
+    poll_here kept.last kept.unsent kept.unconfirmed kept.complete
+    ∙ poll_same kept.last _ (is_none kept.unsent) (all_sent course) (waiting kept.unconfirmed)
     (length (unconfirmed course)) 1 course.window kept.complete course.complete stands.last
     (sym (sent_all (length course.offered) (tags_sent course) kept.unsent kept.ended stands.count stands.end_last))
     (sym (waiting_is course kept.unconfirmed stands.last_tag stands.tags)) (sym stands.window) stands.complete

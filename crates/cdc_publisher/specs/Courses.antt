@@ -2,6 +2,7 @@
 -- Data Capture; RabbitMQ, Publisher Confirms, for tags).
 use Rattle.std.specs.Prelude.{ℕ, zero, suc, ◌+◌, ◌-◌, ◌==◌, ◌&&◌, not, nat_lt, nat_le, Bool, false, Option, Some, None, List, [], ◌∷◌, ◌++◌, length, filter, slice_get, if◌then◌else◌}
 use Rattle.std.specs.List.{list_all, list_any}
+use Rattle.cdc_types.specs.declared.bounds.TheConstants.Limits.{SESSION}
 use Rattle.cdc_types.specs.declared.events.Event.{Event}
 use Rattle.cdc_message.specs.declared.items.Item.TheVariants.{Event as OfEvent, EndMark}
 use Rattle.cdc_message.specs.declared.packets.Packet.{Packet}
@@ -35,7 +36,7 @@ new_course saved window = record {
 
 -- the greatest number of a session
 abbrev pub last_session : ℕ
-last_session = 18446744073709551615
+last_session = SESSION
 
 -- what is saved when a session starts where this is held: the next number, with the same timestamp; nothing where
 -- there is no further number
@@ -72,8 +73,8 @@ all_sent course = nat_le (length course.offered) (tags_sent course)
 
 -- the events that are wanted: none while an event is unsent, as many as may wait are unconfirmed, or the end is known;
 -- else those after the last one that was offered, up to the number that may wait besides
-abbrev pub wanted : Course → Option Poll
-wanted course =
+abbrev pub next_poll : Course → Option Poll
+next_poll course =
     if all_sent course && nat_lt (length (unconfirmed course)) course.window && not course.complete
     then Some (record {
       after = last_timestamp_from course.base course.offered;

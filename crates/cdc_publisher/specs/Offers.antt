@@ -1,18 +1,15 @@
 -- The events that a session may be offered.
-use Rattle.std.specs.Prelude.{ℕ, ◌<◌, ◌≤◌, ◌^◌, Option, Some, None, List, [], ◌∷◌, All, length}
+use Rattle.std.specs.Prelude.{◌≤◌, Option, Some, None, List, All, length}
+use Rattle.cdc_types.specs.declared.bounds.TheConstants.Limits.{TIMESTAMP}
+use Rattle.cdc_types.specs.Timestamps.{RiseFrom}
 use Rattle.cdc_types.specs.declared.events.Event.{Event}
 use Rattle.cdc_publisher.specs.declared.session.Poll.{Poll}
 
--- timestamps rise, the first above this moment
-abbrev pub RiseAfter : ℕ → List Event → Type 0
-RiseAfter moment [] = Unit {0}
-RiseAfter moment (event ∷ events) = (moment < event.timestamp) × RiseAfter event.timestamp events
-
--- what may be offered to one that wants these events: at most as many, rising from there, with timestamps of 63 bits
+-- what may be offered to one that wants these events: at most as many, rising from there, none above the greatest timestamp
 pub record IsReply (poll : Poll) (events : List Event) : Type 0 where
   pub count : length events ≤ poll.limit
-  pub rising : RiseAfter poll.after events
-  pub fits : All (λ event. event.timestamp < 2 ^ 63) events
+  pub rising : RiseFrom poll.after events
+  pub fits : All (λ event. event.timestamp ≤ TIMESTAMP) events
 
 -- the same where it may want none, and then nothing may be offered
 abbrev pub IsOffered : Option Poll → List Event → Type 0

@@ -1,5 +1,6 @@
 -- How what a session keeps stands for its course, where one event waits at a time.
 use Rattle.std.specs.Prelude.{◌≡◌, ℕ, ◌+◌, ◌-◌, ◌<◌, ◌≤◌, Bool, IsTrue, Option, Some, None, take, length, slice_get, if◌then◌else◌}
+use Rattle.cdc_types.specs.declared.bounds.TheConstants.Limits.{TIMESTAMP, WINDOW_TODAY}
 use Rattle.cdc_types.specs.declared.events.Event.{Event}
 use Rattle.cdc_types.specs.Timestamps.{last_timestamp_from}
 use Rattle.cdc_publisher.specs.Courses.{Course, numbers_from, tags_sent}
@@ -33,7 +34,7 @@ IsLastTag tags (Some tag) = (tag ≡ tags) × (0 < tags)
 pub record StandsFor (kept : Kept) (course : Course) : Type 0 where
   pub number : kept.number ≡ course.number
   pub base : kept.base ≡ course.base
-  pub window : course.window ≡ 1
+  pub window : course.window ≡ WINDOW_TODAY
   pub sent : kept.sent ≡ course.sent
   pub complete : kept.complete ≡ course.complete
   pub last : kept.last ≡ last_timestamp_from course.base course.offered
@@ -47,10 +48,10 @@ pub record StandsFor (kept : Kept) (course : Course) : Type 0 where
   pub end_last : unsent_count kept.unsent + flag_count kept.ended ≤ 1
   pub end_known : IsTrue kept.ended → IsTrue kept.complete
 
--- what bounds the numbers that are kept: 63 bits for timestamps, and no more packets than timestamps have risen
+-- what bounds the numbers that are kept: timestamps by the greatest one, and packets by how far timestamps have risen
 pub record HasBounds (kept : Kept) : Type 0 where
-  pub base : kept.base < 9223372036854775808
-  pub last : kept.last < 9223372036854775808
-  pub confirmed : kept.confirmed < 9223372036854775808
+  pub base : kept.base ≤ TIMESTAMP
+  pub last : kept.last ≤ TIMESTAMP
+  pub confirmed : kept.confirmed ≤ TIMESTAMP
   pub sent : kept.sent + unsent_count kept.unsent ≤ kept.last + 1 + flag_count kept.ended
   pub unsent : unsent_count kept.unsent ≤ kept.last

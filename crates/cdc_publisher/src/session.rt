@@ -1,8 +1,8 @@
 //! The session itself.
 
-ghost use Rattle.std.specs.Prelude.{◌≡◌, ◌⊎◌, ◌<◌, ◌^◌, Some, Err, IfOk, IfErr, OnOk, OnErr, is_some, option_map};
+ghost use Rattle.std.specs.Prelude.{◌≡◌, ◌⊎◌, ◌≤◌, Some, Err, IfOk, IfErr, OnOk, OnErr, is_some, option_map};
 ghost use Rattle.cdc_progress.specs.Stores.{MayRefuseSave};
-ghost use Rattle.cdc_publisher.specs.Courses.{Course, begun, confirmed_timestamp, is_done, next_packet, progress_of, takes_confirm, wanted, with_confirm, with_offer, with_sent};
+ghost use Rattle.cdc_publisher.specs.Courses.{Course, begun, confirmed_timestamp, is_done, next_packet, next_poll, progress_of, takes_confirm, with_confirm, with_offer, with_sent};
 ghost use Rattle.cdc_publisher.specs.Kept.{poll_of};
 ghost use Rattle.cdc_publisher.specs.Offers.{IsOffered};
 ghost use Rattle.cdc_publisher.specs.Stands.{StandsFor};
@@ -12,7 +12,7 @@ ghost use Rattle.cdc_publisher.specs.Turns.{advanced, ends, packet_of};
 use crate::errors::StartError;
 use cdc_message::{Item, Message, Packet};
 use cdc_progress::{Progress, ProgressStore, StoreError};
-use cdc_types::Event;
+use cdc_types::{Event, Limits};
 use std::alloc::{AllocError, Global};
 use std::marker::Model;
 
@@ -95,11 +95,21 @@ impl Session {
         store: &mut S,
         window: usize,
     ) -> Result<Session, StartError>
-        requires { window ≡ 1 }
-        ensures ok { IfOk result (HasStarted (S.is_honest store.old) (S.held store.old) (S.held store.new)
-            (S.failed store.old) (S.failed store.new) window) }
-        ensures err { IfErr result (MayRefuseStart (S.is_honest store.old) (S.held store.old) (S.held store.new)
-            (S.failed store.old) (S.failed store.new)) }
+        requires { window ≡ Limits.WINDOW_TODAY }
+        ensures ok { IfOk result (HasStarted (record {
+          honest = S.is_honest store.old;
+          before = S.held store.old;
+          after = S.held store.new;
+          failed_before = S.failed store.old;
+          failed_after = S.failed store.new;
+        }) window) }
+        ensures err { IfErr result (MayRefuseStart (record {
+          honest = S.is_honest store.old;
+          before = S.held store.old;
+          after = S.held store.new;
+          failed_before = S.failed store.old;
+          failed_after = S.failed store.new;
+        })) }
         ensures honest { S.is_honest store.new ≡ S.is_honest store.old }
     {
         let saved = begin(store.load()?).ok_or(StartError::SessionsExhausted)?;
@@ -135,7 +145,7 @@ impl Session {
     /// once the end is known.
     pub fn wants(&self) -> Option<Poll>
         ensures kept { result ≡ poll_of self.now }
-        ensures wanted { (course : Course) → StandsFor self.now course → result ≡ wanted course }
+        ensures wanted { (course : Course) → StandsFor self.now course → result ≡ next_poll course }
     {
         if self.unsent.is_some() || self.unconfirmed.is_some() || self.complete {
             return None;
@@ -161,7 +171,8 @@ impl Session {
 
     /// Whether the session has a packet to send.
     pub fn has_packet(&self) -> bool
-        ensures { (course : Course) → StandsFor self.now course → result ≡ is_some (next_packet course) }
+        ensures { (course : Course) → StandsFor self.now course
+            → result ≡ is_some (next_packet course) }
     {
         self.is_sending()
     }
@@ -183,7 +194,8 @@ impl Session {
     /// Takes a confirm of a session's tag, and says whether it counts: it is this session's, and the tag was sent and
     /// isn't confirmed. Nothing changes where it doesn't.
     pub fn confirm(&mut self, session: u64, tag: u64) -> bool
-        ensures answer { (course : Course) → StandsFor self.old course → result ≡ takes_confirm course session tag }
+        ensures answer { (course : Course) → StandsFor self.old course
+            → result ≡ takes_confirm course session tag }
         ensures stands { (course : Course) → StandsFor self.old course
             → StandsFor self.new (with_confirm session tag course) }
     {
@@ -197,8 +209,9 @@ impl Session {
 
     /// The timestamp of the last event such that it and each earlier one is confirmed, or the base; in nanoseconds.
     pub fn confirmed(&self) -> u64
-        ensures confirmed { (course : Course) → StandsFor self.now course → result ≡ confirmed_timestamp course }
-        ensures fits { result < 2 ^ 63 }
+        ensures confirmed { (course : Course) → StandsFor self.now course
+            → result ≡ confirmed_timestamp course }
+        ensures fits { result ≤ Limits.TIMESTAMP }
     {
         self.confirmed
     }
@@ -208,8 +221,10 @@ impl Session {
         ensures saved { (course : Course) → StandsFor self.now course
             → OnOk result (S.held store.new ≡ Some (progress_of course)) }
         ensures refused { (course : Course) → StandsFor self.now course
-            → OnErr result ((S.held store.new ≡ S.held store.old) ⊎ (S.held store.new ≡ Some (progress_of course))) }
-        ensures without_memory { result ≡ Err StoreError.OutOfMemory → S.held store.new ≡ S.held store.old }
+            → OnErr result ((S.held store.new ≡ S.held store.old)
+            ⊎ (S.held store.new ≡ Some (progress_of course))) }
+        ensures without_memory { result ≡ Err StoreError.OutOfMemory
+            → S.held store.new ≡ S.held store.old }
         ensures refusals { IfErr result (MayRefuseSave (S.failed store.old) (S.failed store.new)) }
         ensures uncounted { OnOk result (S.failed store.new ≡ S.failed store.old) }
         ensures honest { S.is_honest store.new ≡ S.is_honest store.old }

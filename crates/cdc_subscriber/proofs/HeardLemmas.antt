@@ -1,10 +1,12 @@
 -- What a subscriber keeps where it hears one more item.
-use Rattle.std.proofs.Common.{◌≡◌, ℕ, ◌+◌, ◌-◌, ◌^◌, ◌<◌, ◌≤◌, Bool, true, false, cond, min, length, List, [], ◌∷◌, ◌++◌, Option, None, Some, refl, ap, ◌∙◌, length-append, arith}
+use Rattle.std.proofs.Common.{◌≡◌, ℕ, ◌+◌, ◌<◌, ◌≤◌, Bool, true, false, cond, min, length, List, [], ◌∷◌, ◌++◌, Option, None, Some, refl, ap, ◌∙◌, length-append, arith}
 use Rattle.std.specs.Prelude.{◌||◌, nat_lt}
 use Rattle.std.proofs.lemmas.Bool.{lt-ltb, le-ltb}
 use Rattle.std.proofs.lemmas.List.Folds.{list_any-append}
 use Rattle.cdc_types.specs.declared.events.Event.{Event}
-use Rattle.cdc_types.specs.Timestamps.{last_timestamp_from, last_timestamp}
+use Rattle.cdc_types.specs.Timestamps.{last_timestamp}
+use Rattle.cdc_types.specs.Widths.{max_64}
+use Rattle.cdc_types.proofs.Rising.{last_timestamp_from-push}
 use Rattle.cdc_message.specs.declared.items.Item.{Item}
 use Rattle.cdc_message.specs.declared.items.Item.TheVariants as item
 use Rattle.cdc_message.specs.Items.{events_of}
@@ -23,16 +25,6 @@ more heard item = record { items = heard.items ++ item ∷ []; closed = heard.cl
 -- the answer of a subscriber that is closed or ended
 abbrev settled : Bool → Bool → Option Taking
 settled closed ended = cond closed (Some Taking.AfterClose) (cond ended (Some Taking.Repeat) None)
-
--- an event that comes last has the last timestamp, whatever there was before
-last_timestamp_from-push : (t : ℕ) (es : List Event) (e : Event)
-    → last_timestamp_from t (es ++ e ∷ []) ≡ e.timestamp
-last_timestamp_from-push t [] e = refl
-last_timestamp_from-push t (x ∷ es) e = last_timestamp_from-push x.timestamp es e
-
--- the last of events where one more comes
-last_timestamp-push : (es : List Event) (e : Event) → last_timestamp (es ++ e ∷ []) ≡ e.timestamp
-last_timestamp-push es e = last_timestamp_from-push 0 es e
 
 -- a subscriber is neither closed nor ended
 pub record Listens (kept : Kept) : Type 0 where
@@ -96,7 +88,7 @@ kept_of-repeat heard e listens late =
 -- what is kept of one more event applied, of a book that took it in
 abbrev pub kept_more : Kept → Event → List BookEntry → Kept
 kept_more kept e book =
-    record kept { book = book; last = e.timestamp; applied = min (kept.applied + 1) (2 ^ 64 - 1) }
+    record kept { book = book; last = e.timestamp; applied = min (kept.applied + 1) max_64 }
 
 -- an event is heard that is later than the last one applied
 pub kept_of-applied : (heard : Heard) (e : Event) (book : List BookEntry) → Listens (kept_of heard)
@@ -107,8 +99,8 @@ kept_of-applied heard e book listens later held =
     let grows : applied_of (more heard (item.Event e)) ≡ applied_of heard ++ e ∷ [] =
     rw (lt-ltb (last_timestamp (applied_of heard)) e.timestamp later) at (applied_of-event heard e) in
     rw (heard_it, grows, has_ended-more heard (item.Event e), listens.before_end, held)
-    (rw (last_timestamp-push (applied_of heard) e, length-append (applied_of heard) (e ∷ []))
-    (ap with_count (counted (length (applied_of heard)) (2 ^ 64 - 1))))
+    (rw (last_timestamp_from-push 0 (applied_of heard) e, length-append (applied_of heard) (e ∷ []))
+    (ap with_count (counted (length (applied_of heard)) max_64)))
   where
     with_count : ℕ → Kept
     with_count n = record {

@@ -69,5 +69,5 @@ balances_shown events id =
     option_map (λ entry. entry.balances) (find (λ entry. entry.id == id) (reverse (flat_map sides events)))
 
 -- an account's number and its balances
-abbrev pub numbered : BookEntry → ℕ × Balances
-numbered entry = (entry.id, entry.balances)
+abbrev pub id_and_balances : BookEntry → ℕ × Balances
+id_and_balances entry = (entry.id, entry.balances)

@@ -1,8 +1,9 @@
 -- What a subscriber has heard, and what it keeps of that.
-use Rattle.std.specs.Prelude.{◌-◌, ◌^◌, Bool, true, false, ◌||◌, min, List, [], ◌∷◌, ◌++◌, length, if◌then◌else◌, Result, Ok, Err}
+use Rattle.std.specs.Prelude.{Bool, true, false, ◌||◌, min, List, [], ◌∷◌, ◌++◌, length, if◌then◌else◌, Result, Ok, Err}
 use Rattle.std.specs.List.{list_any}
 use Rattle.cdc_types.specs.declared.events.Event.{Event}
 use Rattle.cdc_types.specs.Timestamps.{last_timestamp}
+use Rattle.cdc_types.specs.Widths.{max_64}
 use Rattle.cdc_message.specs.declared.errors.DecodeError.{DecodeError}
 use Rattle.cdc_message.specs.declared.items.Item.{Item}
 use Rattle.cdc_message.specs.declared.items.Item.TheVariants as item
@@ -48,7 +49,7 @@ abbrev pub kept_of : Heard → Kept
 kept_of heard = record {
   book = book_of (applied_of heard);
   last = last_timestamp (applied_of heard);
-  applied = min (length (applied_of heard)) (2 ^ 64 - 1);
+  applied = min (length (applied_of heard)) max_64;
   ended = has_ended heard;
   closed = heard.closed;
 }

@@ -3,7 +3,7 @@
 ghost use Rattle.std.specs.Prelude.{◌≡◌, ◌==◌, ◌+◌, ◌<◌, ◌≤◌, [], ◌∷◌, ◌++◌, List, length, IfSome, OnOk, OnErr, option_map, slice_get, vec_len, vec_capacity};
 ghost use Rattle.std.specs.List.{position_from};
 ghost use Rattle.cdc_types.specs.declared.events.Event.{Event as Told};
-ghost use Rattle.cdc_subscriber.specs.Book.{balances_in, balances_shown, entry_of as shown_entry, book_of, numbered, put as put_entry};
+ghost use Rattle.cdc_subscriber.specs.Book.{balances_in, balances_shown, entry_of as shown_entry, book_of, id_and_balances, put as put_entry};
 
 use cdc_types::{Balances, Event, EventAccount};
 use std::alloc::{AllocError, Global};
@@ -47,14 +47,15 @@ impl Book {
     /// The balances of the account of this number, if an event has shown it.
     pub fn get(&self, id: u128) -> Option<Balances>
         ensures found { result ≡ balances_in self.now id }
-        ensures last { (events : List Told) → self.now ≡ book_of events → result ≡ balances_shown events id }
+        ensures last { (events : List Told) → self.now ≡ book_of events
+            → result ≡ balances_shown events id }
     {
         balances_of(self.entries.as_slice(), id)
     }
 
     /// The account at this place, from 0 on, and its balances.
     pub fn at_place(&self, place: usize) -> Option<(u128, Balances)>
-        ensures { result ≡ option_map numbered (slice_get self.now place) }
+        ensures { result ≡ option_map id_and_balances (slice_get self.now place) }
     {
         self.entries
             .get(place)

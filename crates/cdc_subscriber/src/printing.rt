@@ -41,7 +41,8 @@ pub(crate) fn write_accounts<W: Write>(writer: &mut W, entries: &[BookEntry]) ->
 
 /// The line of an account of a book.
 fn write_account<W: Write>(writer: &mut W, entry: &BookEntry) -> io::Result<()>
-    ensures { OnOk result (Appends (W.contents writer.old) (W.contents writer.new) (account_line entry.now)) }
+    ensures { OnOk result (Appends (W.contents writer.old) (W.contents writer.new)
+        (account_line entry.now)) }
 {
     write_named(writer, "account", entry.id)?;
     write_spaced(writer, entry.balances.debits_pending)?;
@@ -71,7 +72,8 @@ fn write_spaced<W: Write, I: Integer>(writer: &mut W, number: I) -> io::Result<(
 
 /// A word, a space, and yes or no.
 fn write_flagged<W: Write>(writer: &mut W, name: &str, flag: bool) -> io::Result<()>
-    ensures { OnOk result (Appends (W.contents writer.old) (W.contents writer.new) (flagged name.now flag)) }
+    ensures { OnOk result (Appends (W.contents writer.old) (W.contents writer.new)
+        (flagged name.now flag)) }
 {
     write_text(writer, name)?;
     write_text(writer, if flag { " yes" } else { " no" })

@@ -1,6 +1,7 @@
 -- The bits of the flags (TigerBeetle, Account and Transfer, `flags`).
 use Rattle.std.specs.Prelude.{ℕ, ◌-◌, Bool, not, ◌==◌, ◌||◌, bit_and}
 use Rattle.cdc_types.specs.declared.transfers.NewTransfer.{NewTransfer}
+use Rattle.cdc_types.specs.Widths.{max_16}
 
 -- some of these bits is set
 abbrev pub has_flag : ℕ → ℕ → Bool
@@ -8,7 +9,7 @@ has_flag flags bits = not (bit_and flags bits == 0)
 
 -- a bit is set that isn't among the accepted ones
 abbrev pub has_other_flag : ℕ → ℕ → Bool
-has_other_flag flags accepted = has_flag flags (65535 - accepted)
+has_other_flag flags accepted = has_flag flags (max_16 - accepted)
 
 -- the amount is held back until it is posted or voided
 abbrev pub is_pending_request : NewTransfer → Bool

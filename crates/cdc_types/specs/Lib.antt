@@ -4,3 +4,4 @@ pub mod Lines
 pub mod Results
 pub mod Shapes
 pub mod Timestamps
+pub mod Widths

@@ -1,6 +1,6 @@
 -- The refusals that a request's own fields call for, whatever the ledger holds: the first lines of the two tables
 -- of results (TigerBeetle, `create_accounts` and `create_transfers`).
-use Rattle.std.specs.Prelude.{ℕ, Bool, not, ◌==◌, ◌&&◌, ◌||◌, Option, List, [], ◌∷◌}
+use Rattle.std.specs.Prelude.{Bool, not, ◌==◌, ◌&&◌, ◌||◌, Option, List, [], ◌∷◌}
 use Rattle.cdc_types.specs.declared.accounts.NewAccount.{NewAccount}
 use Rattle.cdc_types.specs.declared.transfers.NewTransfer.{NewTransfer}
 use Rattle.cdc_types.specs.declared.results.AccountResult.{AccountResult}
@@ -10,10 +10,7 @@ use Rattle.cdc_types.specs.declared.results.TransferResult.TheVariants as transf
 use Rattle.cdc_types.specs.Features.{Features}
 use Rattle.cdc_types.specs.Flags.{has_flag, has_other_flag, is_pending_request, is_post_request, is_void_request, is_plain_request}
 use Rattle.cdc_types.specs.Lines.{first_line}
-
--- the greatest number of 128 bits
-abbrev pub max_128 : ℕ
-max_128 = 340282366920938463463374607431768211455
+use Rattle.cdc_types.specs.Widths.{max_128}
 
 -- the lines on an account's own fields, in order
 abbrev pub account_shape_lines : Features → NewAccount → List (Bool × AccountResult)

@@ -1,5 +1,5 @@
--- The timestamp of the last of a list of events.
-use Rattle.std.specs.Prelude.{ℕ, List, [], ◌∷◌}
+-- The timestamps of a list of events.
+use Rattle.std.specs.Prelude.{ℕ, ◌<◌, List, [], ◌∷◌}
 use Rattle.cdc_types.specs.declared.events.Event.{Event}
 
 -- the timestamp of the last event, or t where there is none
@@ -10,3 +10,8 @@ last_timestamp_from t (event ∷ events) = last_timestamp_from event.timestamp e
 -- the timestamp of the last event, or 0
 abbrev pub last_timestamp : List Event → ℕ
 last_timestamp events = last_timestamp_from 0 events
+
+-- each event is later than the moment t, and than the one before it
+abbrev pub RiseFrom : ℕ → List Event → Type 0
+RiseFrom t [] = Unit {0}
+RiseFrom t (event ∷ events) = (t < event.timestamp) × RiseFrom event.timestamp events

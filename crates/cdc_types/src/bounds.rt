@@ -1,17 +1,23 @@
-//! The limits of the whole product.
+//! The limits of the whole product. Each stands here once: a definition cites it, as code does.
 
 /// The limits that every part keeps to.
 pub struct Limits;
 
 impl Limits {
+    /// The greatest timestamp, in nanoseconds: 2^63-1.
+    pub const TIMESTAMP: u64 = 9_223_372_036_854_775_807;
+
     /// The items of one batch, at most.
     pub const BATCH_ITEMS: usize = 1_000;
 
     /// The `key=value` pairs of one binding, at most.
     pub const BINDING_PAIRS: usize = 10;
 
-    /// The unconfirmed messages of a session, at most.
+    /// The unconfirmed messages of a session, at most, once a session can wait for several.
     pub const WINDOW: u64 = 64;
+
+    /// The unconfirmed messages of a session, at most, as sessions are made today.
+    pub const WINDOW_TODAY: usize = 1;
 
     /// The unacknowledged deliveries of a queue, at most.
     pub const PREFETCH: u64 = 64;
@@ -28,6 +34,6 @@ impl Limits {
     /// The bytes of a progress file, at most.
     pub const PROGRESS_BYTES: usize = 128;
 
-    /// The greatest timestamp, in nanoseconds.
-    pub const TIMESTAMP: u64 = 9_223_372_036_854_775_807;
+    /// The greatest number that a session can have: 2^64-1.
+    pub const SESSION: u64 = 18_446_744_073_709_551_615;
 }

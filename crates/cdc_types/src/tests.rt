@@ -298,6 +298,7 @@ fn flags_and_limits_have_their_numbers(rt: HostRuntime) {
         ("items of a batch", Limits::BATCH_ITEMS as u64, 1_000),
         ("pairs of a binding", Limits::BINDING_PAIRS as u64, 10),
         ("window", Limits::WINDOW, 64),
+        ("window of today", Limits::WINDOW_TODAY as u64, 1),
         ("prefetch", Limits::PREFETCH, 64),
         ("subscribers", Limits::SUBSCRIBERS as u64, 8),
         ("clients", Limits::CLIENTS, 2),
@@ -308,6 +309,7 @@ fn flags_and_limits_have_their_numbers(rt: HostRuntime) {
             128,
         ),
         ("timestamp", Limits::TIMESTAMP, 9_223_372_036_854_775_807),
+        ("session", Limits::SESSION, u64::MAX),
     ];
     for (name, number, wanted) in numbers {
         assert_eq!(rt; number, wanted, "{name}");

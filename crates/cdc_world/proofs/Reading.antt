@@ -9,10 +9,10 @@ use Rattle.cdc_ledger.specs.Submit.{IsLegal}
 use Rattle.cdc_ledger.specs.Verdict.{max_timestamp}
 use Rattle.cdc_ledger.proofs.EventLaws.{timestamps-events}
 use Rattle.cdc_ledger.proofs.KeptLaws.{IsSound-from_legal}
-use Rattle.cdc_log.proofs.Rising.{last_timestamp_from-slice_get}
+use Rattle.cdc_types.proofs.Rising.{last_timestamp_from-slice_get}
 use Rattle.cdc_log.specs.Log.{RiseFrom, events_after}
 use Rattle.cdc_types.specs.Timestamps.{last_timestamp, last_timestamp_from}
-use Rattle.cdc_publisher.specs.Offers.{IsOffered, IsReply, RiseAfter}
+use Rattle.cdc_publisher.specs.Offers.{IsOffered, IsReply}
 use Rattle.cdc_publisher.specs.declared.session.Poll.{Poll}
 use Rattle.cdc_types.specs.declared.events.Event.{Event}
 use Rattle.cdc_types.specs.declared.events.Entry.{Entry}
@@ -37,29 +37,29 @@ events_after-earlier after e es earlier =
 
 -- the later ones rise from the moment
 pub later_rise : (low after t : ℕ) (es : List Event) → RiseFrom t es → low ≤ max t after
-    → RiseAfter low (events_after after es)
+    → RiseFrom low (events_after after es)
 later_rise low after t [] rise below = tt
 later_rise low after t (e ∷ es) rise below =
     either (nat_lt after e.timestamp)
     (λ later.
     let h : after < e.timestamp = grind arith in
     let first : low < e.timestamp = omega (arith, rise.0) in
-    subst (RiseAfter low) (sym (events_after-later after e es h))
+    subst (RiseFrom low) (sym (events_after-later after e es h))
     (first, later_rise e.timestamp after e.timestamp es rise.1 (omega arith)))
     (λ earlier.
     let h : e.timestamp ≤ after = grind arith in
-    subst (RiseAfter low) (sym (events_after-earlier after e es h))
+    subst (RiseFrom low) (sym (events_after-earlier after e es h))
     (later_rise low after e.timestamp es rise.1 (omega (arith, rise.0))))
 
 -- the first of them rise as well
-pub take_rise : (low n : ℕ) (es : List Event) → RiseAfter low es → RiseAfter low (take n es)
+pub take_rise : (low n : ℕ) (es : List Event) → RiseFrom low es → RiseFrom low (take n es)
 take_rise low zero es rise = tt
 take_rise low (suc n) [] rise = tt
 take_rise low (suc n) (e ∷ es) rise = (rise.0, take_rise e.timestamp n es rise.1)
 
--- an event's timestamp fits 63 bits
+-- an event's timestamp is at most the greatest one
 abbrev FitsTime : Event → Type 0
-FitsTime e = e.timestamp < 2 ^ 63
+FitsTime e = e.timestamp ≤ max_timestamp
 
 -- no event's timestamp is past 63 bits, since the last one that the ledger gave out isn't
 events_fit : (last : ℕ) (es : List Event) (entries : List Entry)
@@ -152,7 +152,7 @@ last_after after t (e ∷ es) rise below =
     ap (last_timestamp_from after) (events_after-earlier after e es h) ∙ last_after after e.timestamp es rise.1 h)
 
 -- the same of what was read
-read_rises : (t : ℕ) (es : List Event) → RiseAfter t es → t ≤ last_timestamp_from t es
+read_rises : (t : ℕ) (es : List Event) → RiseFrom t es → t ≤ last_timestamp_from t es
 read_rises t [] rise = omega arith
 read_rises t (e ∷ es) rise = omega (arith, read_rises e.timestamp es rise.1, rise.0)
 
@@ -161,7 +161,7 @@ le_suc : (a b : ℕ) → nat_le (suc a) (suc b) ≡ nat_le a b
 le_suc a b = grind arith
 
 -- rising events aren't more than n where the last of the first n is the last of all
-take_whole : (t n : ℕ) (es : List Event) → RiseAfter t es
+take_whole : (t n : ℕ) (es : List Event) → RiseFrom t es
     → nat_le (last_timestamp_from t es) (last_timestamp_from t (take n es)) ≡ nat_le (length es) n
 take_whole t zero [] rise = grind arith
 take_whole t (suc n) [] rise = grind arith

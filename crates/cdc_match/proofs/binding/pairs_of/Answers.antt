@@ -1,9 +1,10 @@
 use Rattle.std.proofs.Common.{◌≡◌, ◌<◌, ℕ, List, [], map, length, get_or, Bor, Err, inl, sym, ◌∙◌, ap, arith}
 use Rattle.std.proofs.lemmas.List.{get_or-map, length-map}
 use Rattle.std.proofs.lemmas.Result.{err_from_is_err_and}
+use Rattle.cdc_types.specs.declared.bounds.TheConstants.Limits.{BINDING_PAIRS}
 use Rattle.cdc_match.specs.declared.errors.BindError.{BindError}
 use Rattle.cdc_match.specs.declared.pairs.Pair.{Pair}
-use Rattle.cdc_match.specs.Parsing.{Read, most_pairs, pair_of}
+use Rattle.cdc_match.specs.Parsing.{Read, pair_of}
 use Rattle.cdc_match.proofs.PairLemmas.{pairs_more, pairs_fault, pairs_begin, spares-pair_of}
 use Rattle.cdc_match.proofs.binding.pairs_of.Goals as goal
 
@@ -29,8 +30,8 @@ returns-in_err-pair-clause-pairs c =
     let p = err_from_is_err_and c.from_residual.result c.from_residual.ensures.1 in
     let below = c.loop-word-test.true in
     let before = c.loop-word.invariant in
-    let few : c.loop-word.word-index < most_pairs =
-    omega (arith, before.few, before.counted, c.len.ensures, c.if-len-eq-MOST_PAIRS.false) in
+    let few : c.loop-word.word-index < BINDING_PAIRS =
+    omega (arith, before.few, before.counted, c.len.ensures, c.if-len-eq-BINDING_PAIRS.false) in
     let fault = pair_at c.args.words.now c.loop-word.word-index _ _ below c.in_err-pair.ensures in
     rw (p.1, p.2) (inl (pairs_fault (texts c.args.words.now) c.loop-word.word-index c.loop-word.pairs.items _
     (within _ _ below) few before.found fault))
@@ -61,5 +62,5 @@ loop-word-preserved c =
           (pairs_more (texts c.args.words.now) c.loop-word.word-index c.loop-word.pairs.items c.in_ok-pair.pair
           (within _ _ below) before.found pair);
       counted = grind (arith, c.in_ok-push.ensures.items, before.counted);
-      few = omega (arith, before.few, before.counted, c.len.ensures, c.if-len-eq-MOST_PAIRS.false);
+      few = omega (arith, before.few, before.counted, c.len.ensures, c.if-len-eq-BINDING_PAIRS.false);
     }

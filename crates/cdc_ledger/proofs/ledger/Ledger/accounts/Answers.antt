@@ -3,4 +3,4 @@ use Rattle.cdc_ledger.specs.Sound.{IsBounded}
 use Rattle.cdc_ledger.proofs.ledger.Ledger.accounts.Goals as goal
 
 pub returns-clause-bounded : goal.returns-clause-bounded
-returns-clause-bounded c = subst IsBounded c.self.view_is c.self.invariant.kept.sound.bounded
+returns-clause-bounded c = subst IsBounded c.self.view_is c.accounts.ensures.sound.bounded

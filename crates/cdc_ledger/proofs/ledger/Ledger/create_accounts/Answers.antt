@@ -1,14 +1,11 @@
 use Rattle.cdc_types.specs.declared.batches.Batch.TheVariants as batch
 use Rattle.cdc_types.specs.declared.batches.BatchResults.TheVariants as results
-use Rattle.cdc_ledger.specs.Tables.{history_of}
 use Rattle.cdc_ledger.proofs.Legal.{IsLegal-answered}
 use Rattle.cdc_ledger.proofs.ledger.Ledger.create_accounts.Goals as goal
 
 pub invariant_of-self : goal.invariant_of-self
-invariant_of-self c = record {
-  kept = c.create_accounts.ensures.kept;
-  legal = IsLegal-answered (λ v. results.Accounts v.items) (history_of c.self.inside.tables)
-      (history_of c.create_accounts.new.self)
-      (batch.Accounts c.args.now c.args.requests.now) c.create_accounts.result c.self.invariant.legal
-      c.create_accounts.ensures.fit c.create_accounts.ensures.answers;
-}
+invariant_of-self c =
+    IsLegal-answered (λ v. results.Accounts v.items) c.self.inside.tables.history
+    c.create_accounts.new.self.history
+    (batch.Accounts c.args.now c.args.requests.now) c.create_accounts.result c.self.invariant
+    c.create_accounts.ensures.fit c.create_accounts.ensures.answers

@@ -4,7 +4,4 @@ use Rattle.cdc_ledger.proofs.LegalLaws.{IsLegal-empty}
 use Rattle.cdc_ledger.proofs.ledger.Ledger.new.Goals as goal
 
 pub invariant_of-result : goal.invariant_of-result
-invariant_of-result c = record {
-  kept = c.new.ensures.kept;
-  legal = subst IsLegal (sym c.new.ensures.history) IsLegal-empty;
-}
+invariant_of-result c = subst IsLegal (sym c.new.ensures) IsLegal-empty

@@ -2,18 +2,16 @@ use Rattle.std.proofs.Common.{◌≡◌, ◌+◌, ◌≤◌, ◌<◌, length, ta
 use Rattle.std.specs.List.{AllByRecursion}
 use Rattle.cdc_types.specs.Features.{features}
 use Rattle.cdc_ledger.specs.Fits.{NewAccountFits}
-use Rattle.cdc_ledger.specs.Tables.{IsKept, history_of, room_for_accounts}
 use Rattle.cdc_ledger.proofs.BatchLaws.{AccountsGoOn}
 use Rattle.cdc_ledger.proofs.tables.Tables.take_accounts.Given as goal
 
 -- the results so far and those to the rest are the results to all, and there is room for the rest
 abbrev pub invariant-loop-place : goal.invariant-loop-place
 invariant-loop-place l = record {
-  on : AccountsGoOn features (history_of l.fn.self) l.base l.requests l.place l.results.items (history_of l.self);
-  kept : IsKept l.self;
-  later : l.self.last < l.base + l.place;
+  on : AccountsGoOn features l.fn.self.history l.base l.requests l.place l.results.items l.self.history;
+  later : l.self.history.last < l.base + l.place;
   count : vec_len l.results ≡ l.place;
   results_room : length l.requests ≤ vec_capacity l.results;
-  room : length l.requests ≤ room_for_accounts l.self + l.place;
+  room : length l.requests ≤ l.self.account_room + l.place;
   fit : AllByRecursion NewAccountFits (take l.place l.requests);
 }

@@ -1,6 +1,10 @@
+use Rattle.std.proofs.Common.{subst, sym, ◌≤◌}
+use Rattle.cdc_ledger.specs.Contents.{Contents}
 use Rattle.cdc_ledger.proofs.Kept.{IsKept-timed}
 use Rattle.cdc_ledger.proofs.tables.Tables.take_timestamp.Goals as goal
 
-pub returns-clause-kept : goal.returns-clause-kept
-returns-clause-kept c =
-    IsKept-timed c.args.self.now c.args.timestamp c.requires.kept c.requires.later c.requires.within
+pub invariant_of-self : goal.invariant_of-self
+invariant_of-self c =
+    IsKept-timed c.self.inside c.args.timestamp c.self.invariant
+    (subst (λ (v : Contents). v.history.last ≤ c.args.timestamp) (sym c.self.view_is) c.requires.later)
+    c.requires.within

@@ -7,7 +7,6 @@ use Rattle.cdc_types.specs.Features.{features}
 use Rattle.cdc_ledger.specs.Fits.{NewTransferFits}
 use Rattle.cdc_ledger.specs.History.{History}
 use Rattle.cdc_ledger.specs.Submit.{after_transfer}
-use Rattle.cdc_ledger.specs.Tables.{history_of}
 use Rattle.cdc_ledger.specs.Verdict.{transfer_verdict}
 use Rattle.cdc_ledger.proofs.BatchLaws.{TransfersGoOn, TransfersGoOn_more}
 use Rattle.cdc_ledger.proofs.Elements.{AllByRecursion_push}
@@ -33,16 +32,16 @@ none = record {
 pub loop-place-preserved : goal.loop-place-preserved
 unfolding none
 loop-place-preserved c =
-    let h = history_of c.args.self.now in
+    let h = c.args.self.now.history in
     let all = c.args.requests.now in
     let i = c.loop-place.place in
-    let now = history_of c.loop-place.self in
+    let now = c.loop-place.self.history in
     let r : NewTransfer = get_or all i none in
     let verdict = transfer_verdict features now r (c.args.base + i) in
     let results : c.push_reserved.new.self.items ≡ c.loop-place.results.items ++ verdict ∷ [] =
     c.push_reserved.ensures.items ∙ ap
     (λ (x : TransferResult). c.loop-place.results.items ++ x ∷ []) c.take_transfer.ensures.result in
-    let after : history_of c.take_transfer.new.self ≡ after_transfer now r (c.args.base + i) verdict =
+    let after : c.take_transfer.new.self.history ≡ after_transfer now r (c.args.base + i) verdict =
     c.take_transfer.ensures.history ∙ ap (after_transfer now r (c.args.base + i)) c.take_transfer.ensures.result in
     record {
       on = subst (λ (g : History). TransfersGoOn features h c.args.base all (i + 1) c.push_reserved.new.self.items g)
@@ -51,12 +50,11 @@ loop-place-preserved c =
           (after_transfer now r (c.args.base + i) verdict)) (sym results)
           (TransfersGoOn_more features h c.args.base all i none c.loop-place.results.items now c.loop-place-test.true
           c.loop-place.invariant.on));
-      kept = c.take_transfer.ensures.kept;
       later = search rules;
       count = search rules;
       results_room = search rules;
       room = omega arith;
       fit = subst (AllByRecursion NewTransferFits) (sym (take_more all i none c.loop-place-test.true))
           (AllByRecursion_push NewTransferFits (take i all) r c.loop-place.invariant.fit c.take_transfer.ensures.fits);
-      index_room = omega arith;
+      end_room = omega arith;
     }

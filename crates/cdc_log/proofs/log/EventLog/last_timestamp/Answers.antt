@@ -2,7 +2,7 @@ use Rattle.std.proofs.Common.{sym, ap, ◌∙◌, ◌≡◌, length, ◌-◌, su
 use Rattle.std.specs.Prelude.{Some, slice_get}
 use Rattle.cdc_types.specs.declared.events.Event.{Event}
 use Rattle.cdc_log.specs.Log.{Log}
-use Rattle.cdc_log.proofs.Rising.{last_timestamp_from-slice_get}
+use Rattle.cdc_types.proofs.Rising.{last_timestamp_from-slice_get}
 use Rattle.cdc_log.proofs.log.EventLog.last_timestamp.Goals as goal
 
 pub returns-in-Some-clause-last : goal.returns-in-Some-clause-last

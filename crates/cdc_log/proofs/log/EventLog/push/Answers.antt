@@ -1,7 +1,7 @@
 use Rattle.std.proofs.Common.{subst, sym, ◌<◌}
 use Rattle.cdc_types.specs.Timestamps.{last_timestamp}
 use Rattle.cdc_log.specs.Log.{Log}
-use Rattle.cdc_log.proofs.Rising.{RiseFrom-push, last_timestamp_from-push}
+use Rattle.cdc_types.proofs.Rising.{RiseFrom-push, last_timestamp_from-push}
 use Rattle.cdc_log.proofs.log.EventLog.push.Goals as goal
 
 pub invariant_of-self : goal.invariant_of-self

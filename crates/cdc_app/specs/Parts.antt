@@ -1,7 +1,0 @@
--- The two parts of a text round the first byte that parts it.
-use Rattle.std.specs.Prelude.{ℕ, ◌+◌, ◌==◌, List, take, drop, Option, position}
-use Rattle.std.specs.Option.{option_map}
-
--- what stands before the first such byte, and what stands after it
-abbrev pub parted : ℕ → List ℕ → Option (List ℕ × List ℕ)
-parted separator bytes = option_map (λ i. (take i bytes, drop (i + 1) bytes)) (position (λ b. b == separator) bytes)

@@ -1,0 +1,160 @@
+-- When a session connects to a broker, every event up to the moment after which it begins was taken.
+use Rattle.std.proofs.Common.{◌≡◌, ℕ, zero, suc, ◌+◌, ◌<◌, ◌≤◌, Bool, true, false, List, [], ◌∷◌, length, get_or, map, refl, sym, ap, ◌∙◌, subst, inl, inr, arith}
+use Rattle.std.specs.Prelude.{Contains, Some, slice_get}
+use Rattle.std.specs.Option.{option_map}
+use Rattle.std.proofs.lemmas.Bool.{cases_lt}
+use Rattle.std.proofs.lemmas.List.Elements.{Contains-append_cases, Contains-append_right}
+use Rattle.std.proofs.lemmas.Option.{get_or_from_slice_get, slice_get-map, slice_get_read, slice_get_within}
+use Rattle.cdc_ledger.specs.Events.{events}
+use Rattle.cdc_ledger.specs.History.{History}
+use Rattle.cdc_ledger.specs.Sound.{IsSound}
+use Rattle.cdc_laws.specs.ConnectorRuns.{AreSessions, IsBase, IsConfirmed, IsConfirmedTo, MayFollow, Shown}
+use Rattle.cdc_laws.specs.Line.{end_mark_if, line_after, told}
+use Rattle.cdc_laws.proofs.Lines.{split_events}
+use Rattle.cdc_laws.proofs.Places.{Contains-cons_cases, each_has, none_there, slice_get-append, slice_get-before}
+use Rattle.cdc_laws.proofs.Rising.{RiseFrom-earlier, TimestampsRise-from, all_later, events_rise}
+use Rattle.cdc_laws.proofs.Sessions.{follows}
+use Rattle.cdc_log.specs.Log.{RiseFrom, events_after}
+use Rattle.cdc_message.specs.declared.items.Item.{Item}
+use Rattle.cdc_message.specs.declared.items.Item.TheVariants.{Event as OfEvent}
+use Rattle.cdc_message.specs.declared.packets.Confirm.{Confirm}
+use Rattle.cdc_message.specs.Replays.{IsPrefix}
+use Rattle.cdc_types.specs.declared.events.Event.{Event}
+
+-- every event of the history up to this moment was taken
+abbrev pub HasTakenUpTo : History → List Item → ℕ → Type 0
+HasTakenUpTo h taken t =
+    (event : Event) → Contains (events h) event → event.timestamp ≤ t → Contains taken (OfEvent event)
+
+-- ---- events by their places
+
+-- an item of a line that is an event stands among its events at the same place
+pub event_at : (es : List Event) (closed : Bool) (k : ℕ) (e : Event) → slice_get (told es closed) k ≡ Some (OfEvent e)
+    → slice_get es k ≡ Some e
+event_at [] true zero e there = cc
+event_at [] true (suc k) e there = cc
+event_at [] false k e there = cc
+event_at (x ∷ es) closed zero e there = let same : x ≡ e = cc in ap (λ y. Some y) same
+event_at (x ∷ es) closed (suc k) e there = event_at es closed k e there
+
+-- and an event stands in the line at its place
+pub told_at : (es : List Event) (closed : Bool) (k : ℕ) (e : Event) → slice_get es k ≡ Some e
+    → slice_get (told es closed) k ≡ Some (OfEvent e)
+told_at es closed k e there =
+    slice_get-append (map OfEvent es) (end_mark_if closed) k (OfEvent e)
+    (slice_get-map OfEvent es k ∙ ap (option_map OfEvent) there)
+
+-- an event that isn't later than another of a rising list stands no further on
+pub no_further : (t : ℕ) (es : List Event) (i j : ℕ) (a b : Event) → RiseFrom t es → slice_get es i ≡ Some a
+    → slice_get es j ≡ Some b → b.timestamp ≤ a.timestamp → j ≤ i
+no_further t es i j a b rise here there early =
+    elim (cases_lt i j) [
+      | inl before ↦
+          let rises = TimestampsRise-from es (RiseFrom-earlier 0 t es (omega arith) rise) in
+          let later = rises.rising i j a before (slice_get_within es j b there) in
+          let first : get_or es i a ≡ a = get_or_from_slice_get es i a a here in
+          let second : get_or es j a ≡ b = get_or_from_slice_get es j b a there in
+          let first_moment = ap (λ (e : Event). e.timestamp) first in
+          let second_moment = ap (λ (e : Event). e.timestamp) second in
+          absurd (omega (arith, later, first_moment, second_moment, early))
+      | inr not ↦ not
+    ]
+
+-- what stands in the first list stands there at the same place
+pub prefix_at : {X : Type 0} (some all : List X) (k : ℕ) (x : X) → IsPrefix some all → slice_get some k ≡ Some x
+    → slice_get all k ≡ Some x
+prefix_at {X} some all k x front there =
+    subst (λ (xs : List X). slice_get xs k ≡ Some x) front.whole (slice_get-append some front.rest k x there)
+
+-- and so the other way round, where the place is within the first list
+pub prefix_has : {X : Type 0} (some all : List X) (k : ℕ) (x : X) → IsPrefix some all → k < length some
+    → slice_get all k ≡ Some x → slice_get some k ≡ Some x
+prefix_has {X} some all k x front below there =
+    sym (slice_get-before some front.rest k below)
+    ∙ ap (λ (xs : List X). slice_get xs k) front.whole
+    ∙ there
+
+module _ (h : History) (sound : IsSound h) where
+  -- an event after a moment stands among those after it
+  after_at : (t : ℕ) (e : Event) → Contains (events h) e → t < e.timestamp
+      → (k : ℕ) × (slice_get (events_after t (events h)) k ≡ Some e)
+  after_at t e there late =
+      let cut = split_events h t sound in
+      elim (Contains-append_cases cut.0 (events_after t (events h)) e (rw cut.1.whole at there)) [
+        | inl early ↦
+            let low : e.timestamp ≤ t = each_has (λ x. x.timestamp ≤ t) cut.0 e cut.1.low early in
+            absurd (omega (arith, late, low))
+        | inr (k, below, is) ↦ (
+          k,
+          slice_get_read (events_after t (events h)) (length (events_after t (events h))) k e refl below (sym is),
+        )
+      ]
+
+  -- no event is at 0
+  none_at_start : (taken : List Item) → HasTakenUpTo h taken 0
+  none_at_start taken e there low =
+      let above : 0 < e.timestamp =
+      each_has (λ x. 0 < x.timestamp) (events h) e (all_later 0 (events h) (events_rise h sound)) there in
+      absurd (omega (arith, above, low))
+
+  module _ (confirms : List Confirm) (n : ℕ) (taken : List Item) where
+    -- what was confirmed to these sessions, where their number is below n, was taken
+    abbrev pub HasConfirmed : List Shown → Type 0
+    HasConfirmed sessions =
+        (s : Shown) → Contains sessions s → s.number < n → (place : ℕ) (item : Item)
+        → slice_get s.items place ≡ Some item → IsConfirmed confirms s.number (place + 1) → Contains taken item
+
+    -- an earlier session that is confirmed up to a moment had all its events up to then taken
+    up_to_confirmed : (sessions : List Shown) (s : Shown) (moment : ℕ) → HasConfirmed sessions → Contains sessions s
+        → s.number < n → IsPrefix s.items (line_after h s.base) → HasTakenUpTo h taken s.base
+        → IsConfirmedTo confirms s moment → HasTakenUpTo h taken moment
+    up_to_confirmed sessions s moment has among below front base is e there low =
+        elim (cases_lt s.base e.timestamp) [
+          | inl late ↦
+              let es : List Event = events_after s.base (events h) in
+              let rise : RiseFrom s.base es = (split_events h s.base sound).1.rise in
+              let found = after_at s.base e there late in
+              let last : slice_get es is.place ≡ Some is.event =
+              event_at es h.closed is.place is.event
+              (prefix_at s.items (line_after h s.base) is.place (OfEvent is.event) front is.published) in
+              let early : found.0 ≤ is.place =
+              no_further s.base es is.place found.0 is.event e rise last found.1 (omega (arith, low, is.at)) in
+              let within : found.0 < length s.items =
+              omega (arith, early, slice_get_within s.items is.place (OfEvent is.event) is.published) in
+              let here : slice_get s.items found.0 ≡ Some (OfEvent e) =
+              prefix_has s.items (line_after h s.base) found.0 (OfEvent e) front within
+              (told_at es h.closed found.0 e found.1) in
+              has s among below found.0 (OfEvent e) here
+              (is.confirmed (found.0 + 1) (omega arith) (omega (arith, early)))
+          | inr early ↦ base e there early
+        ]
+
+    -- a session of number n or below begins after such a moment, where those before it did
+    of_base : (earlier : List Shown) (x : Shown) → MayFollow h confirms earlier x → AreSessions h confirms earlier
+        → HasConfirmed earlier → x.number ≤ n
+        → ((t : Shown) → Contains earlier t → t.number ≤ n → HasTakenUpTo h taken t.base)
+        → IsBase confirms earlier x.base → HasTakenUpTo h taken x.base
+    of_base earlier x may each has low before (inl none) =
+        subst (HasTakenUpTo h taken) (sym none) (none_at_start taken)
+    of_base earlier x may each has low before (inr (t, among, inl same)) =
+        let above : t.number < x.number = may.above t among in
+        subst (HasTakenUpTo h taken) same (before t among (omega (arith, above, low)))
+    of_base earlier x may each has low before (inr (t, among, inr is)) =
+        let above : t.number < x.number = may.above t among in
+        up_to_confirmed earlier t x.base has among (omega (arith, above, low))
+        (follows h confirms earlier t each among).may.items (before t among (omega (arith, above, low))) is
+
+    -- so each such session begins after a moment up to which every event was taken
+    pub bases_taken : (sessions : List Shown) → AreSessions h confirms sessions → HasConfirmed sessions → (s : Shown)
+        → Contains sessions s → s.number ≤ n → HasTakenUpTo h taken s.base
+    bases_taken [] each has s there low = absurd (none_there s there)
+    bases_taken (x ∷ earlier) each has s there low =
+        let older : HasConfirmed earlier = λ t among. has t (Contains-append_right (x ∷ []) earlier t among) in
+        elim (Contains-cons_cases x earlier s there) [
+          | inl is ↦
+              let number : x.number ≡ s.number = ap (λ (y : Shown). y.number) is in
+              subst (λ (y : Shown). HasTakenUpTo h taken y.base) is
+              (of_base earlier x each.0 each.1 older (omega (arith, low, number))
+              (λ t among below. bases_taken earlier each.1 older t among below) each.0.base)
+          | inr old ↦ bases_taken earlier each.1 older s old low
+        ]

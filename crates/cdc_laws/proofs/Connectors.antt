@@ -1,0 +1,548 @@
+-- A connector keeps to its ledger's history, whatever step it takes.
+use Rattle.std.proofs.Common.{◌≡◌, ℕ, ◌+◌, ◌-◌, ◌<◌, ◌≤◌, Bool, true, false, List, [], ◌∷◌, ◌++◌, length, take, refl, sym, ap, ap₂, ◌∙◌, subst, inl, inr, append_assoc, append-nil, arith}
+use Rattle.std.specs.Prelude.{◌==◌, ◌&&◌, not, nat_le, nat_lt, Contains, Option, Some, None, slice_get, if◌then◌else◌}
+use Rattle.std.specs.List.{list_all}
+use Rattle.std.specs.Option.{option_map}
+use Rattle.std.proofs.lemmas.Bool.{and_parts, cases_Bool, eqb-false, eqb-true}
+use Rattle.std.proofs.lemmas.Bool.Decides.{nat_tests}
+use Rattle.std.proofs.lemmas.List.{length-take}
+use Rattle.std.proofs.lemmas.List.Elements.{Contains-append_left, Contains-append_right, Contains-push}
+use Rattle.std.proofs.lemmas.Option.{cond_some, none-some, same_Some, slice_get_within}
+use Rattle.cdc_ledger.specs.Events.{events}
+use Rattle.cdc_ledger.specs.History.{History}
+use Rattle.cdc_ledger.specs.Sound.{IsSound}
+use Rattle.cdc_laws.specs.Arrivals.{AreAmong}
+use Rattle.cdc_laws.specs.ConnectorRuns.{AreConfirmed, AreSessions, IsBase, IsConfirmed, IsConfirmedTo, IsConnectorRun, Shown, packets_of, publishes_from, sent_by}
+use Rattle.cdc_laws.specs.Connectors.{ConnectorState, IsLive, KeepsTo, SendsInTurn, StandsLast, after_answer, after_confirm, held_number, held_timestamp, shown_of}
+use Rattle.cdc_laws.specs.GoingOn.{GoesOn}
+use Rattle.cdc_laws.specs.Line.{told}
+use Rattle.cdc_laws.proofs.Bases.{prefix_has, told_at}
+use Rattle.cdc_laws.proofs.Courses.{IsPrefix-take, MayFollow-course, confirmed_cases, each_number, end_at, publishes_from-push, reaches, take_one}
+use Rattle.cdc_laws.proofs.Lines.{events_after-goes_on}
+use Rattle.cdc_laws.proofs.Places.{Contains-cons_cases, none_there, slice_get-append}
+use Rattle.cdc_laws.proofs.LongerRuns.{AreSessions-goes_on, IsPrefix-longer, base_past}
+use Rattle.cdc_laws.proofs.Sessions.{AreConfirmed-more, AreSessions-more, IsBase-more}
+use Rattle.cdc_log.specs.Log.{events_after}
+use Rattle.cdc_message.specs.declared.items.Item.{Item}
+use Rattle.cdc_message.specs.declared.items.Item.TheVariants.{Event as OfEvent, EndMark}
+use Rattle.cdc_message.specs.declared.packets.Answer.{Answer}
+use Rattle.cdc_message.specs.declared.packets.Answer.TheVariants.{Connected, Confirmed, Ignored, Broken}
+use Rattle.cdc_message.specs.declared.packets.Confirm.{Confirm}
+use Rattle.cdc_message.specs.declared.packets.Packet.{Packet}
+use Rattle.cdc_message.specs.declared.packets.Packet.TheVariants.{Connect, Publish}
+use Rattle.cdc_message.specs.Replays.{IsPrefix}
+use Rattle.cdc_progress.specs.Records.{Saved}
+use Rattle.cdc_publisher.specs.Courses.{Course, begun, confirmed_timestamp, is_confirmed, is_sent, last_session, may_end, new_course, next_packet, numbers_from, progress_of, publish_packet, tags_sent, takes_confirm, with_confirm, with_sent}
+use Rattle.cdc_types.specs.declared.events.Event.{Event}
+
+-- a connector keeps to a history by the packets that it has sent and the confirms that it has received
+pub IsConnectorRun-keeps : (h : History) (c : ConnectorState) → KeepsTo h c → IsConnectorRun h c.sent c.confirms
+IsConnectorRun-keeps h c keeps = record { sessions = keeps.sessions; makes = keeps.makes; each = keeps.each }
+
+-- ---- it begins
+
+-- a store holds nothing, or the timestamp 0
+pub KeepsTo-begin : (h : History) (held : Option Saved) → held_timestamp held ≡ 0
+    → KeepsTo h (record { held = held; session = None; sent = []; confirms = [] })
+KeepsTo-begin h held none = record {
+  sessions = [];
+  makes = refl;
+  each = tt;
+  numbers = λ s there. absurd (none_there s there);
+  base = inl none;
+  live = λ course there. absurd (none-some course there);
+}
+
+-- ---- its session ends
+
+-- no session runs, and what was sent and received stays
+pub KeepsTo-end : (h : History) (c : ConnectorState) → KeepsTo h c → KeepsTo h (record c { session = None })
+KeepsTo-end h c keeps = record {
+  sessions = keeps.sessions;
+  makes = keeps.makes;
+  each = keeps.each;
+  numbers = keeps.numbers;
+  base = keeps.base;
+  live = λ course there. absurd (none-some course there);
+}
+
+-- ---- a session starts
+
+-- the number is a new one, and the timestamp stays
+pub begun_parts : (held : Option Saved) (saved : Saved) → begun held ≡ Some saved
+    → (held_number held < saved.session) × (saved.timestamp ≡ held_timestamp held)
+begun_parts None saved is =
+    let same : record { session = 1; timestamp = 0 } ≡ saved = same_Some _ saved is in
+    let number : 1 ≡ saved.session = ap (λ (s : Saved). s.session) same in
+    (omega (arith, number), sym (ap (λ (s : Saved). s.timestamp) same))
+begun_parts (Some held) saved is = either (held.session == last_session) is
+  where
+    next : Saved
+    next = record { session = held.session + 1; timestamp = held.timestamp }
+
+    either : (b : Bool) → (if b then None else Some next) ≡ Some saved
+        → (held.session < saved.session) × (saved.timestamp ≡ held.timestamp)
+    either true is = absurd (none-some saved is)
+    either false is =
+        let same : next ≡ saved = same_Some next saved is in
+        let number : held.session + 1 ≡ saved.session = ap (λ (s : Saved). s.session) same in
+        (omega (arith, number), sym (ap (λ (s : Saved). s.timestamp) same))
+
+-- the new number is held, and its session comes to be or not
+pub KeepsTo-start : (h : History) (c : ConnectorState) (saved : Saved) (window : ℕ) → KeepsTo h c
+    → begun c.held ≡ Some saved
+    → KeepsTo h (record c { held = Some saved; session = Some (new_course saved window) })
+KeepsTo-start h c saved window keeps new =
+    let parts = begun_parts c.held saved new in
+    let base : IsBase c.confirms keeps.sessions saved.timestamp =
+    subst (IsBase c.confirms keeps.sessions) (sym parts.1) keeps.base in
+    record {
+      sessions = keeps.sessions;
+      makes = keeps.makes;
+      each = keeps.each;
+      numbers = λ s there. let low = keeps.numbers s there in omega (arith, low, parts.0);
+      base = base;
+      live = λ course there.
+          subst (IsLive h c.confirms keeps.sessions saved.session) (same_Some (new_course saved window) course there)
+          (record {
+            its = refl;
+            offered = record { rest = events_after saved.timestamp (events h); whole = refl };
+            complete = λ is. cc;
+            confirmed = λ tag is. cc;
+            in_turn = inl (omega arith);
+            last = inl
+                (refl, base, λ s among. let low = keeps.numbers s among in omega (arith, low, parts.0));
+          });
+    }
+
+-- where saving fails the new number may be held without a session
+pub KeepsTo-half_started : (h : History) (c : ConnectorState) (saved : Saved) → KeepsTo h c → begun c.held ≡ Some saved
+    → KeepsTo h (record c { held = Some saved; session = None })
+KeepsTo-half_started h c saved keeps new =
+    KeepsTo-end h (record c { held = Some saved; session = Some (new_course saved 1) })
+    (KeepsTo-start h c saved 1 keeps new)
+
+-- ---- it sends a packet
+
+-- a moment after which a session may begin stays one when another session joins
+IsBase-older : (confirms : List Confirm) (sessions : List Shown) (s : Shown) (t : ℕ) → IsBase confirms sessions t
+    → IsBase confirms (s ∷ sessions) t
+IsBase-older confirms sessions s t (inl none) = inl none
+IsBase-older confirms sessions s t (inr (other, among, which)) =
+    inr (other, Contains-append_right (s ∷ []) sessions other among, which)
+
+-- and when the latest publishes one more item
+IsBase-longer : (confirms : List Confirm) (earlier : List Shown) (s longer : Shown) (t : ℕ)
+    → longer.number ≡ s.number → longer.base ≡ s.base
+    → ((k : ℕ) (item : Item) → slice_get s.items k ≡ Some item → slice_get longer.items k ≡ Some item)
+    → IsBase confirms (s ∷ earlier) t → IsBase confirms (longer ∷ earlier) t
+IsBase-longer confirms earlier s longer t number base kept (inl none) = inl none
+IsBase-longer confirms earlier s longer t number base kept (inr (other, among, which)) =
+    elim (Contains-cons_cases s earlier other among) [
+      | inl is ↦
+          elim which [
+            | inl same ↦
+                inr (longer, (0, omega arith, refl), inl (base ∙ ap (λ (x : Shown). x.base) is ∙ same))
+            | inr to ↦
+                let own : IsConfirmedTo confirms s t = subst (λ x. IsConfirmedTo confirms x t) (sym is) to in
+                inr (
+                  longer,
+                  (0, omega arith, refl),
+                  inr
+                      (record {
+                        place = own.place;
+                        event = own.event;
+                        published = kept own.place (OfEvent own.event) own.published;
+                        at = own.at;
+                        confirmed = subst (λ n. AreConfirmed confirms n (own.place + 1)) (sym number) own.confirmed;
+                      }),
+                )
+          ]
+      | inr old ↦ inr (other, Contains-append_right (longer ∷ []) earlier other old, which)
+    ]
+
+module _ (h : History) (c : ConnectorState) (keeps : KeepsTo h c) (course : Course)
+    (runs : c.session ≡ Some course) where
+  -- the session after one more packet
+  abbrev on : Course
+  on = record course { sent = course.sent + 1 }
+
+  -- it connects
+  KeepsTo-connect : course.sent ≡ 0
+      → KeepsTo h (record c { session = Some on; sent = c.sent ++ Connect course.number ∷ [] })
+  KeepsTo-connect first =
+      let live : IsLive h c.confirms keeps.sessions (held_number c.held) course = keeps.live course runs in
+      let nothing : tags_sent on ≡ 0 = omega (arith, first) in
+      let none : (shown_of on).items ≡ [] = ap (λ n. take n (told course.offered true)) nothing in
+      let in_turn : SendsInTurn c.confirms on = inl (omega (arith, first)) in
+      let last : IsBase c.confirms keeps.sessions course.base
+      × ((s : Shown) → Contains keeps.sessions s → s.number < course.number) =
+      elim live.last [
+        | inl new ↦ (new.1, new.2)
+        | inr old ↦ absurd (omega (arith, first, old.0))
+      ] in
+      record {
+        sessions = shown_of on ∷ keeps.sessions;
+        makes = ap₂ (λ ps items. ps ++ Connect course.number ∷ publishes_from course.number 1 items) keeps.makes none;
+        each = (
+          MayFollow-course h c.confirms on live.offered live.complete keeps.sessions last.1 last.0 in_turn,
+          keeps.each,
+        );
+        numbers = λ s there.
+            elim (Contains-cons_cases (shown_of on) keeps.sessions s there) [
+              | inl is ↦
+                  let number : course.number ≡ s.number = ap (λ (x : Shown). x.number) is in
+                  omega (arith, number, live.its)
+              | inr old ↦ keeps.numbers s old
+            ];
+        base = IsBase-older c.confirms keeps.sessions (shown_of on) (held_timestamp c.held) keeps.base;
+        live = λ other there.
+            subst (IsLive h c.confirms (shown_of on ∷ keeps.sessions) (held_number c.held)) (same_Some on other there)
+            (record {
+              its = live.its;
+              offered = live.offered;
+              complete = live.complete;
+              confirmed = λ tag is.
+                  let was = live.confirmed tag is in (omega (arith, was.0), was.1);
+              in_turn = in_turn;
+              last = inr (omega arith, (keeps.sessions, refl));
+            });
+      }
+
+  -- it publishes the item that comes next
+  KeepsTo-publish : (item : Item) → 0 < course.sent
+      → slice_get (told course.offered true) (tags_sent course) ≡ Some item → SendsInTurn c.confirms on
+      → KeepsTo h
+      (record c { session = Some on; sent = c.sent ++ Publish course.number course.sent item ∷ [] })
+  KeepsTo-publish item some here in_turn =
+      elim (keeps.live course runs).last [
+        | inl new ↦ absurd (omega (arith, some, new.0))
+        | inr (_, (earlier, is)) ↦
+            let live : IsLive h c.confirms keeps.sessions (held_number c.held) course = keeps.live course runs in
+            let all : List Item = told course.offered true in
+            let each : AreSessions h c.confirms (shown_of course ∷ earlier) =
+            subst (AreSessions h c.confirms) is keeps.each in
+            let items : (shown_of on).items ≡ (shown_of course).items ++ item ∷ [] =
+            ap (λ n. take n all) (omega (arith, some)) ∙ take_one (tags_sent course) all item here in
+            let within : tags_sent course < length all = slice_get_within all (tags_sent course) item here in
+            let tag : 1 + length (shown_of course).items ≡ course.sent =
+            omega (arith, length-take (tags_sent course) all, within, some) in
+            let packets : packets_of (shown_of on)
+            ≡ packets_of (shown_of course) ++ Publish course.number course.sent item ∷ [] =
+            ap (λ (xs : List Item). Connect course.number ∷ publishes_from course.number 1 xs) items
+            ∙ ap (λ ps. Connect course.number ∷ ps)
+            (publishes_from-push course.number 1 (shown_of course).items item
+            ∙ ap (λ n. publishes_from course.number 1 (shown_of course).items ++ Publish course.number n item ∷ [])
+            tag) in
+            record {
+              sessions = shown_of on ∷ earlier;
+              makes = ap (λ ps. sent_by earlier ++ ps) packets
+                  ∙ sym (append_assoc (sent_by earlier) (packets_of (shown_of course))
+                  (Publish course.number course.sent item ∷ []))
+                  ∙ ap (λ ps. ps ++ Publish course.number course.sent item ∷ [])
+                  (ap sent_by (sym is) ∙ keeps.makes);
+              each = (
+                MayFollow-course h c.confirms on live.offered live.complete earlier each.0.above each.0.base in_turn,
+                each.1,
+              );
+              numbers = λ s there.
+                  elim (Contains-cons_cases (shown_of on) earlier s there) [
+                    | inl same ↦
+                        let number : course.number ≡ s.number = ap (λ (x : Shown). x.number) same in
+                        omega (arith, number, live.its)
+                    | inr old ↦
+                        keeps.numbers s
+                        (subst (λ xs. Contains xs s) (sym is)
+                        (Contains-append_right (shown_of course ∷ []) earlier s old))
+                  ];
+              base = IsBase-longer c.confirms earlier (shown_of course) (shown_of on) (held_timestamp c.held) refl refl
+                  (λ k x at. subst (λ (xs : List Item). slice_get xs k ≡ Some x) (sym items)
+                  (slice_get-append (shown_of course).items (item ∷ []) k x at))
+                  (subst (λ xs. IsBase c.confirms xs (held_timestamp c.held)) is keeps.base);
+              live = λ other there.
+                  subst (IsLive h c.confirms (shown_of on ∷ earlier) (held_number c.held)) (same_Some on other there)
+                  (record {
+                    its = live.its;
+                    offered = live.offered;
+                    complete = live.complete;
+                    confirmed = λ tag is.
+                        let was = live.confirmed tag is in (omega (arith, was.0), was.1);
+                    in_turn = in_turn;
+                    last = inr (omega arith, (earlier, refl));
+                  });
+            }
+      ]
+
+  -- an event, or the end mark once each tag before it was confirmed
+  KeepsTo-next : (event : Option Event) (packet : Packet) → 0 < course.sent
+      → slice_get course.offered (tags_sent course) ≡ event → publish_packet course event ≡ Some packet
+      → KeepsTo h (record c { session = Some on; sent = c.sent ++ packet ∷ [] })
+  KeepsTo-next (Some event) packet some there is =
+      let below : tags_sent course < length course.offered =
+      slice_get_within course.offered (tags_sent course) event there in
+      subst (λ p. KeepsTo h (record c { session = Some on; sent = c.sent ++ p ∷ [] }))
+      (same_Some (Publish course.number course.sent (OfEvent event)) packet is)
+      (KeepsTo-publish (OfEvent event) some (told_at course.offered true (tags_sent course) event there)
+      (inl (omega (arith, below, some))))
+  KeepsTo-next None packet some there is =
+      let ends =
+      cond_some (may_end course && (tags_sent course == length course.offered))
+      (Publish course.number course.sent EndMark) packet is in
+      let tests = and_parts (may_end course) (tags_sent course == length course.offered) ends.0 in
+      let parts =
+      and_parts course.complete (list_all (is_confirmed course) (numbers_from 1 (length course.offered))) tests.0 in
+      let place : tags_sent course ≡ length course.offered =
+      eqb-true (tags_sent course) (length course.offered) tests.1 in
+      let confirmed : AreConfirmed c.confirms course.number (length course.offered) =
+      λ tag above low.
+      ((keeps.live course runs).confirmed tag
+      (each_number (is_confirmed course) 1 (length course.offered) tag parts.1 (omega (arith, above))
+      (omega (arith, low)))).1 in
+      subst (λ p. KeepsTo h (record c { session = Some on; sent = c.sent ++ p ∷ [] })) ends.1
+      (KeepsTo-publish EndMark some
+      (ap (slice_get (told course.offered true)) place ∙ end_at course.offered)
+      (inr (parts.0, confirmed)))
+
+  -- so a connector keeps to its history when its session sends its next packet
+  pub KeepsTo-sent : (packet : Packet) → next_packet course ≡ Some packet
+      → KeepsTo h (record c { session = Some (with_sent (Some packet) course); sent = c.sent ++ packet ∷ [] })
+  KeepsTo-sent packet is =
+      elim (cases_Bool (course.sent == 0)) [
+        | inl first ↦
+            let connects : Connect course.number ≡ packet =
+            same_Some (Connect course.number) packet (rw first at is) in
+            subst (λ p. KeepsTo h (record c { session = Some on; sent = c.sent ++ p ∷ [] })) connects
+            (KeepsTo-connect (eqb-true course.sent 0 first))
+        | inr later ↦
+            let some : 0 < course.sent = omega (arith, eqb-false course.sent 0 later) in
+            KeepsTo-next (slice_get course.offered (tags_sent course)) packet some refl (rw later at is)
+      ]
+
+-- ---- a confirm comes
+
+-- a tag that was sent is none behind the last one
+is_sent-most : (course : Course) (tag : ℕ) → is_sent course tag ≡ true → tag ≤ tags_sent course
+is_sent-most course tag sent =
+    let parts = and_parts (nat_lt 0 tag) (nat_le tag (tags_sent course)) sent in
+    up_to tag (tags_sent course) parts.1
+  where
+    up_to : (n m : ℕ) → nat_le n m ≡ true → n ≤ m
+    up_to n m is = grind (arith, nat_tests)
+
+-- what stands before the end of a beginning is within it
+in_take : {X : Type 0} (n : ℕ) (xs : List X) (k : ℕ) (x : X) → k < n → slice_get xs k ≡ Some x
+    → k < length (take n xs)
+in_take n xs k x below there =
+    let within : k < length xs = slice_get_within xs k x there in omega (arith, below, within, length-take n xs)
+
+-- more confirms, of this session or earlier ones, change nothing of what was sent
+StandsLast-more : (confirms more : List Confirm) → AreAmong confirms more → (sessions : List Shown) (course : Course)
+    → StandsLast confirms sessions course → StandsLast more sessions course
+StandsLast-more confirms more kept sessions course (inl new) =
+    inl (new.0, IsBase-more confirms more kept sessions course.base new.1, new.2)
+StandsLast-more confirms more kept sessions course (inr old) = inr old
+
+-- nor of the turn in which it is sent
+SendsInTurn-more : (confirms more : List Confirm) → AreAmong confirms more → (course : Course)
+    → SendsInTurn confirms course → SendsInTurn more course
+SendsInTurn-more confirms more kept course (inl within) = inl within
+SendsInTurn-more confirms more kept course (inr ends) =
+    inr (ends.0, AreConfirmed-more confirms more kept course.number (length course.offered) ends.1)
+
+-- so a session stays live
+IsLive-more : (h : History) (confirms more : List Confirm) → AreAmong confirms more → (sessions : List Shown)
+    (number : ℕ) (course : Course) → IsLive h confirms sessions number course → IsLive h more sessions number course
+IsLive-more h confirms more kept sessions number course live = record {
+  its = live.its;
+  offered = live.offered;
+  complete = live.complete;
+  confirmed = λ tag is. let was = live.confirmed tag is in (was.0, kept _ was.1);
+  in_turn = SendsInTurn-more confirms more kept course live.in_turn;
+  last = StandsLast-more confirms more kept sessions course live.last;
+}
+
+-- and one that counts a confirm that came for it does too
+IsLive-confirmed : (h : History) (confirms : List Confirm) (sessions : List Shown) (number session tag : ℕ)
+    (course : Course) → IsLive h confirms sessions number course → IsConfirmed confirms session tag
+    → IsLive h confirms sessions number (with_confirm session tag course)
+IsLive-confirmed h confirms sessions number session tag course live there =
+    elim (cases_Bool (takes_confirm course session tag)) [
+      | inr not ↦ rw not live
+      | inl takes ↦
+          let tests =
+          and_parts (session == course.number) (is_sent course tag && not (is_confirmed course tag)) takes in
+          let own : session ≡ course.number = eqb-true session course.number tests.0 in
+          let sent = (and_parts (is_sent course tag) (not (is_confirmed course tag)) tests.1).0 in
+          let low : tag ≤ tags_sent course = is_sent-most course tag sent in
+          rw takes
+          (record {
+            its = live.its;
+            offered = live.offered;
+            complete = live.complete;
+            confirmed = λ other is.
+                elim (confirmed_cases course tag other is) [
+                  | inl old ↦ live.confirmed other old
+                  | inr same ↦ (
+                    subst (λ n. n ≤ tags_sent course) same low,
+                    subst (IsConfirmed confirms course.number) same
+                        (subst (λ n. IsConfirmed confirms n tag) own there),
+                  )
+                ];
+            in_turn = live.in_turn;
+            last = live.last;
+          })
+    ]
+
+-- whatever the broker answers
+IsLive-answered : (h : History) (confirms : List Confirm) (sessions : List Shown) (number : ℕ) (confirm : Confirm)
+    (course : Course) → IsLive h confirms sessions number course → Contains confirms confirm
+    → IsLive h confirms sessions number (after_answer confirm.session confirm.answer course)
+IsLive-answered h confirms sessions number confirm course live there = by_answer confirm.answer refl
+  where
+    by_answer : (answer : Answer) → answer ≡ confirm.answer
+        → IsLive h confirms sessions number (after_answer confirm.session answer course)
+    by_answer (Confirmed tag) is =
+        IsLive-confirmed h confirms sessions number confirm.session tag course live
+        (subst (λ (a : Answer). Contains confirms (record { session = confirm.session; answer = a })) (sym is) there)
+    by_answer Connected is = live
+    by_answer Ignored is = live
+    by_answer Broken is = live
+
+-- a session after an answer is one that was there before
+mapped : (f : Course → Course) (session : Option Course) (course : Course) → option_map f session ≡ Some course
+    → (before : Course) × ((session ≡ Some before) × (f before ≡ course))
+mapped f None course there = absurd (none-some course there)
+mapped f (Some before) course there = (before, (refl, same_Some (f before) course there))
+
+-- so a connector keeps to its history when a confirm comes
+pub KeepsTo-confirm : (h : History) (c : ConnectorState) (confirm : Confirm) → KeepsTo h c
+    → KeepsTo h (after_confirm confirm c)
+KeepsTo-confirm h c confirm keeps =
+    let more : List Confirm = c.confirms ++ confirm ∷ [] in
+    let kept : AreAmong c.confirms more = λ x there. Contains-append_left c.confirms (confirm ∷ []) x there in
+    record {
+      sessions = keeps.sessions;
+      makes = keeps.makes;
+      each = AreSessions-more c.confirms more kept h keeps.sessions keeps.each;
+      numbers = keeps.numbers;
+      base = IsBase-more c.confirms more kept keeps.sessions (held_timestamp c.held) keeps.base;
+      live = λ course there.
+          let before = mapped (after_answer confirm.session confirm.answer) c.session course there in
+          subst (IsLive h more keeps.sessions (held_number c.held)) before.1.1
+          (IsLive-answered h more keeps.sessions (held_number c.held) confirm before.0
+          (IsLive-more h c.confirms more kept keeps.sessions (held_number c.held) before.0
+          (keeps.live before.0 before.1.0)) (Contains-push c.confirms confirm));
+    }
+
+-- ---- it saves
+
+-- what a session saves is a moment after which the next may begin
+saved_base : (h : History) (c : ConnectorState) (keeps : KeepsTo h c) (course : Course) → c.session ≡ Some course
+    → IsBase c.confirms keeps.sessions (confirmed_timestamp course)
+saved_base h c keeps course runs =
+    let live : IsLive h c.confirms keeps.sessions (held_number c.held) course = keeps.live course runs in
+    elim (reaches course 1 course.base course.offered) [
+      | inl same ↦
+          subst (IsBase c.confirms keeps.sessions) (sym same)
+          (elim live.last [
+            | inl new ↦ new.1
+            | inr (_, (earlier, is)) ↦
+                let among : Contains keeps.sessions (shown_of course) =
+                subst (λ xs. Contains xs (shown_of course)) (sym is) (0, omega arith, refl) in
+                inr (shown_of course, among, inl refl)
+          ])
+      | inr at ↦
+          let tags : (tag : ℕ) → 0 < tag → tag ≤ at.place + 1 → is_confirmed course tag ≡ true =
+          λ tag above low.
+          let this : 1 + (tag - 1) ≡ tag = omega (arith, above) in
+          subst (λ n. is_confirmed course n ≡ true) this (at.all (tag - 1) (omega (arith, low, above))) in
+          let last = live.confirmed (at.place + 1) (tags (at.place + 1) (omega arith) (omega arith)) in
+          elim live.last [
+            | inl new ↦ absurd (omega (arith, new.0, last.0))
+            | inr (_, (earlier, is)) ↦
+                let all : List Item = told course.offered true in
+                let here : slice_get (shown_of course).items at.place ≡ Some (OfEvent at.event) =
+                prefix_has (shown_of course).items all at.place (OfEvent at.event)
+                (IsPrefix-take (tags_sent course) all)
+                (in_take (tags_sent course) all at.place (OfEvent at.event) (omega (arith, last.0))
+                (told_at course.offered true at.place at.event at.here))
+                (told_at course.offered true at.place at.event at.here) in
+                inr (
+                  shown_of course,
+                  subst (λ xs. Contains xs (shown_of course)) (sym is) (0, omega arith, refl),
+                  inr
+                      (record {
+                        place = at.place;
+                        event = at.event;
+                        published = here;
+                        at = at.at;
+                        confirmed = λ tag above low. (live.confirmed tag (tags tag above low)).1;
+                      }),
+                )
+          ]
+    ]
+
+-- so a connector keeps to its history when it saves
+pub KeepsTo-save : (h : History) (c : ConnectorState) (course : Course) → KeepsTo h c → c.session ≡ Some course
+    → KeepsTo h (record c { held = Some (progress_of course) })
+KeepsTo-save h c course keeps runs =
+    let number : course.number ≡ held_number c.held = (keeps.live course runs).its in
+    record {
+      sessions = keeps.sessions;
+      makes = keeps.makes;
+      each = keeps.each;
+      numbers = λ s there. let low = keeps.numbers s there in omega (arith, low, number);
+      base = saved_base h c keeps course runs;
+      live = λ other there.
+          subst (λ n. IsLive h c.confirms keeps.sessions n other) (sym number) (keeps.live other there);
+    }
+
+-- ---- the ledger goes on
+
+-- a session that runs begins after a moment that isn't past the ledger's last
+live_past : (h : History) → IsSound h → (confirms : List Confirm) (sessions : List Shown) (course : Course)
+    → AreSessions h confirms sessions → StandsLast confirms sessions course → course.base ≤ h.last
+live_past h sound confirms sessions course each (inl new) = base_past h sound confirms sessions each course.base new.1
+live_past h sound confirms sessions course each (inr (_, (earlier, is))) =
+    let all : AreSessions h confirms (shown_of course ∷ earlier) = subst (AreSessions h confirms) is each in
+    base_past h sound confirms earlier all.1 course.base all.0.base
+
+-- a session stays live: it was still offered the first events after its base when later ones join them, and where it
+-- knows of the end none do
+IsLive-goes_on : (h g : History) → IsSound h → GoesOn h g → (confirms : List Confirm) (sessions : List Shown)
+    (number : ℕ) (course : Course) → AreSessions h confirms sessions → IsLive h confirms sessions number course
+    → IsLive g confirms sessions number course
+IsLive-goes_on h g sound on confirms sessions number course each live =
+    let early : course.base ≤ h.last = live_past h sound confirms sessions course each live.last in
+    let longer : events_after course.base (events g) ≡ events_after course.base (events h) ++ on.new =
+    events_after-goes_on h g course.base on early in
+    record {
+      its = live.its;
+      offered = subst (IsPrefix course.offered) (sym longer)
+          (IsPrefix-longer course.offered (events_after course.base (events h)) on.new live.offered);
+      complete = λ is.
+          let all = live.complete is in
+          let shut = on.shut all.0 in (
+            shut.0,
+            all.1
+                ∙ sym (append-nil (events_after course.base (events h)))
+                ∙ ap (λ es. events_after course.base (events h) ++ es) (sym shut.1)
+                ∙ sym longer,
+          );
+      confirmed = live.confirmed;
+      in_turn = live.in_turn;
+      last = live.last;
+    }
+
+-- so a connector keeps to every history that goes on from one that it keeps to
+pub KeepsTo-goes_on : (h g : History) (c : ConnectorState) → IsSound h → GoesOn h g → KeepsTo h c → KeepsTo g c
+KeepsTo-goes_on h g c sound on keeps = record {
+  sessions = keeps.sessions;
+  makes = keeps.makes;
+  each = AreSessions-goes_on h sound c.confirms g on keeps.sessions keeps.each;
+  numbers = keeps.numbers;
+  base = keeps.base;
+  live = λ course runs.
+      IsLive-goes_on h g sound on c.confirms keeps.sessions (held_number c.held) course keeps.each
+      (keeps.live course runs);
+}

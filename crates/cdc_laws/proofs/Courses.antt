@@ -1,0 +1,207 @@
+-- A session's course, and the session as it shows.
+use Rattle.std.proofs.Common.{◌≡◌, ◌⊎◌, ℕ, zero, suc, ◌+◌, ◌-◌, ◌<◌, ◌≤◌, Bool, true, false, List, [], ◌∷◌, ◌++◌, length, map, take, drop, refl, sym, ap, ap₂, ◌∙◌, subst, inl, inr, append_assoc, arith}
+use Rattle.std.specs.Prelude.{◌==◌, ◌||◌, Contains, Some, slice_get, if◌then◌else◌}
+use Rattle.std.specs.List.{list_all, list_any}
+use Rattle.std.proofs.lemmas.Bool.{and_parts, cases_lt, eqb-true}
+use Rattle.std.proofs.lemmas.List.{length-map, length-take, map-append, take-append-drop, take-append-le, take_more}
+use Rattle.std.proofs.lemmas.Option.{get_or_from_slice_get, slice_get_within}
+use Rattle.cdc_ledger.specs.Events.{events}
+use Rattle.cdc_ledger.specs.History.{History}
+use Rattle.cdc_laws.specs.ConnectorRuns.{AreConfirmed, IsBase, MayFollow, Shown, publishes_from}
+use Rattle.cdc_laws.specs.Connectors.{SendsInTurn, shown_of}
+use Rattle.cdc_laws.specs.Line.{end_mark_if, line_after, told}
+use Rattle.cdc_laws.proofs.Places.{slice_get-append}
+use Rattle.cdc_laws.proofs.LongerRuns.{IsPrefix-longer}
+use Rattle.cdc_log.specs.Log.{events_after}
+use Rattle.cdc_message.specs.declared.items.Item.{Item}
+use Rattle.cdc_message.specs.declared.items.Item.TheVariants.{Event as OfEvent, EndMark}
+use Rattle.cdc_message.specs.declared.packets.Confirm.{Confirm}
+use Rattle.cdc_message.specs.declared.packets.Packet.TheVariants.{Publish}
+use Rattle.cdc_message.specs.Replays.{IsPrefix}
+use Rattle.cdc_publisher.specs.Courses.{Course, confirmed_from, is_confirmed, numbers_from, tags_sent}
+use Rattle.cdc_types.specs.declared.events.Event.{Event}
+
+-- ---- places
+
+-- what stands in a beginning stands in the list at the same place, before the beginning's end
+pub of_take : {X : Type 0} (n : ℕ) (xs : List X) (k : ℕ) (x : X) → slice_get (take n xs) k ≡ Some x
+    → (k < n) × (slice_get xs k ≡ Some x)
+of_take {X} n xs k x there =
+    let within : k < length (take n xs) = slice_get_within (take n xs) k x there in (
+      omega (arith, within, length-take n xs),
+      subst (λ (ys : List X). slice_get ys k ≡ Some x) (take-append-drop n xs)
+          (slice_get-append (take n xs) (drop n xs) k x there),
+    )
+
+-- a beginning with one more element
+pub take_one : {X : Type 0} (n : ℕ) (xs : List X) (x : X) → slice_get xs n ≡ Some x
+    → take (n + 1) xs ≡ take n xs ++ x ∷ []
+take_one n xs x there =
+    take_more xs n x (slice_get_within xs n x there)
+    ∙ ap (λ y. take n xs ++ y ∷ []) (get_or_from_slice_get xs n x x there)
+
+-- a beginning is a prefix
+pub IsPrefix-take : {X : Type 0} (n : ℕ) (xs : List X) → IsPrefix (take n xs) xs
+IsPrefix-take n xs = record { rest = drop n xs; whole = take-append-drop n xs }
+
+-- the end mark stands behind the events
+pub end_place : (es : List Event) (closed : Bool) (k : ℕ) → slice_get (told es closed) k ≡ Some EndMark
+    → k ≡ length es
+end_place [] true zero there = refl
+end_place [] true (suc k) there = cc
+end_place [] false k there = cc
+end_place (x ∷ es) closed zero there = cc
+end_place (x ∷ es) closed (suc k) there = ap suc (end_place es closed k there)
+
+-- it stands right there
+pub end_at : (es : List Event) → slice_get (told es true) (length es) ≡ Some EndMark
+end_at [] = refl
+end_at (x ∷ es) = end_at es
+
+-- ---- what a session has sent
+
+-- one more item under the tag that comes next
+pub publishes_from-push : (session first : ℕ) (items : List Item) (item : Item)
+    → publishes_from session first (items ++ item ∷ [])
+    ≡ publishes_from session first items ++ Publish session (first + length items) item ∷ []
+publishes_from-push session first [] item = ap (λ n. Publish session n item ∷ []) (omega arith)
+publishes_from-push session first (x ∷ items) item =
+    ap (λ ps. Publish session first x ∷ ps)
+    (publishes_from-push session (first + 1) items item
+    ∙ ap (λ n. publishes_from session (first + 1) items ++ Publish session n item ∷ []) (omega arith))
+
+module _ (h : History) (confirms : List Confirm) (course : Course)
+    (offered : IsPrefix course.offered (events_after course.base (events h)))
+    (complete : course.complete ≡ true
+    → (h.closed ≡ true) × (course.offered ≡ events_after course.base (events h))) where
+  -- what it was offered is a beginning of what there is to tell
+  line_offered : line_after h course.base
+      ≡ map OfEvent course.offered ++ (map OfEvent offered.rest ++ end_mark_if h.closed)
+  line_offered =
+      ap (λ es. told es h.closed) (sym offered.whole)
+      ∙ ap (λ items. items ++ end_mark_if h.closed) (map-append OfEvent course.offered offered.rest)
+      ∙ append_assoc (map OfEvent course.offered) (map OfEvent offered.rest) (end_mark_if h.closed)
+
+  -- so what it has sent of that is a beginning too, the end mark among it only where the ledger is closed
+  pub items_front : (n : ℕ) → (n ≤ length course.offered) ⊎ (course.complete ≡ true)
+      → IsPrefix (take n (told course.offered true)) (line_after h course.base)
+  items_front n (inl within) =
+      let es : List Item = map OfEvent course.offered in
+      let size : length es ≡ length course.offered = length-map course.offered OfEvent in
+      subst (λ items. IsPrefix items (line_after h course.base))
+      (sym (take-append-le n es (EndMark ∷ []) (omega (arith, within, size))))
+      (subst (IsPrefix (take n es)) (sym line_offered)
+      (IsPrefix-longer (take n es) es (map OfEvent offered.rest ++ end_mark_if h.closed) (IsPrefix-take n es)))
+  items_front n (inr is) =
+      let all = complete is in
+      let same : told course.offered true ≡ line_after h course.base =
+      ap₂ told all.1 (sym all.0) in
+      subst (IsPrefix (take n (told course.offered true))) same (IsPrefix-take n (told course.offered true))
+
+  -- a session that sends in turn may follow whatever it might follow before
+  pub MayFollow-course : (earlier : List Shown) → ((s : Shown) → Contains earlier s → s.number < course.number)
+      → IsBase confirms earlier course.base → SendsInTurn confirms course
+      → MayFollow h confirms earlier (shown_of course)
+  MayFollow-course earlier above base in_turn = record {
+    above = above;
+    base = base;
+    items = items_front (tags_sent course) (elim in_turn [ inl within ↦ inl within | inr ends ↦ inr ends.0 ]);
+    end = λ place there.
+        let parts = of_take (tags_sent course) (told course.offered true) place EndMark there in
+        let last : place ≡ length course.offered = end_place course.offered true place parts.1 in
+        elim in_turn [
+          | inl within ↦ absurd (omega (arith, within, last, parts.0))
+          | inr ends ↦ subst (AreConfirmed confirms course.number) (sym last) ends.1
+        ];
+  }
+
+-- ---- tests over numbers
+
+-- what holds of numbers from one on holds of each
+pub each_number : (p : ℕ → Bool) (first count k : ℕ) → list_all p (numbers_from first count) ≡ true → first ≤ k
+    → k < first + count → p k ≡ true
+each_number p first zero k all from below = absurd (omega (arith, from, below))
+each_number p first (suc count) k all from below =
+    let parts = and_parts (p first) (list_all p (numbers_from (first + 1) count)) all in
+    elim (cases_lt first k) [
+      | inl later ↦ each_number p (first + 1) count k parts.1 (omega (arith, later)) (omega (arith, below))
+      | inr not ↦ let same : first ≡ k = omega (arith, not, from) in subst (λ n. p n ≡ true) same parts.0
+    ]
+
+-- a tag that is confirmed is the one that was added, or it was confirmed before
+pub confirmed_cases : (course : Course) (tag other : ℕ)
+    → is_confirmed (record course { confirmed = course.confirmed ++ tag ∷ [] }) other ≡ true
+    → (is_confirmed course other ≡ true) ⊎ (tag ≡ other)
+confirmed_cases course tag other is = from course.confirmed is
+  where
+    or_cases : (b c : Bool) → (b || c) ≡ true → (b ≡ true) ⊎ (c ≡ true)
+    or_cases true c h = inl refl
+    or_cases false c h = inr h
+
+    from : (tags : List ℕ) → list_any (λ n. n == other) (tags ++ tag ∷ []) ≡ true
+        → (list_any (λ n. n == other) tags ≡ true) ⊎ (tag ≡ other)
+    from [] h =
+        elim (or_cases (tag == other) false h) [ inl same ↦ inr (eqb-true tag other same) | inr none ↦ cc ]
+    from (x ∷ tags) h =
+        elim (or_cases (x == other) (list_any (λ n. n == other) (tags ++ tag ∷ [])) h) [
+          | inl first ↦ inl (ap (λ b. b || list_any (λ n. n == other) tags) first)
+          | inr rest ↦
+              elim (from tags rest) [
+                | inl old ↦ inl (later (x == other) (list_any (λ n. n == other) tags) old)
+                | inr new ↦ inr new
+              ]
+        ]
+      where
+        later : (b c : Bool) → c ≡ true → (b || c) ≡ true
+        later true c h = refl
+        later false c h = h
+
+-- ---- how far a session is confirmed
+
+-- it is a moment up to which all is confirmed: the one that it began from, or that of an event
+pub record Reaches (course : Course) (tag : ℕ) (es : List Event) (moment : ℕ) : Type 0 where
+  pub place : ℕ
+  pub event : Event
+  pub here : slice_get es place ≡ Some event
+  pub at : event.timestamp ≡ moment
+  pub all : (i : ℕ) → i ≤ place → is_confirmed course (tag + i) ≡ true
+
+-- what a session saves is such a moment
+pub reaches : (course : Course) (tag moment : ℕ) (es : List Event)
+    → (confirmed_from course moment tag es ≡ moment) ⊎ Reaches course tag es (confirmed_from course moment tag es)
+reaches course tag moment [] = inl refl
+reaches course tag moment (e ∷ es) =
+    by_test (is_confirmed course tag) refl (reaches course (tag + 1) e.timestamp es)
+  where
+    by_test : (b : Bool) → is_confirmed course tag ≡ b
+        → ((confirmed_from course e.timestamp (tag + 1) es ≡ e.timestamp)
+        ⊎ Reaches course (tag + 1) es (confirmed_from course e.timestamp (tag + 1) es))
+        → ((if b then confirmed_from course e.timestamp (tag + 1) es else moment) ≡ moment)
+        ⊎ Reaches course tag (e ∷ es) (if b then confirmed_from course e.timestamp (tag + 1) es else moment)
+    by_test false is rest = inl refl
+    by_test true is (inl same) =
+        inr
+        (record {
+          place = 0;
+          event = e;
+          here = refl;
+          at = sym same;
+          all = λ i low.
+              let this : tag ≡ tag + i = omega (arith, low) in subst (λ n. is_confirmed course n ≡ true) this is;
+        })
+    by_test true is (inr rest) =
+        inr
+        (record {
+          place = suc rest.place;
+          event = rest.event;
+          here = rest.here;
+          at = rest.at;
+          all = λ i low.
+              elim (cases_lt 0 i) [
+                | inl above ↦
+                    let this : tag + 1 + (i - 1) ≡ tag + i = omega (arith, above) in
+                    subst (λ n. is_confirmed course n ≡ true) this (rest.all (i - 1) (omega (arith, low, above)))
+                | inr none ↦
+                    let this : tag ≡ tag + i = omega (arith, none) in subst (λ n. is_confirmed course n ≡ true) this is
+              ];
+        })

@@ -1,0 +1,152 @@
+-- Sessions of a connector, and the packets that they have sent.
+use Rattle.std.proofs.Common.{◌≡◌, ℕ, suc, ◌+◌, ◌<◌, List, [], ◌∷◌, refl, sym, ap, ◌∙◌, subst, inl, inr, arith}
+use Rattle.std.specs.Prelude.{Contains, Some, slice_get}
+use Rattle.std.proofs.lemmas.List.Elements.{Contains-append_cases, Contains-append_right}
+use Rattle.cdc_ledger.specs.History.{History}
+use Rattle.cdc_laws.specs.Arrivals.{AreAmong}
+use Rattle.cdc_laws.specs.ConnectorRuns.{AreConfirmed, AreSessions, IsBase, IsConfirmedTo, MayFollow, Shown, packets_of, publishes_from, sent_by}
+use Rattle.cdc_laws.proofs.Places.{Contains-cons_cases, none_there}
+use Rattle.cdc_message.specs.declared.items.Item.{Item}
+use Rattle.cdc_message.specs.declared.packets.Confirm.{Confirm}
+use Rattle.cdc_message.specs.declared.packets.Packet.TheVariants.{Connect, Publish}
+
+-- ---- what sessions have published
+
+-- one of the sessions has published this item under this tag
+pub record IsPublished (sessions : List Shown) (number tag : ℕ) (item : Item) : Type 0 where
+  pub session : Shown
+  pub among : Contains sessions session
+  pub its : session.number ≡ number
+  pub place : ℕ
+  pub tagged : tag ≡ place + 1
+  pub here : slice_get session.items place ≡ Some item
+
+-- the item of a publish stands in the session as far on as its tag is from the first
+pub publish_place : (session first : ℕ) (items : List Item) (number tag : ℕ) (item : Item)
+    → Contains (publishes_from session first items) (Publish number tag item)
+    → (session ≡ number) × ((k : ℕ) × (tag ≡ first + k) × (slice_get items k ≡ Some item))
+publish_place session first [] number tag item there = absurd (none_there (Publish number tag item) there)
+publish_place session first (x ∷ items) number tag item there =
+    elim (Contains-cons_cases (Publish session first x) (publishes_from session (first + 1) items)
+    (Publish number tag item) there) [
+      | inl is ↦
+          let its : session ≡ number = cc in
+          let tagged : first ≡ tag = cc in
+          let same : x ≡ item = cc in
+          (its, (0, omega (arith, tagged), ap (λ y. Some y) same))
+      | inr later ↦
+          let rest = publish_place session (first + 1) items number tag item later in
+          (rest.0, (suc rest.1.0, omega (arith, rest.1.1), rest.1.2))
+    ]
+
+-- so whatever publish was sent, a session has published it
+pub IsPublished-sent : (sessions : List Shown) (number tag : ℕ) (item : Item)
+    → Contains (sent_by sessions) (Publish number tag item) → IsPublished sessions number tag item
+IsPublished-sent [] number tag item there = absurd (none_there (Publish number tag item) there)
+IsPublished-sent (s ∷ earlier) number tag item there =
+    elim (Contains-append_cases (sent_by earlier) (packets_of s) (Publish number tag item) there) [
+      | inl before ↦
+          let old = IsPublished-sent earlier number tag item before in
+          record {
+            session = old.session;
+            among = Contains-append_right (s ∷ []) earlier old.session old.among;
+            its = old.its;
+            place = old.place;
+            tagged = old.tagged;
+            here = old.here;
+          }
+      | inr own ↦
+          elim (Contains-cons_cases (Connect s.number) (publishes_from s.number 1 s.items) (Publish number tag item)
+          own) [
+            | inl is ↦ cc
+            | inr publish ↦
+                let found = publish_place s.number 1 s.items number tag item publish in
+                record {
+                  session = s;
+                  among = (0, omega arith, refl);
+                  its = found.0;
+                  place = found.1.0;
+                  tagged = omega (arith, found.1.1);
+                  here = found.1.2;
+                }
+          ]
+    ]
+
+-- ---- sessions by their numbers
+
+-- each of lawful sessions may follow some of them
+pub record Follows (h : History) (confirms : List Confirm) (sessions : List Shown) (s : Shown) : Type 0 where
+  pub earlier : List Shown
+  pub may : MayFollow h confirms earlier s
+
+pub follows : (h : History) (confirms : List Confirm) (sessions : List Shown) (s : Shown)
+    → AreSessions h confirms sessions → Contains sessions s → Follows h confirms sessions s
+follows h confirms [] s each there = absurd (none_there s there)
+follows h confirms (x ∷ earlier) s each there =
+    elim (Contains-cons_cases x earlier s there) [
+      | inl is ↦ record { earlier = earlier; may = subst (MayFollow h confirms earlier) is each.0 }
+      | inr old ↦
+          let rest = follows h confirms earlier s each.1 old in
+          record { earlier = rest.earlier; may = rest.may }
+    ]
+
+-- no two sessions have one number
+pub one_session : (h : History) (confirms : List Confirm) (sessions : List Shown) (s t : Shown)
+    → AreSessions h confirms sessions → Contains sessions s → Contains sessions t → s.number ≡ t.number → s ≡ t
+one_session h confirms [] s t each there here same = absurd (none_there s there)
+one_session h confirms (x ∷ earlier) s t each there here same =
+    elim (Contains-cons_cases x earlier s there) [
+      | inl s_first ↦
+          elim (Contains-cons_cases x earlier t here) [
+            | inl t_first ↦ sym s_first ∙ t_first
+            | inr t_old ↦
+                let below : t.number < x.number = each.0.above t t_old in
+                let number : x.number ≡ s.number = ap (λ (y : Shown). y.number) s_first in
+                absurd (omega (arith, below, number, same))
+          ]
+      | inr s_old ↦
+          elim (Contains-cons_cases x earlier t here) [
+            | inl t_first ↦
+                let below : s.number < x.number = each.0.above s s_old in
+                let number : x.number ≡ t.number = ap (λ (y : Shown). y.number) t_first in
+                absurd (omega (arith, below, number, same))
+            | inr t_old ↦ one_session h confirms earlier s t each.1 s_old t_old same
+          ]
+    ]
+
+-- ---- more confirms
+
+module _ (confirms more : List Confirm) (kept : AreAmong confirms more) where
+  -- what was confirmed stays so
+  pub AreConfirmed-more : (session count : ℕ) → AreConfirmed confirms session count → AreConfirmed more session count
+  AreConfirmed-more session count has tag above within = kept _ (has tag above within)
+
+  -- so a session stays confirmed up to a moment
+  pub IsConfirmedTo-more : (s : Shown) (moment : ℕ) → IsConfirmedTo confirms s moment → IsConfirmedTo more s moment
+  IsConfirmedTo-more s moment is = record {
+    place = is.place;
+    event = is.event;
+    published = is.published;
+    at = is.at;
+    confirmed = AreConfirmed-more s.number (is.place + 1) is.confirmed;
+  }
+
+  -- and a moment after which a session may begin stays one
+  pub IsBase-more : (earlier : List Shown) (moment : ℕ) → IsBase confirms earlier moment → IsBase more earlier moment
+  IsBase-more earlier moment (inl none) = inl none
+  IsBase-more earlier moment (inr (s, there, inl same)) = inr (s, there, inl same)
+  IsBase-more earlier moment (inr (s, there, inr is)) = inr (s, there, inr (IsConfirmedTo-more s moment is))
+
+  -- so sessions stay lawful as more is confirmed
+  pub AreSessions-more : (h : History) (sessions : List Shown) → AreSessions h confirms sessions
+      → AreSessions h more sessions
+  AreSessions-more h [] each = tt
+  AreSessions-more h (s ∷ earlier) each = (
+    record {
+      above = each.0.above;
+      base = IsBase-more earlier s.base each.0.base;
+      items = each.0.items;
+      end = λ place there. AreConfirmed-more s.number place (each.0.end place there);
+    },
+    AreSessions-more h earlier each.1,
+  )

@@ -1,0 +1,31 @@
+use Rattle.cdc_ledger.specs.Events.{events}
+use Rattle.cdc_laws.proofs.Arrivals.{IsReplay-taken}
+use Rattle.cdc_laws.proofs.Feeds.{IsPrefix-line, whole-line}
+use Rattle.cdc_laws.proofs.GoingOn.{GoesOn-extends}
+use Rattle.cdc_laws.proofs.Hearing.{IsFaithful-run}
+use Rattle.cdc_laws.proofs.Rising.{TimestampsRise-from, events_rise}
+use Rattle.cdc_laws.proofs.LongerRuns.{IsConnectorRun-goes_on, IsConnectorRun-more}
+use Rattle.cdc_laws.proofs.runs.run_laws.Goals as goal
+
+pub returns-clause-taken : goal.returns-clause-taken
+returns-clause-taken c = IsReplay-taken
+
+pub returns-clause-begins : goal.returns-clause-begins
+returns-clause-begins c = λ h items is replay.
+    IsPrefix-line (events h) (TimestampsRise-from (events h) (events_rise h is)) h.closed items replay
+
+pub returns-clause-ends : goal.returns-clause-ends
+returns-clause-ends c = λ h items is replay there.
+    whole-line (events h) (TimestampsRise-from (events h) (events_rise h is)) h.closed items replay there
+
+pub returns-clause-confirmed : goal.returns-clause-confirmed
+returns-clause-confirmed c = IsConnectorRun-more
+
+pub returns-clause-longer : goal.returns-clause-longer
+returns-clause-longer c = IsConnectorRun-goes_on
+
+pub returns-clause-extended : goal.returns-clause-extended
+returns-clause-extended c = GoesOn-extends
+
+pub returns-clause-faithful : goal.returns-clause-faithful
+returns-clause-faithful c = IsFaithful-run

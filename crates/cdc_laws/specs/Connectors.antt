@@ -1,0 +1,98 @@
+-- What holds of a connector at each moment, over the history of the ledger that it reads.
+use Rattle.std.specs.Prelude.{◌≡◌, ◌⊎◌, ℕ, ◌<◌, ◌≤◌, true, Option, Some, None, List, [], ◌∷◌, ◌++◌, Contains, length, take}
+use Rattle.std.specs.Option.{option_map}
+use Rattle.cdc_ledger.specs.Events.{events}
+use Rattle.cdc_ledger.specs.History.{History}
+use Rattle.cdc_laws.specs.ConnectorRuns.{AreConfirmed, AreSessions, IsBase, IsConfirmed, Shown, sent_by}
+use Rattle.cdc_laws.specs.Line.{told}
+use Rattle.cdc_log.specs.Log.{events_after}
+use Rattle.cdc_message.specs.declared.packets.Answer.{Answer}
+use Rattle.cdc_message.specs.declared.packets.Answer.TheVariants.{Connected, Confirmed, Ignored, Broken}
+use Rattle.cdc_message.specs.declared.packets.Confirm.{Confirm}
+use Rattle.cdc_message.specs.declared.packets.Packet.{Packet}
+use Rattle.cdc_message.specs.Replays.{IsPrefix}
+use Rattle.cdc_progress.specs.Records.{Saved}
+use Rattle.cdc_publisher.specs.Courses.{Course, is_confirmed, tags_sent, with_confirm}
+
+-- a connector: what its store holds, its session, none where it is down, the packets that it has sent, and the confirms
+-- that it has received
+pub record ConnectorState : Type 0 where
+  pub held : Option Saved
+  pub session : Option Course
+  pub sent : List Packet
+  pub confirms : List Confirm
+
+-- the number of the last session that was saved, or 0
+abbrev pub held_number : Option Saved → ℕ
+held_number None = 0
+held_number (Some saved) = saved.session
+
+-- the timestamp up to which everything is known to be confirmed, or 0
+abbrev pub held_timestamp : Option Saved → ℕ
+held_timestamp None = 0
+held_timestamp (Some saved) = saved.timestamp
+
+-- a session as it shows: what it was offered, and then the end mark, as far as it has sent them
+abbrev pub shown_of : Course → Shown
+shown_of course = record {
+  number = course.number;
+  base = course.base;
+  items = take (tags_sent course) (told course.offered true);
+}
+
+-- a session stands behind those that have sent something: it has sent nothing yet, and may come after them; or it is
+-- the latest of them
+abbrev pub StandsLast : List Confirm → List Shown → Course → Type 0
+StandsLast confirms sessions course =
+    ((course.sent ≡ 0) × IsBase confirms sessions course.base
+    × ((s : Shown) → Contains sessions s → s.number < course.number))
+    ⊎ ((0 < course.sent) × ((earlier : List Shown) × (sessions ≡ shown_of course ∷ earlier)))
+
+-- a session has sent no more than it was offered; or no event can follow, each tag of an event was confirmed, and it
+-- may have sent the end mark besides
+abbrev pub SendsInTurn : List Confirm → Course → Type 0
+SendsInTurn confirms course =
+    (tags_sent course ≤ length course.offered)
+    ⊎ ((course.complete ≡ true) × AreConfirmed confirms course.number (length course.offered))
+
+-- the session that runs has the number that is held; it was offered the first events after its base, and all of them,
+-- of a closed ledger, where none are to follow; the tags that were confirmed to it are of packets that it has sent, and
+-- among the confirms; and it stands behind all sessions before it
+pub record IsLive (h : History) (confirms : List Confirm) (sessions : List Shown) (number : ℕ) (course : Course)
+    : Type 0 where
+  pub its : course.number ≡ number
+  pub offered : IsPrefix course.offered (events_after course.base (events h))
+  pub complete : course.complete ≡ true → (h.closed ≡ true) × (course.offered ≡ events_after course.base (events h))
+  pub confirmed : (tag : ℕ) → is_confirmed course tag ≡ true
+      → (tag ≤ tags_sent course) × IsConfirmed confirms course.number tag
+  pub in_turn : SendsInTurn confirms course
+  pub last : StandsLast confirms sessions course
+
+-- a connector keeps to a history: its packets are those of sessions that may follow one another, with numbers up to the
+-- one that is held; the next one may begin after the timestamp that is held; and so does the session that runs
+pub record KeepsTo (h : History) (c : ConnectorState) : Type 0 where
+  pub sessions : List Shown
+  pub makes : sent_by sessions ≡ c.sent
+  pub each : AreSessions h c.confirms sessions
+  pub numbers : (s : Shown) → Contains sessions s → s.number ≤ held_number c.held
+  pub base : IsBase c.confirms sessions (held_timestamp c.held)
+  pub live : (course : Course) → c.session ≡ Some course
+      → IsLive h c.confirms sessions (held_number c.held) course
+
+-- ---- its steps
+
+-- a course after an answer of the broker to a packet of this session
+abbrev pub after_answer : ℕ → Answer → Course → Course
+after_answer session (Confirmed tag) course = with_confirm session tag course
+after_answer session Connected course = course
+after_answer session Ignored course = course
+after_answer session Broken course = course
+
+-- the connector after one more confirm that came, for this session or an earlier one
+abbrev pub after_confirm : Confirm → ConnectorState → ConnectorState
+after_confirm confirm c = record {
+  held = c.held;
+  session = option_map (after_answer confirm.session confirm.answer) c.session;
+  sent = c.sent;
+  confirms = c.confirms ++ confirm ∷ [];
+}

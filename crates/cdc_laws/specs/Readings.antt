@@ -1,0 +1,33 @@
+-- What a connector is answered when it asks for events: readings of a ledger that goes on.
+use Rattle.std.specs.Prelude.{◌≡◌, ℕ, ◌&&◌, nat_le, Bool, List, [], ◌∷◌, length, take}
+use Rattle.cdc_ledger.specs.Events.{events}
+use Rattle.cdc_ledger.specs.History.{History}
+use Rattle.cdc_ledger.specs.Sound.{IsSound}
+use Rattle.cdc_laws.specs.Connectors.{ConnectorState, KeepsTo}
+use Rattle.cdc_laws.specs.GoingOn.{GoesOn}
+use Rattle.cdc_log.specs.Log.{events_after}
+use Rattle.cdc_types.specs.declared.events.Event.{Event}
+
+-- an answer to a poll: the moment and the greatest number of events that were asked for, the events, and whether none
+-- can follow them
+pub record Reading : Type 0 where
+  pub after : ℕ
+  pub limit : ℕ
+  pub events : List Event
+  pub complete : Bool
+
+-- it is of this history: the first so many of the events after the moment; and none can follow where the ledger is
+-- closed and these are all
+pub record IsOf (h : History) (r : Reading) : Type 0 where
+  pub events_are : r.events ≡ take r.limit (events_after r.after (events h))
+  pub complete_is : r.complete ≡ (h.closed && nat_le (length (events_after r.after (events h))) r.limit)
+
+-- a ledger that was read, and has come to this history: each of the readings, of which the latest stands first, is of
+-- a history that went on to that of the next one, and the last of them to this
+abbrev pub AreReadings : List Reading → History → Type 0
+AreReadings [] h = IsSound h
+AreReadings (r ∷ earlier) h = IsSound h × ((g : History) × (IsOf g r × AreReadings earlier g × GoesOn g h))
+
+-- a connector that had these answers keeps to every history of which they are readings: it doesn't know which one
+abbrev pub KeepsToReadings : List Reading → ConnectorState → Type 0
+KeepsToReadings readings c = (h : History) → AreReadings readings h → KeepsTo h c

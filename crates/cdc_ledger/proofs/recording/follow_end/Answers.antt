@@ -1,0 +1,12 @@
+use Rattle.std.proofs.Common.{◌≡◌, ◌∙◌, true, ap, ap₂, sym}
+use Rattle.std.specs.FinSet as set
+use Rattle.cdc_expiry.specs.declared.triple.Triple.{Triple}
+use Rattle.cdc_expiry.specs.Triples.{Triples, without}
+use Rattle.cdc_ledger.specs.OpenTriples.{ends_after, opens}
+use Rattle.cdc_ledger.proofs.recording.follow_end.Goals as goal
+
+pub returns-in-Some-clause-triples : goal.returns-in-Some-clause-triples
+returns-in-Some-clause-triples c =
+    c.remove-had_an_end.ensures.triples
+    ∙ ap (λ n. without c.args.index.now.triples n c.in-Some.pending.timestamp) c.expires_at.ensures
+    ∙ ap (λ o. ends_after o c.args.movement.now.entry c.args.place c.args.index.now.triples) (sym c.in-Some.is)

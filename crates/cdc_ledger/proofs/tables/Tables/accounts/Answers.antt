@@ -1,0 +1,12 @@
+use Rattle.std.proofs.Common.{ap, ◌∙◌, subst}
+use Rattle.cdc_ledger.specs.Contents.{Contents}
+use Rattle.cdc_ledger.specs.Events.{accounts_now}
+use Rattle.cdc_ledger.specs.Sound.{IsSound}
+use Rattle.cdc_ledger.proofs.tables.Tables.accounts.Goals as goal
+
+pub returns-clause-accounts : goal.returns-clause-accounts
+returns-clause-accounts c =
+    c.as_slice.ensures.value ∙ c.self.invariant.balanced ∙ ap (λ (v : Contents). accounts_now v.history) c.self.view_is
+
+pub returns-clause-sound : goal.returns-clause-sound
+returns-clause-sound c = subst (λ (v : Contents). IsSound v.history) c.self.view_is c.self.invariant.sound

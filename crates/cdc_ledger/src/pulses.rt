@@ -1,0 +1,80 @@
+//! Pulses: pending transfers whose time is up come to their end.
+
+ghost use Rattle.std.specs.Prelude.{◌≡◌, ◌≢◌, ◌+◌, ◌≤◌, ◌<◌, [], length};
+ghost use Rattle.cdc_ledger.specs.Answers.{Answers};
+ghost use Rattle.cdc_ledger.specs.Changes.{pushed, expiry};
+ghost use Rattle.cdc_ledger.specs.Due.{due};
+ghost use Rattle.cdc_ledger.specs.Follows.{Follows, IsDueNext};
+ghost use Rattle.cdc_ledger.specs.Submit.{expiries_from};
+ghost use Rattle.cdc_ledger.specs.Verdict.{max_timestamp};
+
+use crate::errors::BatchError;
+use crate::tables::Tables;
+use cdc_types::{Batch, BatchResults, Entry, EventKind, Transfer};
+
+impl Tables {
+    /// How many pending transfers are due at the moment `now`.
+    fn due_count(&self, now: u64) -> usize
+        ensures { result ≡ length (due self.now.history now) }
+    {
+        self.index.due_count(now)
+    }
+
+    /// Of the pending transfers that are due at the moment `now`, of which there are some, the first to end.
+    fn first_due(&self, now: u64) -> Transfer
+        requires { due self.now.history now ≢ [] }
+        ensures { IsDueNext self.now.history now result }
+    {
+        let first = self.index.due(now).unwrap();
+        self.entries[first.slot].transfer
+    }
+
+    /// Brings the pending transfer, which nothing brought to its end yet, to its end. There is room for its entry.
+    fn expire(&mut self, pending: Transfer, timestamp: u64)
+        requires later { self.old.history.last < timestamp }
+        requires within { timestamp ≤ max_timestamp }
+        requires room { 0 < self.old.entry_room }
+        requires follows { Follows self.old.history (expiry pending timestamp) }
+        ensures history { self.new.history ≡ pushed self.old.history (expiry pending timestamp) }
+        ensures room { self.new.entry_room + 1 ≡ self.old.entry_room }
+    {
+        let entry = Entry {
+            timestamp,
+            kind: EventKind::TwoPhaseExpired,
+            transfer: pending,
+        };
+        let movement = self.settling(entry, pending);
+        self.record(&movement);
+    }
+
+    /// Brings this many pending transfers to their end, those whose time is up at the moment `now`, from the moment
+    /// `base` on. There is room for all of their entries.
+    fn expire_all(&mut self, now: u64, base: u64, count: usize)
+        requires later { self.old.history.last < base }
+        requires within { 0 < count → base + count ≤ max_timestamp + 1 }
+        requires room { count ≤ self.old.entry_room }
+        requires count { count ≡ length (due self.old.history now) }
+        ensures { self.new.history
+            ≡ expiries_from self.old.history base (due self.old.history now) }
+    {
+        for place in 0..count {
+            let pending = self.first_due(now);
+            self.expire(pending, base + place as u64);
+        }
+    }
+
+    /// Brings the pending transfers whose time is up at the moment `now` to their end, and answers how many they were.
+    pub(crate) fn pulse(&mut self, now: u64) -> Result<u64, BatchError>
+        ensures { Answers BatchResults.Pulsed self.old.history (Batch.Pulse now) result
+            self.new.history }
+    {
+        let count = self.due_count(now);
+        if let Some(refusal) = self.batch_refusal(false, now, count) {
+            return Err(refusal);
+        }
+        self.reserve_entries(count)?;
+        let base = self.base(now);
+        self.expire_all(now, base, count);
+        Ok(count as u64)
+    }
+}

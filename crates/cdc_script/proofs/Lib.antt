@@ -1,0 +1,7 @@
+mod Examples
+pub mod BindingLemmas
+pub mod FieldMarks
+pub mod LineLemmas
+pub mod PrintableLemmas
+pub mod ReadLemmas
+pub mod WordLemmas

@@ -1,0 +1,9 @@
+pub mod Faults
+pub mod Fields
+pub mod Numbers
+pub mod Private
+pub mod Reading
+pub mod Scripts
+pub mod Statements
+pub mod StepFiles
+pub mod Words

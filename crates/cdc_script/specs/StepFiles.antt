@@ -1,0 +1,53 @@
+-- What a step file says: a fold over its lines, up to the first fault.
+use Rattle.std.specs.Prelude.{ℕ, ◌+◌, nat_lt, List, [], ◌∷◌, length, Option, Some, None, Result, Ok, Err, codes, unwrap_or, if◌then◌else◌}
+use Rattle.std.specs.List.{cons_option}
+use Rattle.std.specs.Str.{bytes_eq}
+use Rattle.std.specs.Str.Lines.{lines}
+use Rattle.cdc_types.specs.Lines.{first_line}
+use Rattle.cdc_script.specs.declared.faults.FaultKind.{FaultKind}
+use Rattle.cdc_script.specs.declared.faults.FaultKind.TheVariants.{UnknownWord, WrongCount, TooLong}
+use Rattle.cdc_script.specs.declared.faults.ScriptFault.{ScriptFault}
+use Rattle.cdc_script.specs.declared.step_files.Act.{Act}
+use Rattle.cdc_script.specs.declared.step_files.Act.TheVariants as act
+use Rattle.cdc_script.specs.Scripts.{in_line, max_bytes, whole_fault}
+use Rattle.cdc_script.specs.Statements.{checked, ended, lone_number}
+use Rattle.cdc_script.specs.Faults.{◌>>=◌}
+use Rattle.cdc_script.specs.Words.{spoken}
+
+-- the first word decides what the words after it mean
+abbrev pub act_said : List ℕ → List (List ℕ) → Result Act FaultKind
+act_said first rest = checked first (unwrap_or (first_line (
+    (bytes_eq first (codes "batch"), ended WrongCount act.Batch rest) ∷
+    (bytes_eq first (codes "close_ledger"), ended WrongCount act.CloseLedger rest) ∷
+    (bytes_eq first (codes "start"), ended WrongCount act.Start rest) ∷
+    (bytes_eq first (codes "poll"), ended WrongCount act.Poll rest) ∷
+    (bytes_eq first (codes "publish"), ended WrongCount act.Publish rest) ∷
+    (bytes_eq first (codes "save"), ended WrongCount act.Save rest) ∷
+    (bytes_eq first (codes "arrive"), (lone_number rest >>= λ k. Ok (act.Arrive k))) ∷
+    (bytes_eq first (codes "answer"), (lone_number rest >>= λ k. Ok (act.Answer k))) ∷
+    (bytes_eq first (codes "send"), (lone_number rest >>= λ i. Ok (act.Send i))) ∷
+    (bytes_eq first (codes "take"), (lone_number rest >>= λ i. Ok (act.Take i))) ∷
+    [])) (Err UnknownWord))
+
+-- what words name: nothing where there are none
+abbrev pub words_name : List (List ℕ) → Result (Option Act) FaultKind
+words_name [] = Ok None
+words_name (first ∷ rest) = act_said first rest >>= λ said. Ok (Some said)
+
+-- what a line names: nothing where it is blank or a comment
+abbrev pub line_names : List ℕ → Result (Option Act) FaultKind
+line_names line = words_name (spoken line)
+
+-- what lines name, the first of them having this number; a line that names nothing counts
+abbrev pub acts_from : ℕ → List (List ℕ) → Result (List Act) ScriptFault
+acts_from n [] = Ok []
+acts_from n (line ∷ rest) = do
+  named ← in_line n (line_names line)
+  more ← acts_from (n + 1) rest
+  Ok (cons_option named more)
+
+-- what a step file says, or its first fault
+abbrev pub acts_of : List ℕ → Result (List Act) ScriptFault
+acts_of text =
+    if nat_lt max_bytes (length text) then Err (whole_fault TooLong)
+    else acts_from 1 (lines text)

@@ -1,0 +1,121 @@
+//! Step files: what is done of a simulation, one action in a line.
+
+ghost use Rattle.std.specs.Prelude.{◌≡◌, ◌≤◌, ◌++◌, ◌∷◌, [], length, Ok, MatchResult, OnOk};
+ghost use Rattle.std.specs.Str.Lines.{lines};
+ghost use Rattle.cdc_script.specs.Reading.{IsFault};
+ghost use Rattle.cdc_script.specs.Scripts.{max_bytes};
+ghost use Rattle.cdc_script.specs.StepFiles.{act_said, acts_from, acts_of, line_names};
+ghost use Rattle.cdc_script.specs.Words.{words as words_of};
+
+use crate::faults::{FaultKind, ScriptError};
+use crate::operands::{at_end, read_lone_number};
+use crate::reading::fault_at;
+use crate::words::{first_word, is_printable_word, is_word, next_line};
+use cdc_types::Limits;
+use std::alloc::{AllocError, Global};
+
+/// One action of a simulation.
+#[derive(Clone, Copy)]
+pub enum Act {
+    /// The next batch of the script goes to the ledger.
+    Batch,
+    /// The ledger closes.
+    CloseLedger,
+    /// The connector starts a session.
+    Start,
+    /// The session is offered events of the ledger's log.
+    Poll,
+    /// The session sends its next packet.
+    Publish,
+    /// The packet of this number comes to the broker.
+    Arrive(u64),
+    /// The confirm of this number comes to the session.
+    Answer(u64),
+    /// The session saves its progress.
+    Save,
+    /// The broker hands out the next entry of the queue of this number.
+    Send(u64),
+    /// The subscriber of this number takes the first delivery that is on its way to it.
+    Take(u64),
+}
+
+/// What a line names; nothing where it is blank or a comment.
+fn read_act(line: &[u8]) -> Result<Option<Act>, FaultKind>
+    ensures { result ≡ line_names line.now }
+{
+    match first_word(line) {
+        None => Ok(None),
+        Some((first, rest)) => Ok(Some(act_of_words(first, rest)?)),
+    }
+}
+
+/// What the words of a line name.
+fn act_of_words(first: &[u8], rest: &[u8]) -> Result<Act, FaultKind>
+    ensures { result ≡ act_said first.now (words_of rest.now) }
+{
+    if !is_printable_word(first) {
+        Err(FaultKind::BadText)
+    } else if is_word(first, "batch") {
+        at_end(rest, FaultKind::WrongCount, Act::Batch)
+    } else if is_word(first, "close_ledger") {
+        at_end(rest, FaultKind::WrongCount, Act::CloseLedger)
+    } else if is_word(first, "start") {
+        at_end(rest, FaultKind::WrongCount, Act::Start)
+    } else if is_word(first, "poll") {
+        at_end(rest, FaultKind::WrongCount, Act::Poll)
+    } else if is_word(first, "publish") {
+        at_end(rest, FaultKind::WrongCount, Act::Publish)
+    } else if is_word(first, "save") {
+        at_end(rest, FaultKind::WrongCount, Act::Save)
+    } else if is_word(first, "arrive") {
+        Ok(Act::Arrive(read_lone_number(rest)?))
+    } else if is_word(first, "answer") {
+        Ok(Act::Answer(read_lone_number(rest)?))
+    } else if is_word(first, "send") {
+        Ok(Act::Send(read_lone_number(rest)?))
+    } else if is_word(first, "take") {
+        Ok(Act::Take(read_lone_number(rest)?))
+    } else {
+        Err(FaultKind::UnknownWord)
+    }
+}
+
+/// What the lines of a text name.
+fn read_acts(alloc: Global, text: &[u8]) -> Result<Vec<Act>, ScriptError>
+    requires { length text.now ≤ max_bytes }
+    ensures { MatchResult result
+        (λ acts. acts_from 1 (lines text.now) ≡ Ok acts.items)
+        (λ error. IsFault error (acts_from 1 (lines text.now))) }
+{
+    let mut acts = Vec::new(alloc);
+    let mut rest = text;
+    let mut line_number: u64 = 0;
+    while let Some((line, after)) = next_line(rest) {
+        line_number += 1;
+        match read_act(line) {
+            Ok(None) => {}
+            Ok(Some(act)) => add_act(&mut acts, act)?,
+            Err(kind) => return Err(fault_at(line_number, kind)),
+        }
+        rest = after;
+    }
+    Ok(acts)
+}
+
+/// Puts an act behind those before it.
+fn add_act(acts: &mut Vec<Act>, act: Act) -> Result<(), AllocError>
+    ensures { OnOk result (acts.new.items ≡ acts.old.items ++ act ∷ []) }
+{
+    acts.push(act)?;
+    Ok(())
+}
+
+/// What a step file of this text says, or its first fault.
+pub fn read_steps(alloc: Global, text: &[u8]) -> Result<Vec<Act>, ScriptError>
+    ensures { MatchResult result (λ acts. acts_of text.now ≡ Ok acts.items) (λ error. IsFault error (acts_of text.now)) }
+{
+    if text.len() > Limits::SCRIPT_BYTES {
+        return Err(fault_at(0, FaultKind::TooLong));
+    }
+    read_acts(alloc, text)
+}

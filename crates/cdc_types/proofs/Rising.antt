@@ -1,0 +1,62 @@
+-- Laws of a list of events and of its last timestamp, where the list rises and where it doesn't.
+use Rattle.std.proofs.Common.{◌≡◌, ℕ, suc, zero, ◌-◌, ◌<◌, ◌≤◌, Bool, true, false, List, [], ◌∷◌, ◌++◌, length, filter, refl, arith, sub-one}
+use Rattle.std.specs.Prelude.{Some, slice_get, All, AllPairs, if◌then◌else◌}
+use Rattle.cdc_types.specs.declared.events.Event.{Event}
+use Rattle.cdc_types.specs.Timestamps.{last_timestamp_from, last_timestamp, RiseFrom}
+
+-- the last event is the one at the end
+pub last_timestamp_from-push : (t : ℕ) (es : List Event) (e : Event)
+    → last_timestamp_from t (es ++ e ∷ []) ≡ e.timestamp
+last_timestamp_from-push t [] e = refl
+last_timestamp_from-push t (x ∷ es) e = last_timestamp_from-push x.timestamp es e
+
+-- the moment of a list's last event is that of the event in its last place
+last_timestamp_from-cons : (t : ℕ) (x : Event) (es : List Event) (e : Event) → slice_get (x ∷ es) (length es) ≡ Some e
+    → last_timestamp_from t (x ∷ es) ≡ e.timestamp
+last_timestamp_from-cons t x [] e found = cc
+last_timestamp_from-cons t x (y ∷ es) e found = last_timestamp_from-cons x.timestamp y es e found
+
+-- so the last timestamp of a list can be read at its last place
+pub last_timestamp_from-slice_get : (es : List Event) (e : Event) → slice_get es (length es - 1) ≡ Some e
+    → last_timestamp es ≡ e.timestamp
+last_timestamp_from-slice_get [] e found = cc
+last_timestamp_from-slice_get (x ∷ es) e found = last_timestamp_from-cons 0 x es e (rw sub-one at found)
+
+-- a later event keeps the list rising
+pub RiseFrom-push : (t : ℕ) (es : List Event) (e : Event) → RiseFrom t es → last_timestamp_from t es < e.timestamp
+    → RiseFrom t (es ++ e ∷ [])
+RiseFrom-push t [] e rising later = (later, tt)
+RiseFrom-push t (x ∷ es) e rising later = (rising.0, RiseFrom-push x.timestamp es e rising.1 later)
+
+-- a list that rises from a moment rises from any earlier one
+pub RiseFrom-earlier : (s t : ℕ) (es : List Event) → s ≤ t → RiseFrom t es → RiseFrom s es
+RiseFrom-earlier s t [] before rising = tt
+RiseFrom-earlier s t (e ∷ es) before rising = (omega (arith, rising.0), rising.1)
+
+-- what is left of a rising list, where some events are left out, still rises
+pub RiseFrom-filter : (p : Event → Bool) (t : ℕ) (es : List Event) → RiseFrom t es → RiseFrom t (filter p es)
+RiseFrom-filter p t [] rising = tt
+RiseFrom-filter p t (e ∷ es) rising = kept_or_not (p e) (RiseFrom-filter p e.timestamp es rising.1)
+  where
+    kept_or_not : (b : Bool) → RiseFrom e.timestamp (filter p es)
+        → RiseFrom t (if b then e ∷ filter p es else filter p es)
+    kept_or_not true rest = (rising.0, rest)
+    kept_or_not false rest = RiseFrom-earlier t e.timestamp (filter p es) (omega (arith, rising.0)) rest
+
+-- every event of a rising list is later than the moment that it rises from
+pub RiseFrom-above : (t : ℕ) (es : List Event) → RiseFrom t es → All (λ e. t < e.timestamp) es
+RiseFrom-above t [] rising k d below = absurd (omega arith)
+RiseFrom-above t (e ∷ es) rising zero d below = rising.0
+RiseFrom-above t (e ∷ es) rising (suc k) d below =
+    omega (arith, rising.0, RiseFrom-above e.timestamp es rising.1 k d (omega arith))
+
+-- and it is later than every event before it, not only than the one next to it
+pub RiseFrom-in_turn : (t : ℕ) (es : List Event) → RiseFrom t es
+    → AllPairs (λ earlier later. earlier.timestamp < later.timestamp) es
+RiseFrom-in_turn t [] rising i j d before below = absurd (omega arith)
+RiseFrom-in_turn t (e ∷ es) rising zero zero d before below = absurd (omega arith)
+RiseFrom-in_turn t (e ∷ es) rising zero (suc j) d before below =
+    RiseFrom-above e.timestamp es rising.1 j d (omega arith)
+RiseFrom-in_turn t (e ∷ es) rising (suc i) zero d before below = absurd (omega arith)
+RiseFrom-in_turn t (e ∷ es) rising (suc i) (suc j) d before below =
+    RiseFrom-in_turn e.timestamp es rising.1 i j d (omega arith) (omega arith)

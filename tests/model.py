@@ -1,0 +1,1278 @@
+#!/usr/bin/env python3
+"""Relayplum from outside: ledger, messages, bindings, broker, sessions, subscribers and printed text in plain Python.
+
+Written from docs/FORMATS.md and the public documents that it names, and from nothing in crates/, so that it can be
+laid beside the program: `soak.py` compares the two on random scripts. Balances are sums over all entries, a queue is
+what the broker accepted cut by a binding, and so on: it is meant to be read, and to be right on scripts of some
+hundred lines.
+
+    tests/model.py books FILE
+    tests/model.py messages FILE
+    tests/model.py simulate FILE STEPS [--window N]
+
+FILE may be `-`. Output and exit status are those of `relayplum` with the same words.
+"""
+import json
+import sys
+from dataclasses import dataclass, field, fields, replace
+
+MOST_BYTES = 1_048_576
+MOST_ITEMS = 1_000
+MOST_PAIRS = 10
+MOST_SUBSCRIBERS = 8
+CLIENTS = (1, 2)
+GREATEST_128 = 2**128 - 1
+GREATEST_MOMENT = 2**63 - 1
+SECOND = 1_000_000_000
+
+
+# ---------------------------------------------------------------- The ledger
+
+# The place of a name is its number.
+ACCOUNT_RESULTS = [
+    'ok',
+    'reserved_flag',
+    'id_must_not_be_zero',
+    'id_must_not_be_int_max',
+    'flags_are_mutually_exclusive',
+    'ledger_must_not_be_zero',
+    'code_must_not_be_zero',
+    'exists_with_different_fields',
+    'exists',
+]
+TRANSFER_RESULTS = [
+    'ok',
+    'reserved_flag',
+    'id_must_not_be_zero',
+    'id_must_not_be_int_max',
+    'flags_are_mutually_exclusive',
+    'pending_id_must_be_zero',
+    'pending_id_must_not_be_zero',
+    'pending_id_must_be_different',
+    'timeout_reserved_for_pending_transfer',
+    'ledger_must_not_be_zero',
+    'code_must_not_be_zero',
+    'accounts_must_be_different',
+    'exists_with_different_fields',
+    'exists',
+    'debit_account_not_found',
+    'credit_account_not_found',
+    'accounts_must_have_the_same_ledger',
+    'transfer_must_have_the_same_ledger_as_accounts',
+    'pending_transfer_not_found',
+    'pending_transfer_not_pending',
+    'pending_transfer_has_different_debit_account_id',
+    'pending_transfer_has_different_credit_account_id',
+    'pending_transfer_has_different_ledger',
+    'pending_transfer_has_different_code',
+    'exceeds_pending_transfer_amount',
+    'pending_transfer_has_different_amount',
+    'pending_transfer_already_posted',
+    'pending_transfer_already_voided',
+    'pending_transfer_expired',
+    'overflows_debits_pending',
+    'overflows_credits_pending',
+    'overflows_debits_posted',
+    'overflows_credits_posted',
+    'overflows_debits',
+    'overflows_credits',
+    'overflows_timeout',
+    'exceeds_credits',
+    'exceeds_debits',
+]
+BATCH_REFUSALS = ['', 'ledger_closed', 'batch_too_large', 'timestamps_exhausted']
+
+# Flags of accounts.
+DEBITS_LIMITED = 2
+CREDITS_LIMITED = 4
+HISTORY = 8
+ACCOUNT_FLAGS = DEBITS_LIMITED | CREDITS_LIMITED | HISTORY
+# Flags of transfers.
+PENDING = 2
+POST = 4
+VOID = 8
+TRANSFER_FLAGS = PENDING | POST | VOID
+
+ACCOUNT_WIDTHS = {
+    'id': 128,
+    'user_data_128': 128,
+    'user_data_64': 64,
+    'user_data_32': 32,
+    'ledger': 32,
+    'code': 16,
+    'flags': 16,
+}
+TRANSFER_WIDTHS = {
+    'id': 128,
+    'debit_account_id': 128,
+    'credit_account_id': 128,
+    'amount': 128,
+    'pending_id': 128,
+    'user_data_128': 128,
+    'user_data_64': 64,
+    'user_data_32': 32,
+    'timeout': 32,
+    'ledger': 32,
+    'code': 16,
+    'flags': 16,
+}
+
+
+@dataclass(frozen=True)
+class NewAccount:
+    """An account as a client asks for it."""
+
+    id: int = 0
+    user_data_128: int = 0
+    user_data_64: int = 0
+    user_data_32: int = 0
+    ledger: int = 0
+    code: int = 0
+    flags: int = 0
+
+
+@dataclass(frozen=True)
+class NewTransfer:
+    """A transfer as a client asks for it; what the ledger stores has the same fields, filled in."""
+
+    id: int = 0
+    debit_account_id: int = 0
+    credit_account_id: int = 0
+    amount: int = 0
+    pending_id: int = 0
+    user_data_128: int = 0
+    user_data_64: int = 0
+    user_data_32: int = 0
+    timeout: int = 0
+    ledger: int = 0
+    code: int = 0
+    flags: int = 0
+
+    @property
+    def is_plain(self):
+        """Whether it is single-phase or pending."""
+        return not self.flags & (POST | VOID)
+
+
+@dataclass(frozen=True)
+class Stored:
+    """An account that was opened, or a transfer that was accepted, with its timestamp."""
+
+    request: object
+    timestamp: int
+
+    @property
+    def end(self):
+        """The moment when a pending transfer comes to its end; None without a timeout."""
+        if self.request.timeout == 0:
+            return None
+        return self.timestamp + self.request.timeout * SECOND
+
+
+@dataclass(frozen=True)
+class Entry:
+    """One movement: an accepted transfer, or an expiry, which shows the pending transfer."""
+
+    timestamp: int
+    kind: str
+    transfer: Stored
+
+
+@dataclass(frozen=True)
+class Balances:
+    debits_pending: int = 0
+    debits_posted: int = 0
+    credits_pending: int = 0
+    credits_posted: int = 0
+
+
+@dataclass(frozen=True)
+class Event:
+    """An entry with both accounts, and their balances right after it."""
+
+    timestamp: int
+    kind: str
+    transfer: Stored
+    debit_account: Stored
+    debit_balances: Balances
+    credit_account: Stored
+    credit_balances: Balances
+
+
+@dataclass
+class Batch:
+    """What goes to the ledger at once: `kind` is accounts, transfers or pulse."""
+
+    kind: str
+    now: int
+    client: int
+    items: list = field(default_factory=list)
+
+
+class BatchRefused(Exception):
+    """The ledger refuses a batch as a whole, under this name."""
+
+    def __init__(self, name):
+        super().__init__(name)
+        self.name = name
+
+
+class Ledger:
+    def __init__(self):
+        self.accounts = {}  # opened ones by their id
+        self.transfers = {}  # accepted ones by their id
+        self.entries = []
+        self.events = []
+        self.ends_of = {}  # what became of a pending transfer, by its id: the kind of the entry that settled it
+        self.last = 0
+        self.closed = False
+
+    def submit(self, batch):
+        """The results of the items as numbers; of a pulse, how many transfers expired."""
+        if self.closed:
+            raise BatchRefused('ledger_closed')
+        if len(batch.items) > MOST_ITEMS:
+            raise BatchRefused('batch_too_large')
+        items = self.due(batch.now) if batch.kind == 'pulse' else batch.items
+        base = max(batch.now, self.last + 1)
+        if items and base + len(items) - 1 > GREATEST_MOMENT:
+            raise BatchRefused('timestamps_exhausted')
+        results = [self.take_item(batch.kind, item, base + place) for place, item in enumerate(items)]
+        if items:
+            self.last = base + len(items) - 1
+        return len(results) if batch.kind == 'pulse' else results
+
+    def take_item(self, kind, item, timestamp):
+        if kind == 'accounts':
+            return self.take_account(item, timestamp)
+        if kind == 'transfers':
+            return self.take_transfer(item, timestamp)
+        self.record(Entry(timestamp, 'two_phase_expired', item))
+        return 0
+
+    def take_account(self, asked, timestamp):
+        result = account_result(self, asked)
+        if result == 'ok':
+            self.accounts[asked.id] = Stored(asked, timestamp)
+        return ACCOUNT_RESULTS.index(result)
+
+    def take_transfer(self, asked, timestamp):
+        result = transfer_result(self, asked, timestamp)
+        if result == 'ok':
+            transfer = Stored(self.filled_in(asked), timestamp)
+            self.transfers[asked.id] = transfer
+            self.record(Entry(timestamp, kind_of(asked), transfer))
+        return TRANSFER_RESULTS.index(result)
+
+    def filled_in(self, asked):
+        """A post or a void with what it leaves out taken from its pending transfer; a plain request as it is."""
+        pending = self.transfers.get(asked.pending_id)
+        if asked.is_plain or pending is None:
+            return asked
+        p = pending.request
+        return replace(
+            asked,
+            debit_account_id=asked.debit_account_id or p.debit_account_id,
+            credit_account_id=asked.credit_account_id or p.credit_account_id,
+            ledger=asked.ledger or p.ledger,
+            code=asked.code or p.code,
+            user_data_128=asked.user_data_128 or p.user_data_128,
+            user_data_64=asked.user_data_64 or p.user_data_64,
+            user_data_32=asked.user_data_32 or p.user_data_32,
+            amount=filled_in_amount(asked, p),
+        )
+
+    def record(self, entry):
+        """Appends an entry and its event."""
+        if entry.kind == 'two_phase_expired':
+            self.ends_of[entry.transfer.request.id] = entry.kind
+        elif not entry.transfer.request.is_plain:
+            self.ends_of[entry.transfer.request.pending_id] = entry.kind
+        self.entries.append(entry)
+        debit = self.accounts[entry.transfer.request.debit_account_id]
+        credit = self.accounts[entry.transfer.request.credit_account_id]
+        self.events.append(
+            Event(
+                timestamp=entry.timestamp,
+                kind=entry.kind,
+                transfer=entry.transfer,
+                debit_account=debit,
+                debit_balances=self.balances(debit.request.id),
+                credit_account=credit,
+                credit_balances=self.balances(credit.request.id),
+            )
+        )
+
+    def balances(self, account):
+        """Four sums over the entries: what is pending and not settled, and what is posted."""
+        sums = {'debits_pending': 0, 'debits_posted': 0, 'credits_pending': 0, 'credits_posted': 0}
+        for entry in self.entries:
+            transfer = entry.transfer.request
+            if entry.kind == 'two_phase_pending' and transfer.id not in self.ends_of:
+                column = 'pending'
+            elif entry.kind in ('single_phase', 'two_phase_posted'):
+                column = 'posted'
+            else:
+                continue
+            if transfer.debit_account_id == account:
+                sums['debits_' + column] += transfer.amount
+            if transfer.credit_account_id == account:
+                sums['credits_' + column] += transfer.amount
+        return Balances(**sums)
+
+    def due(self, now):
+        """The pending transfers that a pulse brings to their end, in the order of their ends, then of timestamps."""
+        pending = [entry.transfer for entry in self.entries if entry.kind == 'two_phase_pending']
+        unsettled = [transfer for transfer in pending if transfer.request.id not in self.ends_of]
+        due = [transfer for transfer in unsettled if transfer.end is not None and transfer.end <= now]
+        return sorted(due, key=lambda transfer: (transfer.end, transfer.timestamp))
+
+
+def kind_of(request):
+    """The kind of the event of a transfer."""
+    if request.flags & PENDING:
+        return 'two_phase_pending'
+    if request.flags & POST:
+        return 'two_phase_posted'
+    if request.flags & VOID:
+        return 'two_phase_voided'
+    return 'single_phase'
+
+
+def filled_in_amount(asked, p):
+    """What a post or a void of the pending transfer p really moves."""
+    is_of_all = asked.amount == GREATEST_128 if asked.flags & POST else asked.amount == 0
+    return p.amount if is_of_all else asked.amount
+
+
+def account_result(ledger, asked):
+    """The first line of the table of accounts that applies."""
+    if asked.flags & ~ACCOUNT_FLAGS:
+        return 'reserved_flag'
+    if asked.id == 0:
+        return 'id_must_not_be_zero'
+    if asked.id == GREATEST_128:
+        return 'id_must_not_be_int_max'
+    if asked.flags & DEBITS_LIMITED and asked.flags & CREDITS_LIMITED:
+        return 'flags_are_mutually_exclusive'
+    if asked.ledger == 0:
+        return 'ledger_must_not_be_zero'
+    if asked.code == 0:
+        return 'code_must_not_be_zero'
+    if asked.id in ledger.accounts:
+        same = ledger.accounts[asked.id].request == asked
+        return 'exists' if same else 'exists_with_different_fields'
+    return 'ok'
+
+
+def transfer_result(ledger, asked, timestamp):
+    """The first line of the table of transfers that applies."""
+    shape = shape_result(asked)
+    if shape != 'ok':
+        return shape
+    if asked.id in ledger.transfers:
+        same = ledger.transfers[asked.id].request == ledger.filled_in(asked)
+        return 'exists' if same else 'exists_with_different_fields'
+    if asked.is_plain:
+        return plain_result(ledger, asked, timestamp)
+    return settling_result(ledger, asked, timestamp)
+
+
+def shape_result(asked):
+    """The lines that the request alone decides."""
+    if asked.flags & ~TRANSFER_FLAGS:
+        return 'reserved_flag'
+    if asked.id == 0:
+        return 'id_must_not_be_zero'
+    if asked.id == GREATEST_128:
+        return 'id_must_not_be_int_max'
+    if asked.flags not in (0, PENDING, POST, VOID):
+        return 'flags_are_mutually_exclusive'
+    if asked.is_plain and asked.pending_id != 0:
+        return 'pending_id_must_be_zero'
+    if not asked.is_plain and asked.pending_id == 0:
+        return 'pending_id_must_not_be_zero'
+    if not asked.is_plain and asked.pending_id == asked.id:
+        return 'pending_id_must_be_different'
+    if not asked.flags & PENDING and asked.timeout != 0:
+        return 'timeout_reserved_for_pending_transfer'
+    if asked.is_plain and asked.ledger == 0:
+        return 'ledger_must_not_be_zero'
+    if asked.is_plain and asked.code == 0:
+        return 'code_must_not_be_zero'
+    if asked.is_plain and asked.debit_account_id == asked.credit_account_id:
+        return 'accounts_must_be_different'
+    return 'ok'
+
+
+def plain_result(ledger, asked, timestamp):
+    """The lines on accounts, sums, ends and limits of a single-phase or pending request."""
+    if asked.debit_account_id not in ledger.accounts:
+        return 'debit_account_not_found'
+    if asked.credit_account_id not in ledger.accounts:
+        return 'credit_account_not_found'
+    debit_account = ledger.accounts[asked.debit_account_id].request
+    credit_account = ledger.accounts[asked.credit_account_id].request
+    if debit_account.ledger != credit_account.ledger:
+        return 'accounts_must_have_the_same_ledger'
+    if asked.ledger != debit_account.ledger:
+        return 'transfer_must_have_the_same_ledger_as_accounts'
+    debit = ledger.balances(debit_account.id)
+    credit = ledger.balances(credit_account.id)
+    is_pending = bool(asked.flags & PENDING)
+    if is_pending and debit.debits_pending + asked.amount > GREATEST_128:
+        return 'overflows_debits_pending'
+    if is_pending and credit.credits_pending + asked.amount > GREATEST_128:
+        return 'overflows_credits_pending'
+    if debit.debits_posted + asked.amount > GREATEST_128:
+        return 'overflows_debits_posted'
+    if credit.credits_posted + asked.amount > GREATEST_128:
+        return 'overflows_credits_posted'
+    debits = debit.debits_pending + debit.debits_posted + asked.amount
+    credits = credit.credits_pending + credit.credits_posted + asked.amount
+    if debits > GREATEST_128:
+        return 'overflows_debits'
+    if credits > GREATEST_128:
+        return 'overflows_credits'
+    end = Stored(asked, timestamp).end
+    if end is not None and end > GREATEST_MOMENT:
+        return 'overflows_timeout'
+    if debit_account.flags & DEBITS_LIMITED and debits > debit.credits_posted:
+        return 'exceeds_credits'
+    if credit_account.flags & CREDITS_LIMITED and credits > credit.debits_posted:
+        return 'exceeds_debits'
+    return 'ok'
+
+
+def settling_result(ledger, asked, timestamp):
+    """The lines on the pending transfer of a post or a void."""
+    if asked.pending_id not in ledger.transfers:
+        return 'pending_transfer_not_found'
+    pending = ledger.transfers[asked.pending_id]
+    p = pending.request
+    if not p.flags & PENDING:
+        return 'pending_transfer_not_pending'
+    if asked.debit_account_id not in (0, p.debit_account_id):
+        return 'pending_transfer_has_different_debit_account_id'
+    if asked.credit_account_id not in (0, p.credit_account_id):
+        return 'pending_transfer_has_different_credit_account_id'
+    if asked.ledger not in (0, p.ledger):
+        return 'pending_transfer_has_different_ledger'
+    if asked.code not in (0, p.code):
+        return 'pending_transfer_has_different_code'
+    amount = filled_in_amount(asked, p)
+    if amount > p.amount:
+        return 'exceeds_pending_transfer_amount'
+    if asked.flags & VOID and amount < p.amount:
+        return 'pending_transfer_has_different_amount'
+    became = ledger.ends_of.get(p.id)
+    if became == 'two_phase_posted':
+        return 'pending_transfer_already_posted'
+    if became == 'two_phase_voided':
+        return 'pending_transfer_already_voided'
+    if became == 'two_phase_expired' or (pending.end is not None and pending.end <= timestamp):
+        return 'pending_transfer_expired'
+    return 'ok'
+
+
+# ---------------------------------------------------------------- Messages and bindings
+
+EVENT_TYPES = ('single_phase', 'two_phase_pending', 'two_phase_posted', 'two_phase_voided', 'two_phase_expired')
+# The headers in the order in which `messages` prints them; a number's greatest value, None for a text.
+HEADERS = {
+    'event_type': None,
+    'ledger': 2**32 - 1,
+    'transfer_code': 2**16 - 1,
+    'debit_account_code': 2**16 - 1,
+    'credit_account_code': 2**16 - 1,
+}
+
+
+def headers(event):
+    """What an event's message is routed by."""
+    return {
+        'event_type': event.kind,
+        'ledger': event.transfer.request.ledger,
+        'transfer_code': event.transfer.request.code,
+        'debit_account_code': event.debit_account.request.code,
+        'credit_account_code': event.credit_account.request.code,
+    }
+
+
+def body(event):
+    """The JSON text of an event."""
+    transfer = event.transfer.request
+    members = {
+        'timestamp': str(event.timestamp),
+        'type': event.kind,
+        'ledger': transfer.ledger,
+        'transfer': {
+            'id': str(transfer.id),
+            'amount': str(transfer.amount),
+            'pending_id': str(transfer.pending_id),
+            'user_data_128': str(transfer.user_data_128),
+            'user_data_64': str(transfer.user_data_64),
+            'user_data_32': transfer.user_data_32,
+            'timeout': transfer.timeout,
+            'code': transfer.code,
+            'flags': transfer.flags,
+            'timestamp': str(event.transfer.timestamp),
+        },
+        'debit_account': account_members(event.debit_account, event.debit_balances),
+        'credit_account': account_members(event.credit_account, event.credit_balances),
+    }
+    return json.dumps(members, sort_keys=True, separators=(',', ':'))
+
+
+def account_members(stored, balances):
+    account = stored.request
+    return {
+        'id': str(account.id),
+        'debits_pending': str(balances.debits_pending),
+        'debits_posted': str(balances.debits_posted),
+        'credits_pending': str(balances.credits_pending),
+        'credits_posted': str(balances.credits_posted),
+        'user_data_128': str(account.user_data_128),
+        'user_data_64': str(account.user_data_64),
+        'user_data_32': account.user_data_32,
+        'code': account.code,
+        'flags': account.flags,
+        'timestamp': str(stored.timestamp),
+    }
+
+
+@dataclass(frozen=True)
+class Binding:
+    """The mode is `all` or `any`; each pair is a header's name and the value that it should have."""
+
+    mode: str
+    pairs: tuple
+
+    def matches(self, event):
+        found = headers(event)
+        agree = [found[name] == value for name, value in self.pairs]
+        return all(agree) if self.mode == 'all' else any(agree)
+
+
+# ---------------------------------------------------------------- Broker, session, subscriber
+
+# What stands behind the last event of a closed ledger.
+END_MARK = 'the end mark'
+
+
+@dataclass(frozen=True)
+class Connect:
+    session: int
+
+
+@dataclass(frozen=True)
+class Publish:
+    session: int
+    tag: int
+    item: object  # an event, or the end mark
+
+
+@dataclass(frozen=True)
+class Confirm:
+    session: int
+    tag: int
+
+
+class Broker:
+    def __init__(self, bindings):
+        self.bindings = bindings
+        self.connection = 0
+        self.expected = 1  # the tag that comes next under the current connection
+        self.accepted = []  # items, in order
+        self.cursors = [1] * len(bindings)
+        self.acked = [0] * len(bindings)
+
+    def arrive(self, packet):
+        """What becomes of a packet: connected, accepted, or why it is passed over."""
+        if isinstance(packet, Connect):
+            if packet.session <= self.connection:
+                return 'earlier connection'
+            self.connection = packet.session
+            self.expected = 1
+            return 'connected'
+        if self.connection == 0 or packet.session != self.connection:
+            return 'wrong connection'
+        if packet.tag != self.expected:
+            return 'wrong tag'
+        self.expected += 1
+        self.accepted.append(packet.item)
+        return 'accepted'
+
+    def queue(self, place):
+        """What the broker accepted, cut by a binding; position 1 stands first."""
+        binding = self.bindings[place]
+        return [item for item in self.accepted if item is END_MARK or binding.matches(item)]
+
+    def rewind(self, place):
+        self.cursors[place] = self.acked[place] + 1
+
+    def acknowledge(self, place, position):
+        self.acked[place] = max(self.acked[place], position)
+        self.cursors[place] = max(self.cursors[place], self.acked[place] + 1)
+
+
+class Session:
+    def __init__(self, number, base, window):
+        self.number = number
+        self.base = base
+        self.window = window
+        self.offered = []  # events, the one with tag 1 first
+        self.complete = False  # whether the end mark follows the last one offered
+        self.connected = False  # whether the connect was sent
+        self.sent = 0  # the last tag that was sent
+        self.confirmed = set()  # tags
+
+    def wanted(self):
+        """For how many events it asks."""
+        unsent = len(self.offered) - min(self.sent, len(self.offered))
+        unconfirmed = len(self.offered) - len([tag for tag in self.confirmed if tag <= len(self.offered)])
+        if unsent > 0 or self.complete:
+            return 0
+        return self.window - unconfirmed
+
+    def after(self):
+        """The moment after which it asks."""
+        return self.offered[-1].timestamp if self.offered else self.base
+
+    def next_packet(self):
+        """The packet that it sends next, or None."""
+        if not self.connected:
+            self.connected = True
+            return Connect(self.number)
+        if self.sent < len(self.offered):
+            self.sent += 1
+            return Publish(self.number, self.sent, self.offered[self.sent - 1])
+        all_confirmed = all(tag in self.confirmed for tag in range(1, self.sent + 1))
+        if self.complete and self.sent == len(self.offered) and all_confirmed:
+            self.sent += 1
+            return Publish(self.number, self.sent, END_MARK)
+        return None
+
+    def confirm(self, confirm):
+        """Whether a confirm counts."""
+        is_new = confirm.tag <= self.sent and confirm.tag not in self.confirmed
+        if confirm.session != self.number or not is_new:
+            return False
+        self.confirmed.add(confirm.tag)
+        return True
+
+    def moment(self):
+        """The timestamp of the last event such that it and each earlier one were confirmed, or the base."""
+        moment = self.base
+        for tag, event in enumerate(self.offered, start=1):
+            if tag not in self.confirmed:
+                break
+            moment = event.timestamp
+        return moment
+
+
+class Subscriber:
+    def __init__(self):
+        self.applied = []
+        self.ended = False
+        self.closed = False
+
+    def last(self):
+        return self.applied[-1].timestamp if self.applied else 0
+
+    def take(self, item):
+        """What it answers to an item that it is handed."""
+        if self.closed:
+            return 'after close'
+        if self.ended:
+            return 'repeat after the end'
+        if item is END_MARK:
+            self.ended = True
+            return 'ended'
+        if item.timestamp <= self.last():
+            return 'repeat'
+        self.applied.append(item)
+        return 'applied'
+
+    def book(self):
+        """The last balances that the applied events show of each account, in the order of its first event."""
+        book = {}
+        for event in self.applied:
+            book[event.debit_account.request.id] = event.debit_balances
+            book[event.credit_account.request.id] = event.credit_balances
+        return book
+
+
+# ---------------------------------------------------------------- The world
+
+# The steps and how many numbers follow each word.
+STEPS = {
+    'batch': 0,
+    'close_ledger': 0,
+    'start': 0,
+    'crash': 0,
+    'poll': 0,
+    'publish': 0,
+    'arrive': 1,
+    'answer': 1,
+    'save': 0,
+    'send': 1,
+    'rewind': 1,
+    'break': 1,
+    'take': 1,
+    'ack': 2,
+    'close': 1,
+}
+
+
+@dataclass(frozen=True)
+class Step:
+    word: str
+    numbers: tuple = ()
+
+
+class StepRefused(Exception):
+    """A step that can't be taken, under this name."""
+
+    def __init__(self, name):
+        super().__init__(name)
+        self.name = name
+
+
+def enabled_where(condition):
+    if not condition:
+        raise StepRefused('not_enabled')
+
+
+class Seat:
+    """A subscriber, and what is on its way to it and from it. Deliveries and acknowledgements are positions."""
+
+    def __init__(self):
+        self.subscriber = Subscriber()
+        self.flight = []
+        self.acks = []  # all that were ever sent
+
+
+class World:
+    def __init__(self, bindings, batches, window):
+        self.ledger = Ledger()
+        self.batches = list(batches)  # those that were not handed in yet
+        self.window = window
+        self.progress = None  # what the store holds: session and timestamp
+        self.session = None
+        self.packets = []  # all that were ever sent
+        self.confirms = []  # all that were ever sent
+        self.broker = Broker(bindings)
+        self.seats = [Seat() for _ in bindings]
+
+    def take(self, step):
+        """Takes a step, or refuses it and changes nothing. A batch answers its results, other steps a few words."""
+        match step.word:
+            case 'batch':
+                return self.batch()
+            case 'close_ledger':
+                return self.close_ledger()
+            case 'start':
+                return self.start()
+            case 'crash':
+                return self.crash()
+            case 'poll':
+                return self.poll()
+            case 'publish':
+                return self.publish()
+            case 'arrive':
+                return self.arrive(*step.numbers)
+            case 'answer':
+                return self.answer(*step.numbers)
+            case 'save':
+                return self.save()
+            case 'send':
+                return self.send(*step.numbers)
+            case 'rewind':
+                return self.rewind(*step.numbers)
+            case 'break':
+                return self.break_off(*step.numbers)
+            case 'take':
+                return self.take_delivery(*step.numbers)
+            case 'ack':
+                return self.ack(*step.numbers)
+            case 'close':
+                return self.close(*step.numbers)
+
+    def batch(self):
+        enabled_where(self.batches)
+        try:
+            results = self.ledger.submit(self.batches[0])
+        except BatchRefused as refusal:
+            raise StepRefused('refused') from refusal
+        return self.batches.pop(0), results
+
+    def close_ledger(self):
+        was_closed = self.ledger.closed
+        self.ledger.closed = True
+        return 'closed already' if was_closed else 'closed'
+
+    def start(self):
+        enabled_where(self.session is None)
+        number, base = (1, 0) if self.progress is None else (self.progress[0] + 1, self.progress[1])
+        self.progress = (number, base)
+        self.session = Session(number, base, self.window)
+        return 'first session' if number == 1 else 'later session'
+
+    def crash(self):
+        enabled_where(self.session is not None)
+        self.session = None
+        return 'crashed'
+
+    def poll(self):
+        enabled_where(self.session is not None)
+        wanted = self.session.wanted()
+        enabled_where(wanted > 0)
+        later = [event for event in self.ledger.events if event.timestamp > self.session.after()]
+        self.session.offered += later[:wanted]
+        self.session.complete = self.ledger.closed and len(later) <= wanted
+        return ('events' if later else 'no events') + (', the end' if self.session.complete else '')
+
+    def publish(self):
+        enabled_where(self.session is not None)
+        packet = self.session.next_packet()
+        enabled_where(packet is not None)
+        self.packets.append(packet)
+        if isinstance(packet, Connect):
+            return 'connect'
+        return 'end mark' if packet.item is END_MARK else 'event'
+
+    def arrive(self, number):
+        enabled_where(1 <= number <= len(self.packets))
+        packet = self.packets[number - 1]
+        answer = self.broker.arrive(packet)
+        if answer == 'accepted':
+            self.confirms.append(Confirm(packet.session, packet.tag))
+        return answer
+
+    def answer(self, number):
+        enabled_where(self.session is not None and 1 <= number <= len(self.confirms))
+        confirm = self.confirms[number - 1]
+        if self.session.confirm(confirm):
+            return 'counted'
+        return 'confirmed already' if confirm.session == self.session.number else 'of another session'
+
+    def save(self):
+        enabled_where(self.session is not None)
+        before = self.progress
+        self.progress = (self.session.number, self.session.moment())
+        return 'the same' if self.progress == before else 'moved'
+
+    def seat(self, number):
+        enabled_where(1 <= number <= len(self.seats))
+        return self.seats[number - 1]
+
+    def send(self, number):
+        seat = self.seat(number)
+        place = number - 1
+        position = self.broker.cursors[place]
+        enabled_where(position <= len(self.broker.queue(place)))
+        self.broker.cursors[place] += 1
+        seat.flight.append(position)
+        return 'handed out'
+
+    def rewind(self, number):
+        self.seat(number)
+        return self.go_back(number - 1)
+
+    def go_back(self, place):
+        before = self.broker.cursors[place]
+        self.broker.rewind(place)
+        return 'the same' if self.broker.cursors[place] == before else 'moved'
+
+    def break_off(self, number):
+        seat = self.seat(number)
+        lost = 'deliveries lost' if seat.flight else 'nothing lost'
+        seat.flight = []
+        return lost + ', cursor ' + self.go_back(number - 1)
+
+    def take_delivery(self, number):
+        seat = self.seat(number)
+        enabled_where(seat.flight)
+        position = seat.flight.pop(0)
+        seat.acks.append(position)
+        return seat.subscriber.take(self.broker.queue(number - 1)[position - 1])
+
+    def ack(self, number, which):
+        seat = self.seat(number)
+        enabled_where(1 <= which <= len(seat.acks))
+        place = number - 1
+        before = self.broker.acked[place], self.broker.cursors[place]
+        self.broker.acknowledge(place, seat.acks[which - 1])
+        if self.broker.cursors[place] != before[1]:
+            return 'lifts the cursor'
+        return 'moved' if self.broker.acked[place] != before[0] else 'covered already'
+
+    def close(self, number):
+        subscriber = self.seat(number).subscriber
+        was_closed = subscriber.closed
+        subscriber.closed = True
+        return 'closed already' if was_closed else 'closed'
+
+
+# ---------------------------------------------------------------- Scripts and step files
+
+SCRIPT_FAULTS = [
+    '',
+    'bad_text',
+    'unknown_word',
+    'wrong_count',
+    'bad_number',
+    'number_out_of_range',
+    'unknown_key',
+    'key_twice',
+    'no_open_batch',
+    'bad_binding',
+    'too_many_subscribers',
+    'bad_client',
+    'no_subscriber',
+    'too_long',
+]
+STEP_FAULTS = ['bad_text', 'unknown_word', 'wrong_count', 'bad_number', 'number_out_of_range', 'too_long']
+
+
+class Fault(Exception):
+    """The first fault of a script or a step file; line 0 means all of it."""
+
+    def __init__(self, line, name):
+        super().__init__(line, name)
+        self.line = line
+        self.name = name
+
+
+class Words:
+    """The words of a line, taken from the left. Each fault is raised where its word is taken."""
+
+    def __init__(self, line, words):
+        self.line = line
+        self.words = words
+
+    def fault(self, name):
+        return Fault(self.line, name)
+
+    def have_more(self):
+        return len(self.words) > 0
+
+    def take(self):
+        """The next word; there has to be one."""
+        if not self.have_more():
+            raise self.fault('wrong_count')
+        word = self.words.pop(0)
+        if not word.isascii() or not word.decode('ascii').isprintable():
+            raise self.fault('bad_text')
+        return word.decode('ascii')
+
+    def number(self, word, bits):
+        if not is_decimal(word):
+            raise self.fault('bad_number')
+        number = value_of(word)
+        if number >= 2**bits:
+            raise self.fault('number_out_of_range')
+        return number
+
+    def end(self):
+        """There has to be no further word."""
+        if self.have_more():
+            self.take()
+            raise self.fault('wrong_count')
+
+
+def is_decimal(word):
+    return word.isascii() and word.isdigit()
+
+
+def value_of(digits):
+    """The number that digits say; of one far above 2^128 nothing is asked but that it is too large."""
+    digits = digits.lstrip('0')
+    return int(digits[:50]) if digits else 0
+
+
+def lines_of(data):
+    """The words of each line that says something, with the line's number."""
+    if len(data) > MOST_BYTES:
+        raise Fault(0, 'too_long')
+    pieces = data.split(b'\n')
+    for number, piece in enumerate(pieces, start=1):
+        has_line_feed = number < len(pieces)
+        if has_line_feed and piece.endswith(b'\r'):
+            piece = piece[:-1]
+        words = [word for word in piece.split(b' ') if word]
+        if words and not piece.startswith(b'#'):
+            yield Words(number, words)
+
+
+@dataclass
+class Script:
+    bindings: list
+    batches: list
+
+
+class ScriptReader:
+    def __init__(self):
+        self.script = Script([], [])
+        self.client = 1
+        self.open = None  # the kind of the open batch
+
+    def read_line(self, words):
+        first = words.take()
+        if first in ('account', 'transfer'):
+            return self.item(first, words)
+        self.open = None
+        if first == 'subscriber':
+            self.subscriber(words)
+        elif first == 'client':
+            self.client = self.client_number(words)
+        elif first in ('accounts', 'transfers'):
+            self.batch(first, words)
+            self.open = first
+        elif first == 'pulse':
+            self.batch(first, words)
+        else:
+            raise words.fault('unknown_word')
+
+    def subscriber(self, words):
+        if len(self.script.bindings) == MOST_SUBSCRIBERS:
+            raise words.fault('too_many_subscribers')
+        self.script.bindings.append(read_binding(words))
+
+    def client_number(self, words):
+        number = words.number(words.take(), 64)
+        if number not in CLIENTS:
+            raise words.fault('bad_client')
+        words.end()
+        return number
+
+    def batch(self, kind, words):
+        now = words.number(words.take(), 64)
+        words.end()
+        self.script.batches.append(Batch(kind, now, self.client))
+
+    def item(self, kind, words):
+        if self.open != kind + 's':
+            raise words.fault('no_open_batch')
+        if kind == 'account':
+            request = NewAccount(**read_fields(words, ACCOUNT_WIDTHS))
+        else:
+            request = NewTransfer(**read_fields(words, TRANSFER_WIDTHS))
+        self.script.batches[-1].items.append(request)
+
+
+def read_binding(words):
+    """A binding of the words that are left."""
+    if not words.have_more():
+        raise words.fault('bad_binding')
+    mode = words.take()
+    if mode not in ('all', 'any'):
+        raise words.fault('bad_binding')
+    pairs = []
+    while words.have_more():
+        key, equals, value = words.take().partition('=')
+        if len(pairs) == MOST_PAIRS or equals == '' or key not in HEADERS:
+            raise words.fault('bad_binding')
+        pairs.append((key, header_value(words, key, value)))
+    return Binding(mode, tuple(pairs))
+
+
+def header_value(words, key, text):
+    """The value of a pair, if the header can have it."""
+    if key == 'event_type' and text in EVENT_TYPES:
+        return text
+    if key != 'event_type' and is_decimal(text) and value_of(text) <= HEADERS[key]:
+        return value_of(text)
+    raise words.fault('bad_binding')
+
+
+def read_fields(words, widths):
+    """The fields that the words `key=value` give; there has to be one."""
+    given = {}
+    if not words.have_more():
+        raise words.fault('wrong_count')
+    while words.have_more():
+        key, equals, value = words.take().partition('=')
+        if equals == '' or key not in widths:
+            raise words.fault('unknown_key')
+        number = words.number(value, widths[key])
+        if key in given:
+            raise words.fault('key_twice')
+        given[key] = number
+    return given
+
+
+def read_script(data):
+    reader = ScriptReader()
+    for words in lines_of(data):
+        reader.read_line(words)
+    if not reader.script.bindings:
+        raise Fault(0, 'no_subscriber')
+    return reader.script
+
+
+def read_steps(data):
+    return [read_step(words) for words in lines_of(data)]
+
+
+def read_step(words):
+    word = words.take()
+    if word not in STEPS:
+        raise words.fault('unknown_word')
+    numbers = tuple(words.number(words.take(), 64) for _ in range(STEPS[word]))
+    words.end()
+    return Step(word, numbers)
+
+
+# ---------------------------------------------------------------- Commands and printed text
+
+
+@dataclass
+class Report:
+    """What a command prints, its exit status, and how it came to that."""
+
+    text: str
+    status: int
+    fault: tuple = None  # of which file, and its name
+    batches: list = field(default_factory=list)  # each with its results, or the name of its refusal
+    steps: list = field(default_factory=list)  # each with its answer
+    refused: tuple = None  # the step that was refused, and the name of the refusal
+    world: World = None  # what `simulate` came to
+
+
+def report_of_fault(file, fault):
+    return Report(f'fault: {file} line {fault.line}: {fault.name}\n', 2, fault=(file, fault.name))
+
+
+def batch_line(number, batch, results):
+    if isinstance(results, str):
+        return f'batch {number} refused: {BATCH_REFUSALS.index(results)} {results}\n'
+    if batch.kind == 'pulse':
+        return f'batch {number}: pulse {results}\n'
+    return f'batch {number}:' + ''.join(f' {result}' for result in results) + '\n'
+
+
+def subscriber_lines(number, subscriber):
+    count, last = len(subscriber.applied), subscriber.last()
+    ended, closed = yes_or_no(subscriber.ended), yes_or_no(subscriber.closed)
+    lines = [f'subscriber {number} applied {count} last {last} ended {ended} closed {closed}\n']
+    for account, balances in subscriber.book().items():
+        numbers = ' '.join(str(getattr(balances, column.name)) for column in fields(balances))
+        lines.append(f'account {account} {numbers}\n')
+    return ''.join(lines)
+
+
+def yes_or_no(value):
+    return 'yes' if value else 'no'
+
+
+def run_batches(script):
+    """A ledger that was handed all batches in file order and then closed; each batch with its results."""
+    ledger = Ledger()
+    batches = []
+    for batch in script.batches:
+        try:
+            batches.append((batch, ledger.submit(batch)))
+        except BatchRefused as refusal:
+            batches.append((batch, refusal.name))
+    ledger.closed = True
+    return ledger, batches
+
+
+def batch_lines(batches):
+    return ''.join(batch_line(number, batch, results) for number, (batch, results) in enumerate(batches, start=1))
+
+
+def books(script_data):
+    try:
+        script = read_script(script_data)
+    except Fault as fault:
+        return report_of_fault('script', fault)
+    ledger, batches = run_batches(script)
+    text = batch_lines(batches)
+    for number, binding in enumerate(script.bindings, start=1):
+        subscriber = Subscriber()
+        for event in ledger.events:
+            if binding.matches(event):
+                subscriber.take(event)
+        subscriber.take(END_MARK)
+        text += subscriber_lines(number, subscriber)
+    return Report(text, 0, batches=batches)
+
+
+def messages(script_data):
+    try:
+        script = read_script(script_data)
+    except Fault as fault:
+        return report_of_fault('script', fault)
+    ledger, batches = run_batches(script)
+    text = ''
+    for event in ledger.events:
+        text += ' '.join(f'{name}={value}' for name, value in headers(event).items())
+        text += f' timestamp={event.timestamp // SECOND}\n{body(event)}\n'
+    return Report(text, 0, batches=batches)
+
+
+def simulate(script_data, steps_data, window=1):
+    try:
+        script = read_script(script_data)
+    except Fault as fault:
+        return report_of_fault('script', fault)
+    try:
+        steps = read_steps(steps_data)
+    except Fault as fault:
+        return report_of_fault('steps', fault)
+    world = World(script.bindings, script.batches, window)
+    report = Report('', 0, world=world)
+    play(world, steps, report)
+    report.batches = [answer for step, answer in report.steps if step.word == 'batch']
+    report.text = batch_lines(report.batches) + f'steps {len(report.steps)} of {len(steps)}\n'
+    if report.refused is not None:
+        report.text += f'refused {len(report.steps) + 1} {report.refused[1]}\n'
+        report.status = 1
+    report.text += 'progress ' + ('none' if world.progress is None else '%d %d' % world.progress) + '\n'
+    for number, seat in enumerate(world.seats, start=1):
+        report.text += subscriber_lines(number, seat.subscriber)
+    return report
+
+
+def play(world, steps, report):
+    """Takes the steps in order up to the first that is refused."""
+    for step in steps:
+        try:
+            report.steps.append((step, world.take(step)))
+        except StepRefused as refusal:
+            report.refused = (step, refusal.name)
+            return
+
+
+def bytes_of(name):
+    if name == '-':
+        return sys.stdin.buffer.read()
+    with open(name, 'rb') as file:
+        return file.read()
+
+
+def main(words):
+    window = 1
+    if len(words) >= 2 and words[-2] == '--window':
+        window = int(words[-1])
+        words = words[:-2]
+    match words:
+        case [] | ['books', '-']:
+            report = books(bytes_of('-'))
+        case ['books', name]:
+            report = books(bytes_of(name))
+        case ['messages', name]:
+            report = messages(bytes_of(name))
+        case ['simulate', name, steps]:
+            report = simulate(bytes_of(name), bytes_of(steps), window)
+        case _:
+            sys.exit(__doc__)
+    sys.stdout.write(report.text)
+    return report.status
+
+
+if __name__ == '__main__':
+    sys.exit(main(sys.argv[1:]))

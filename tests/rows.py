@@ -1,0 +1,84 @@
+#!/usr/bin/env python3
+"""Runs the program on each row of tests/rows, and compares standard output and exit status byte for byte.
+
+  tests/rows.py [PROGRAM] [WORD]    PROGRAM: crates/cdc_app/out/cdc_app; WORD: only rows with this in their names
+
+A row NAME is the files NAME.args, with a word of the command line on each line, NAME.stdout and NAME.status, and as far
+as it needs them NAME.script and NAME.steps. A word FILE or STEPS stands for the path of the script or of the step file.
+The word `-`, and a row without words, have the script on standard input. Prints each row that fails, and what differs.
+"""
+import os
+import subprocess
+import sys
+import tempfile
+
+HERE = os.path.dirname(os.path.realpath(__file__))
+ROWS = f"{HERE}/rows"
+PARTS = ("args", "script", "steps", "stdout", "status")
+SECONDS = 60
+
+
+def read(name, part):
+    with open(f"{ROWS}/{name}.{part}", "rb") as file:
+        return file.read()
+
+
+def rows():
+    """Returns the rows by name, each with its parts; stops where a file belongs to none."""
+    found = {}
+    for file in sorted(os.listdir(ROWS)):
+        name, _, part = file.rpartition(".")
+        if part not in PARTS:
+            sys.exit(f"rows: {file} is no part of a row")
+        found.setdefault(name, set()).add(part)
+    for name, parts in found.items():
+        for part in {"args", "stdout", "status"} - parts:
+            sys.exit(f"rows: {name} has no file .{part}")
+    return found
+
+
+def first_difference(wanted, found):
+    """Returns the first line in which two texts differ, as each has it."""
+    pairs = zip(wanted.split(b"\n") + [b""], found.split(b"\n") + [b""])
+    for number, (a, b) in enumerate(pairs, 1):
+        if a != b:
+            return f"line {number}: wanted {a[:200]!r}, found {b[:200]!r}"
+    return "one of them is longer"
+
+
+def complaint(program, name, parts, folder):
+    """Returns what is wrong with a row, or None."""
+    words = read(name, "args").decode().splitlines()
+    for word, part in (("FILE", "script"), ("STEPS", "steps"), ("-", "script")):
+        if word in words and part not in parts:
+            return f"it has no file .{part}"
+    given = read(name, "script") if "script" in parts and ("-" in words or not words) else b""
+    paths = {"FILE": f"{ROWS}/{name}.script", "STEPS": f"{ROWS}/{name}.steps"}
+    words = [paths.get(it, it) for it in words]
+    try:
+        ran = subprocess.run([program, *words], input=given, capture_output=True, timeout=SECONDS, cwd=folder)
+    except subprocess.TimeoutExpired:
+        return f"it hasn't ended after {SECONDS} seconds"
+    status, wanted = int(read(name, "status")), read(name, "stdout")
+    if ran.returncode != status:
+        return f"status {ran.returncode}, wanted {status}; it printed {ran.stdout[:200]!r}"
+    return None if ran.stdout == wanted else first_difference(wanted, ran.stdout)
+
+
+def main():
+    program = os.path.realpath(sys.argv[1] if len(sys.argv) > 1 else f"{HERE}/../crates/cdc_app/out/cdc_app")
+    word = sys.argv[2] if len(sys.argv) > 2 else ""
+    found = {name: parts for name, parts in rows().items() if word in name}
+    failed = 0
+    with tempfile.TemporaryDirectory(prefix="rows-") as folder:
+        for name, parts in found.items():
+            why = complaint(program, name, parts, folder)
+            if why:
+                failed += 1
+                print(f"row {name}: {why}")
+    print(f"rows: {len(found) - failed} passed, {failed} failed")
+    return 1 if failed or not found else 0
+
+
+if __name__ == "__main__":
+    sys.exit(main())

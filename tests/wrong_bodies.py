@@ -1,0 +1,585 @@
+#!/usr/bin/env python3
+"""Tries the wrong bodies of each crate, crates/NAME/must-fail/*.edit: the prover must refuse each of them.
+
+  tests/wrong_bodies.py [--jobs N] [--proved] [--kept] [NAME..]
+
+It runs at the top of the repository; with no NAME it takes each crate that has edits.
+
+`rt must-fail` checks a crate once for each edit. A caller sees contracts alone, so edits in different functions don't
+touch each other: here they are applied all at once to a copy of the crate, the copy is checked once, and for each edit
+it is read whether its own function was refused. docs/GATE.md has the rules. The crates below are proved first where
+they aren't; --proved says that `rt ci` has just proved this tree, and takes the libraries that it left. A crate itself
+is proved from nothing; with --kept over a copy of what its earlier checks kept in out/, which is quicker.
+
+The last line is 'N passed, M failed'; the status is 0 where nothing failed, and 1 else. Needs Python 3.8 or later.
+"""
+import argparse
+import importlib.machinery
+import importlib.util
+import json
+import os
+import re
+import shutil
+import subprocess
+import sys
+import tempfile
+import threading
+import types
+from collections import namedtuple
+
+sys.dont_write_bytecode = True
+
+
+def load_rt():
+    """Returns the toolchain's own script as a module: it knows how a check is started, and how an edit is read."""
+    path = shutil.which("rt")
+    if not path:
+        sys.exit("wrong_bodies: there is no rt on the path")
+    loader = importlib.machinery.SourceFileLoader("rt", path)
+    module = importlib.util.module_from_spec(importlib.util.spec_from_loader("rt", loader))
+    sys.modules["rt"] = module
+    loader.exec_module(module)
+    return module
+
+
+rt = load_rt()
+rtlib = rt.rtlib
+ONE_JOB = ["--jobs", "1"]
+
+# ---------------------------------------------------------------------------------------------------------------------
+# The functions of a source file, and what an edit changes of it.
+
+# A function: its full path as a check prints it, the bytes of its body with the braces, the places in the list of
+# tokens where its text begins and where its body begins and ends, and the names that its body has.
+Function = namedtuple("Function", "path start end tokens names")
+Token = namedtuple("Token", "start end kind text")
+# An edit that changes one function's body and nothing else: the file, the function, and its other body.
+Change = namedtuple("Change", "file function body")
+
+
+class Unreadable(Exception):
+    """A text that Rattle has no tokens for."""
+
+
+def tokens_of(files):
+    """Returns the tokens of each file, as a check reads them."""
+    ran = subprocess.run([rtlib.RATTLE, "fmt", "--tokens", *files], capture_output=True)
+    parts = re.split(r"(?m)^file \d+\n", ran.stdout.decode(errors="replace"))[1:]
+    if ran.returncode or len(parts) != len(files):
+        said = ran.stderr.decode(errors="replace").strip()
+        raise Unreadable(said.split("\n")[0] if said else "the text has no tokens")
+    row = re.compile(r"(?m)^\d+ (\d+) (\d+) (\w+) (.*)$")
+    return [[Token(int(it[1]), int(it[2]), it[3], json.loads(it[4])) for it in row.finditer(part)] for part in parts]
+
+
+def module_of(file):
+    """Returns the path of the module that a file below src/ is, as a list of names."""
+    parts = os.path.relpath(file, "src")[: -len(".rt")].split(os.sep)
+    return parts[:-1] if parts[-1] in ("main", "lib", "mod") else parts
+
+
+def name_in(words):
+    """Returns the last name of a type or a trait, without what stands in angle brackets."""
+    depth, names = 0, []
+    for word in words:
+        depth += {"<": 1, ">": -1}.get(word, 0)
+        if depth == 0 and re.fullmatch(r"\w+", word) and word not in ("dyn", "mut", "const"):
+            names.append(word)
+    return names[-1] if names else "?"
+
+
+def owner_of(words):
+    """Returns the name under which a check prints the functions of an impl or a trait, whose head these words are."""
+    if words[0] == "trait":
+        return name_in(words[1:2])
+    words = words[1:]
+    if words[:1] == ["<"]:
+        depth = 0
+        for at, word in enumerate(words):
+            depth += {"<": 1, ">": -1}.get(word, 0)
+            if depth == 0:
+                words = words[at + 1 :]
+                break
+    if "where" in words:
+        words = words[: words.index("where")]
+    if "for" in words:
+        at = words.index("for")
+        return name_in(words[at + 1 :]) + name_in(words[:at])
+    return name_in(words)
+
+
+def functions_of(crate_name, file, tokens):
+    """Returns the functions of a file, outermost only: what is inside a function belongs to it."""
+    # (clauses are antt's text; braces count in Rattle's own code alone)
+    code = [(at, it) for at, it in enumerate(tokens) if it.kind == "Code"]
+    scope, head, found, place = [(0, module_of(file))], [], [], 0
+    depth = 0
+
+    def closing(place):
+        """Returns where the brace that opens at this place is closed."""
+        inside = 0
+        for at in range(place, len(code)):
+            inside += {"{": 1, "}": -1}.get(code[at][1].text, 0)
+            if inside == 0:
+                return at
+        raise Unreadable(f"{file}: a body has no end")
+
+    while place < len(code):
+        at, token = code[place]
+        word = token.text
+        if word in (";", "{", "}"):
+            words = [it.text for _, it in head]
+            kind = next((it for it in words if it in ("fn", "impl", "trait", "mod")), "")
+            kind = "fn" if "fn" in words and kind != "impl" else kind
+            if word == "{" and kind == "fn":
+                end = closing(place)
+                name = words[words.index("fn") + 1]
+                path = "::".join([crate_name, *scope[-1][1], name])
+                names = frozenset(it.text for _, it in code[place : end + 1])
+                span = (head[0][0], at, code[end][0])
+                found.append(Function(path, token.start, code[end][1].end, span, names))
+                place = end
+            elif word == "{":
+                depth += 1
+                inner = [*scope[-1][1]]
+                if kind in ("impl", "trait"):
+                    inner.append(owner_of(words[words.index(kind) :]))
+                elif kind == "mod":
+                    inner.append(words[words.index("mod") + 1])
+                scope.append((depth, inner))
+            elif word == "}":
+                depth -= 1
+                scope.pop()
+            head = []
+        else:
+            head.append((at, token))
+        place += 1
+    return found
+
+
+def outside(tokens, functions):
+    """Returns what a caller may see of a file: its tokens, but no body and no `mut` of a parameter."""
+    left, place = [], 0
+    for it in functions:
+        left += [token.text for token in tokens[place : it.tokens[1]]]
+        place = it.tokens[2] + 1
+    left += [token.text for token in tokens[place:]]
+    is_pattern = lambda at: left[at - 1] in ("(", ",") and left[at + 2 : at + 3] == [":"]
+    return [it for at, it in enumerate(left) if it != "mut" or not is_pattern(at)]
+
+
+def body_of(tokens, function):
+    return [it.text for it in tokens[function.tokens[1] : function.tokens[2] + 1]]
+
+
+class Sources:
+    """The source files of a crate and their functions."""
+
+    def __init__(self, crate):
+        self.crate = crate
+        paths = [os.path.relpath(it, crate.folder) for it in rtlib.files_of(crate.folder)]
+        self.files = [it for it in paths if it.endswith(".rt")]
+        self.texts = {it: open(f"{crate.folder}/{it}", "rb").read() for it in self.files}
+        self.tokens = dict(zip(self.files, tokens_of([f"{crate.folder}/{it}" for it in self.files])))
+        self.functions = {it: functions_of(crate.name, it, self.tokens[it]) for it in self.files}
+        self.all = [it for file in self.files for it in self.functions[file]]
+        self.file_of = {it: file for file in self.files for it in self.functions[file]}
+
+    def change(self, texts):
+        """Returns the Change that these texts are, or None where they change more than one body."""
+        changed = [(file, text.encode()) for file, text in texts.items() if text.encode() != self.texts.get(file)]
+        if len(changed) != 1 or changed[0][0] not in self.tokens:
+            return None
+        file, text = changed[0]
+        with tempfile.NamedTemporaryFile(suffix=".rt") as copy:
+            copy.write(text)
+            copy.flush()
+            tokens = tokens_of([copy.name])[0]
+        now, was = functions_of(self.crate.name, file, tokens), self.functions[file]
+        if [it.path for it in now] != [it.path for it in was]:
+            return None
+        if outside(tokens, now) != outside(self.tokens[file], was):
+            return None
+        pairs = [(a, b) for a, b in zip(was, now) if body_of(self.tokens[file], a) != body_of(tokens, b)]
+        if len(pairs) != 1 or self.is_const(pairs[0][0]):
+            return None
+        function, other = pairs[0]
+        # (what stands before the body may have got a `mut`, so the whole function is taken)
+        start = tokens[other.tokens[0]].start
+        return Change(file, function, text[start : other.end])
+
+    def is_const(self, function):
+        """Returns whether a check may run the function, so that its body is seen by others."""
+        head = self.tokens[self.file_of[function]][function.tokens[0] : function.tokens[1]]
+        return ["const", "fn"] in [[a.text, b.text] for a, b in zip(head, head[1:])]
+
+    def with_changes(self, changes):
+        """Returns the texts of the files with these changes, and in which lines each changed function is there."""
+        texts, lines = {}, {}
+        for file in {it.file for it in changes}:
+            text, done, place = self.texts[file], b"", 0
+            for it in sorted((it for it in changes if it.file == file), key=lambda it: it.function.start):
+                start = self.tokens[file][it.function.tokens[0]].start
+                done += text[place:start]
+                first = done.count(b"\n") + 1
+                done += it.body
+                lines[it.function] = file, first, done.count(b"\n") + 1
+                place = it.function.end
+            texts[file] = (done + text[place:]).decode()
+        return texts, lines
+
+    def with_statement(self, function, statement):
+        """Returns the Change that puts a statement first in a function's body."""
+        file = self.file_of[function]
+        start = self.tokens[file][function.tokens[0]].start
+        head, rest = self.texts[file][start : function.start + 1], self.texts[file][function.start + 1 : function.end]
+        return Change(file, function, head + f" {statement} ".encode() + rest)
+
+    def reached_from(self, function):
+        """Returns each function that the function may call, by any way: those whose names its body has, and so on."""
+        reached, left = set(), [function]
+        while left:
+            names = left.pop().names
+            more = [it for it in self.all if it not in reached and it.path.rpartition("::")[2] in names]
+            reached.update(more)
+            left += more
+        return reached
+
+
+# ---------------------------------------------------------------------------------------------------------------------
+# What a check says of a function.
+
+# An error in a proof file that only says that a name is gone, which an edit can bring about without being wrong.
+NAME_IS_GONE = re.compile(r"has no field|is not in scope|has no `")
+FOLLOWS = re.compile(r"was not admitted")
+PROVED, REFUSED, NAMES_ONLY, CALLS, UNCLEAR = "proved", "refused", "names only", "calls", "unclear"
+
+
+def proof_folders(path):
+    """Returns the folders that a function's proof may stand in; the second is that of one that calls itself."""
+    *above, name = path.split("::")[1:]
+    return ["/".join(["proofs", *above, it]) for it in (name, f"+{name}")]
+
+
+class Answer:
+    """What a check printed, read function by function."""
+
+    def __init__(self, ran):
+        self.text, self.status = ran.stdout, ran.returncode
+        self.lines = ran.stdout.rstrip("\n").split("\n")
+        self.is_stale = bool(rtlib.STALE.search(ran.stdout))
+        self.is_proved = ran.returncode == 0 and self.lines[-1].startswith("logic=proved ")
+        # (any other end is no answer of the prover's)
+        self.is_refused = ran.returncode == 1 and self.lines[-1].startswith("logic=not-proved")
+        self.said, self.notes, notes = {}, {}, []
+        for line in self.lines:
+            found = re.match(r"(?:fn|struct|enum|impl|trait|law|const) (\S+): (.*)", line)
+            if not found:
+                notes.append(line)
+                continue
+            if line.startswith("fn "):
+                self.said.setdefault(found[1], []).append(found[2])
+                self.notes[found[1]] = [it for it in notes if it.startswith("note: src/")]
+            notes = []
+
+    def own(self, path):
+        """Returns the paths of a function and of the closures in it."""
+        above, _, name = path.rpartition("::")
+        inside = f"{above}::fn::{name}::"
+        return [it for it in self.said if it == path or it.startswith(inside)]
+
+    def errors_in_proofs(self, path):
+        """Returns the errors in a function's own folder of proofs, which a function inside another has none of."""
+        at = re.compile(rf"(?:\./)?(?:{'|'.join(map(re.escape, proof_folders(path)))})/\w+\.antt:\d+:\d+: error")
+        return [it for it in self.lines if at.match(it)]
+
+    def open_goals(self, path, lines):
+        """Returns the notes on open goals that stand right above a function's line, and whose places are in its text."""
+        file, first, last = lines
+        found = []
+        for it in self.notes.get(path, []):
+            at = re.match(r"note: (\S+):(\d+):\d+: it is not proved that ", it)
+            if at and at[1] == file and first <= int(at[2]) <= last:
+                found.append(it[len("note: ") :])
+        return found
+
+    def of(self, path, lines=("", 0, 0)):
+        """Returns how a function came out, and the first line of the reason; lines say where its text stands."""
+        if [len(self.said.get(path, []))] != [1]:
+            return UNCLEAR, "it has not one line in the check"
+        words = [(it, line) for it in self.own(path) for line in self.said[it]]
+        if all(line == PROVED for _, line in words):
+            return PROVED, ""
+        errors = [line for it, _ in words for line in self.errors_in_proofs(it) if not FOLLOWS.search(line)]
+        told = [line for line in errors if not NAME_IS_GONE.search(line)]
+        for it, line in words:
+            told += self.open_goals(it, lines) if line.startswith(("no proof", "not proved")) else []
+        told += [line for _, line in words if re.match(r"(no|not) proved?\b.*did not prove", line)]
+        if told:
+            return REFUSED, told[0]
+        if errors:
+            return NAMES_ONLY, errors[0]
+        if all(line == PROVED or re.fullmatch(r"no proof: it calls [^;]*", line) for _, line in words):
+            return CALLS, ""
+        return UNCLEAR, next(line for _, line in words if line != PROVED)
+
+    def unread(self, files):
+        """Returns the lines that say that antt couldn't read a text, for an edit of these files."""
+        return [it for it in self.lines if rt.unread(it, files)]
+
+    def first_line(self):
+        told = [it for it in self.lines if re.search(r"\berror\b", it)] or self.lines
+        return told[0][:200]
+
+
+# ---------------------------------------------------------------------------------------------------------------------
+# The edits of a crate.
+
+HARMLESS, CONTROL = "let a_new_local_name = 0u8;", "prove!(false);"
+Edit = namedtuple("Edit", "name path texts change")
+Result = namedtuple("Result", "passed text")
+
+
+class Trial:
+    """The edits of one crate, tried over work that is kept in a folder of this run."""
+
+    def __init__(self, crate, kept):
+        self.crate, self.kept = crate, kept
+        self.sources = Sources(crate)
+        self.results = {}
+
+    def check(self, texts, flags=()):
+        return Answer(rt.checked(self.crate, texts, [*ONE_JOB, *flags], self.kept))
+
+    def put(self, edit, passed, text):
+        self.results[edit.name] = Result(passed, f"wrong body {self.crate.name}/{edit.name}: {text}")
+
+    def failure(self, text):
+        return [Result(False, f"wrong bodies of {self.crate.name}: {text}")]
+
+    def run(self):
+        good, bad = rt.edits_of(self.crate)
+        if not good and not bad:
+            return []
+        first = self.check({})
+        if first.is_stale or not first.is_proved:
+            return self.failure(f"the crate itself is not proved, so nothing was tried: {first.first_line()}")
+        why = "BAD EDIT: an edit stands right in must-fail/, and ends in .edit"
+        results = [Result(False, f"{os.path.relpath(it, self.crate.folder)}: {why}") for it in bad]
+        edits = [it for it in map(self.read, good) if it]
+        # a function that the check doesn't name once can't be told apart
+        in_group = lambda it: it.change and first.of(it.change.function.path)[0] == PROVED
+        alone = [it for it in edits if not in_group(it)]
+        for group in self.groups([it for it in edits if in_group(it)], first):
+            results += self.try_group(*group)
+        for it in alone:
+            self.try_alone(it)
+        last = self.check({})
+        if last.is_stale or not last.is_proved:
+            return self.failure("over the kept work the crate itself is not proved, so no answer counts")
+        for it in map(os.path.basename, good):
+            self.results.setdefault(it, Result(False, f"wrong body {self.crate.name}/{it}: it was not tried"))
+        return results + [self.results[it] for it in sorted(self.results)]
+
+    def read(self, path):
+        """Reads an edit file, and says so where it can't be applied."""
+        name = os.path.basename(path)
+        texts, why = rt.read_edit(path, self.crate.folder)
+        change = None
+        try:
+            change = self.sources.change(texts) if texts else None
+        except Unreadable as error:
+            why = f"its text cannot be read: {error}"
+        edit = Edit(name, path, texts, change)
+        if why:
+            self.put(edit, False, f"BAD EDIT: {why}")
+            return None
+        return edit
+
+    def groups(self, edits, first):
+        """Parts the edits into groups, each with one edit of a function at the most. With each group come two functions
+        more, one for the statement that does no harm, one for the statement that has to be refused."""
+        while edits:
+            group, taken, left = [], set(), []
+            for it in edits:
+                (left if it.change.function in taken else group).append(it)
+                taken.add(it.change.function)
+            spare = self.spare(group, first)
+            while not spare and group:
+                left.insert(0, group.pop())
+                spare = self.spare(group, first)
+            if not group:
+                for it in left:
+                    self.put(it, False, "CANNOT BE TOLD: no function is left for the two edits that test its group")
+                return
+            yield group, spare
+            edits = left
+
+    def spare(self, group, first):
+        """Returns a function for the harmless statement, which calls no edited one, and one for the control."""
+        taken = {it.change.function for it in group}
+        free = [
+            it
+            for it in self.sources.all
+            if it not in taken
+            and not self.sources.is_const(it)
+            and first.own(it.path) == [it.path]
+            and first.of(it.path)[0] == PROVED
+            and not any(os.path.isdir(f"{self.crate.folder}/{folder}") for folder in proof_folders(it.path))
+        ]
+        for control in free:
+            for harmless in free:
+                if harmless != control and not self.sources.reached_from(harmless) & {control, *taken}:
+                    return harmless, control
+        return None
+
+    def try_group(self, group, spare):
+        """Checks the crate once with all edits of the group, and reads how each came out."""
+        harmless, control = spare
+        own = [self.sources.with_statement(harmless, HARMLESS), self.sources.with_statement(control, CONTROL)]
+        group = [*group]
+        while True:
+            texts, lines = self.sources.with_changes([it.change for it in group] + own)
+            answer = self.check(texts)
+            unread = answer.unread(texts)
+            if answer.is_refused and not unread and not answer.is_stale:
+                break
+            bad = set() if answer.is_stale else self.unreadable(group)
+            if not bad:
+                why = (unread or [answer.first_line()])[0][:200]
+                why = "the kept work of a library could not be used" if answer.is_stale else why
+                for it in group:
+                    self.put(it, False, f"CANNOT BE TOLD: the check of its group gave no answer: {why}")
+                return []
+            group = [it for it in group if it.name not in bad]
+        results = []
+        if answer.of(harmless.path)[0] != PROVED:
+            results += self.failure(f"a harmless edit of {harmless.path} was refused, so its group counts for nothing")
+        if answer.of(control.path, lines[control])[0] != REFUSED:
+            results += self.failure(f"a false edit of {control.path} was let through, so its group counts for nothing")
+        for it in group:
+            self.tell(it, answer, lines[it.change.function])
+        return results
+
+    def unreadable(self, group):
+        """Finds the edits of a group that don't compile or can't be read, says so, and returns their names."""
+        texts = {it.name: self.sources.with_changes([it.change])[0] for it in group}
+        # (a look that proves nothing takes seconds, and sees all but what antt can't read)
+        quick = {name: self.check(it, ["--only", ""]) for name, it in texts.items()}
+        bad = {name: it.first_line() for name, it in quick.items() if it.status}
+        if not bad:
+            unread = {name: self.check(it).unread(it) for name, it in texts.items()}
+            bad = {name: lines[0] for name, lines in unread.items() if lines}
+        for it in group:
+            if it.name in bad:
+                why = "the prover cannot read the edited text, so no contract was tried"
+                self.put(it, False, f"BAD EDIT: {why}: {bad[it.name][:200]}")
+        return {*bad}
+
+    def tell(self, edit, answer, lines):
+        """Says how an edit of a group came out."""
+        path = edit.change.function.path
+        how, why = answer.of(path, lines)
+        if how == REFUSED:
+            self.put(edit, True, f"refused: {why[:160]}")
+        elif how == NAMES_ONLY:
+            little = "only because a proof file names what the edit took away, so this says little of the contract"
+            self.put(edit, True, f"refused ({little}: change a value and keep the names): {why[:160]}")
+        elif how == PROVED:
+            self.put(edit, False, f"NOT REFUSED: {path} is proved with this edit")
+        elif how == CALLS:
+            self.put(edit, False, f"NOT REFUSED: of {path} nothing is refused but what it calls")
+        else:
+            self.put(edit, False, f"CANNOT BE TOLD: {path}: {why[:160]}")
+
+    def try_alone(self, edit):
+        """Tries an edit outside a body as `rt must-fail` does."""
+        passed, text = rt.must_fail(self.crate, edit.path, ONE_JOB, self.kept)
+        said = text.partition(": ")[2].replace("refused, as it must be", "refused, alone")
+        self.put(edit, passed, said)
+
+
+# ---------------------------------------------------------------------------------------------------------------------
+# The crates, side by side.
+
+
+def crates_to_try(names):
+    crates = rtlib.crates_below(os.getcwd())
+    known = [it.name for it in crates]
+    for it in names:
+        if it not in known:
+            sys.exit(f"wrong_bodies: there is no crate {it}")
+    return [it for it in crates if (not names or it.name in names) and any(rt.edits_of(it))]
+
+
+def libraries(crates, are_proved):
+    """Returns what has to be built first, and stops where --proved was said and a library isn't there."""
+    below = list(dict.fromkeys(dep for it in crates for dep in it.below()))
+    if are_proved:
+        for it in below:
+            if not os.path.isdir(it.rlib):
+                sys.exit(f"wrong_bodies: --proved: there is no library of {it.name}")
+        return []
+    return [it for it in below if not it.is_built()]
+
+
+def main():
+    read = argparse.ArgumentParser(description=__doc__, formatter_class=argparse.RawDescriptionHelpFormatter)
+    read.add_argument("--jobs", type=int, help="how many crates at a time, else RT_JOBS or as many as there is room for")
+    read.add_argument("--proved", action="store_true", help="takes the libraries that `rt ci` has just left")
+    read.add_argument("--kept", action="store_true", help="begins with what earlier checks kept in out/: a quick look")
+    read.add_argument("names", nargs="*", metavar="NAME")
+    said = read.parse_args()
+    if said.jobs:
+        os.environ["RT_JOBS"] = str(said.jobs)
+    os.environ.pop(rtlib.ALLOW_C, None)
+    rtlib.guarded()
+    crates = crates_to_try(said.names)
+    printing, out = threading.Lock(), sys.stdout
+
+    def build(crate):
+        with tempfile.TemporaryFile("w+", errors="replace") as crate.out:
+            status = crate.build_rlib(ONE_JOB, anew=False)
+            if status:
+                crate.out.seek(0)
+                with printing:
+                    print(f"{crate.out.read()}wrong_bodies: {crate.name} is not proved", file=out, flush=True)
+        return not status
+
+    def attempt(crate, given):
+        if not all(given.get((dep.name, "proof"), True) for dep in crate.below()):
+            return [Result(False, f"wrong bodies of {crate.name}: a crate below is not proved")]
+        with tempfile.TemporaryDirectory(prefix="wrong-bodies-") as kept:
+            earlier = f"{crate.folder}/{rtlib.KEPT[1]}"
+            if said.kept and os.path.isdir(earlier):
+                shutil.copytree(earlier, kept, dirs_exist_ok=True)
+            try:
+                results = Trial(crate, kept).run()
+            except Unreadable as error:
+                results = [Result(False, f"wrong bodies of {crate.name}: {error}")]
+        with printing:
+            for it in results:
+                print(it.text, file=out, flush=True)
+        return results
+
+    tasks = {}
+    missing = libraries(crates, said.proved)
+    for crate in missing:
+        waits = [(it.name, "proof") for it in crate.below() if it in missing]
+        call = lambda given, jobs, it=crate: build(it)
+        tasks[crate.name, "proof"] = (waits, crate.count(rb"\n"), rt.need(crate), call)
+    for crate in crates:
+        waits = [(it.name, "proof") for it in crate.below() if it in missing]
+        call = lambda given, jobs, it=crate: attempt(it, given)
+        tasks[crate.name, "edits"] = (waits, 2 * crate.count(rb"\n"), rt.need(crate), call)
+    given = rt.in_lanes(tasks)
+    results = [it for key, found in given.items() if key[1] == "edits" for it in found]
+    passed, failed = sum(it.passed for it in results), sum(not it.passed for it in results)
+    if failed or not results:
+        print("wrong_bodies: FAILED" if failed else "wrong_bodies: there is no edit")
+    print(f"{passed} passed, {failed} failed")
+    return 0 if passed and not failed else 1
+
+
+if __name__ == "__main__":
+    sys.exit(main())
