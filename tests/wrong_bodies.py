@@ -184,6 +184,7 @@ class Sources:
         self.functions = {it: functions_of(crate.name, it, self.tokens[it]) for it in self.files}
         self.all = [it for file in self.files for it in self.functions[file]]
         self.file_of = {it: file for file in self.files for it in self.functions[file]}
+        self.reached = {}
 
     def change(self, texts):
         """Returns the Change that these texts are, or None where they change more than one body."""
@@ -237,12 +238,15 @@ class Sources:
 
     def reached_from(self, function):
         """Returns each function that the function may call, by any way: those whose names its body has, and so on."""
+        if function in self.reached:
+            return self.reached[function]
         reached, left = set(), [function]
         while left:
             names = left.pop().names
             more = [it for it in self.all if it not in reached and it.path.rpartition("::")[2] in names]
             reached.update(more)
             left += more
+        self.reached[function] = reached
         return reached
 
 
@@ -444,7 +448,7 @@ class Trial:
             unread = answer.unread(texts)
             if answer.is_refused and not unread and not answer.is_stale:
                 break
-            bad = set() if answer.is_stale else self.unreadable(group)
+            bad = set() if answer.is_stale else self.unreadable(group, unread)
             if not bad:
                 why = (unread or [answer.first_line()])[0][:200]
                 why = "the kept work of a library could not be used" if answer.is_stale else why
@@ -461,15 +465,15 @@ class Trial:
             self.tell(it, answer, lines[it.change.function])
         return results
 
-    def unreadable(self, group):
+    def unreadable(self, group, unread):
         """Finds the edits of a group that don't compile or can't be read, says so, and returns their names."""
         texts = {it.name: self.sources.with_changes([it.change])[0] for it in group}
-        # (a look that proves nothing takes seconds, and sees all but what antt can't read)
+        # (a look that proves nothing takes seconds, and sees all but what antt can't read, of which a check has lines)
         quick = {name: self.check(it, ["--only", ""]) for name, it in texts.items()}
         bad = {name: it.first_line() for name, it in quick.items() if it.status}
-        if not bad:
-            unread = {name: self.check(it).unread(it) for name, it in texts.items()}
-            bad = {name: lines[0] for name, lines in unread.items() if lines}
+        if unread and not bad:
+            found = {name: self.check(it).unread(it) for name, it in texts.items()}
+            bad = {name: lines[0] for name, lines in found.items() if lines}
         for it in group:
             if it.name in bad:
                 why = "the prover cannot read the edited text, so no contract was tried"
