@@ -25,7 +25,7 @@ import sys
 import tempfile
 import threading
 import types
-from collections import namedtuple
+from collections import Counter, namedtuple
 
 sys.dont_write_bytecode = True
 
@@ -184,7 +184,7 @@ class Sources:
         self.functions = {it: functions_of(crate.name, it, self.tokens[it]) for it in self.files}
         self.all = [it for file in self.files for it in self.functions[file]]
         self.file_of = {it: file for file in self.files for it in self.functions[file]}
-        self.reached = {}
+        self.reached, self.count = {}, Counter(it.path for it in self.all)
 
     def change(self, texts):
         """Returns the Change that these texts are, or None where they change more than one body."""
@@ -202,17 +202,18 @@ class Sources:
         if outside(tokens, now) != outside(self.tokens[file], was):
             return None
         pairs = [(a, b) for a, b in zip(was, now) if body_of(self.tokens[file], a) != body_of(tokens, b)]
-        if len(pairs) != 1 or self.is_const(pairs[0][0]):
+        if len(pairs) != 1 or not self.stands_for_itself(pairs[0][0]):
             return None
         function, other = pairs[0]
         # (what stands before the body may have got a `mut`, so the whole function is taken)
         start = tokens[other.tokens[0]].start
         return Change(file, function, text[start : other.end])
 
-    def is_const(self, function):
-        """Returns whether a check may run the function, so that its body is seen by others."""
+    def stands_for_itself(self, function):
+        """Returns whether no other function has its path, and no check runs it, so that its body is seen by no other."""
         head = self.tokens[self.file_of[function]][function.tokens[0] : function.tokens[1]]
-        return ["const", "fn"] in [[a.text, b.text] for a, b in zip(head, head[1:])]
+        is_const = ("const", "fn") in [(a.text, b.text) for a, b in zip(head, head[1:])]
+        return self.count[function.path] == 1 and not is_const
 
     def with_changes(self, changes):
         """Returns the texts of the files with these changes, and in which lines each changed function is there."""
@@ -426,7 +427,7 @@ class Trial:
             it
             for it in self.sources.all
             if it not in taken
-            and not self.sources.is_const(it)
+            and self.sources.stands_for_itself(it)
             and first.own(it.path) == [it.path]
             and first.of(it.path)[0] == PROVED
             and not any(os.path.isdir(f"{self.crate.folder}/{folder}") for folder in proof_folders(it.path))
