@@ -1,9 +1,10 @@
 #!/usr/bin/env python3
 """Relayplum from outside: ledger, messages, bindings, broker, sessions, subscribers and printed text in plain Python.
 
-Written from docs/FORMATS.md and the public documents that it names, and from nothing in crates/, so that it can be laid
-beside the program: `soak.py` compares the two on random scripts. Balances are sums over all entries, a queue is a filter
-of what the broker accepted, and so on: it is meant to be read, and to be right on scripts of some hundred lines.
+Written from docs/FORMATS.md and the public documents that it names, and from nothing in crates/, so that it can be
+laid beside the program: `soak.py` compares the two on random scripts. Balances are sums over all entries, a queue is
+what the broker accepted cut by a binding, and so on: it is meant to be read, and to be right on scripts of some
+hundred lines.
 
     tests/model.py books FILE
     tests/model.py messages FILE
@@ -320,7 +321,7 @@ class Ledger:
         return Balances(**sums)
 
     def due(self, now):
-        """The pending transfers that a pulse brings to their end, in the order of their ends, then of their timestamps."""
+        """The pending transfers that a pulse brings to their end, in the order of their ends, then of timestamps."""
         pending = [entry.transfer for entry in self.entries if entry.kind == 'two_phase_pending']
         unsettled = [transfer for transfer in pending if transfer.request.id not in self.ends_of]
         due = [transfer for transfer in unsettled if transfer.end is not None and transfer.end <= now]

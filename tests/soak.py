@@ -4,10 +4,11 @@
     tests/soak.py --seed S --count N [--seconds T] [--program PATH] [--jobs J]
     tests/soak.py --seed S --case K
 
-A case is a script and a step file, made of the seed and the case's number alone. The program runs on it under `books`,
-`messages` and `simulate`; output and exit status have to be the model's. Where they aren't, lines are left out as long as
-the difference stays, and what is left is printed with the words that bring it back. In the end, and where the soak is
-stopped (SIGTERM, Ctrl-C), it prints how often each result, fault, step and answer came up, and which never did.
+A case is a script and a step file, made of the seed and the case's number alone. The program runs on it under
+`books`, `messages` and `simulate`; output and exit status have to be the model's. Where they aren't, lines are left
+out while the difference stays, and what is left is printed with the words that bring it back. In the end, and where
+the soak is stopped (SIGTERM, Ctrl-C), it prints how often each result, fault, step and answer came up, and which
+never did.
 
 Without --count it goes on for --seconds; with neither, 1,000 cases. Exit status 1 where there was a difference.
 """
@@ -62,6 +63,7 @@ class ScriptMaker:
         self.moment = 0  # the timestamp of the item that is written
         self.has_huge_amounts = rng.random() < 0.35
         self.is_late = rng.random() < 0.2
+        self.limited = rng.choice([0.1, 0.1, 0.7])  # the share of accounts with flags
 
     def chance(self, share):
         return self.rng.random() < share
@@ -157,11 +159,13 @@ class ScriptMaker:
             id=self.new_id(self.ledger.accounts),
             ledger=700 if self.chance(0.85) else self.rng.choice([701, 2**32 - 1]),
             code=self.rng.choice([10, 10, 10, 1, 2**16 - 1]),
-            flags=0 if self.chance(0.7) else self.rng.choice([2, 4, 8, 10, 12]),
+            flags=self.rng.choice([2, 2, 4, 4, 8, 10, 12]) if self.chance(self.limited) else 0,
         )
         if self.chance(0.1):
             account = replace(account, **self.user_data())
-        return self.broken_account(account) if self.chance(0.05) else account
+        while self.chance(0.05):
+            account = self.broken_account(account)
+        return account
 
     def known_account(self):
         """One that is there already, as it is or with another field."""
@@ -235,6 +239,13 @@ class ScriptMaker:
         accounts = [stored.request for stored in self.ledger.accounts.values()]
         if len(accounts) < 2:
             return model.NewAccount(id=1, ledger=700), model.NewAccount(id=2, ledger=700)
+        debit, credit = self.any_two(accounts)
+        without_credits = self.ledger.balances(debit.id).credits_posted == 0
+        if debit.flags & model.DEBITS_LIMITED and without_credits and self.chance(0.7):
+            return credit, debit
+        return debit, credit
+
+    def any_two(self, accounts):
         usual = [account for account in accounts if account.ledger == 700]
         debit = self.rng.choice(usual if len(usual) > 1 and self.chance(0.9) else accounts)
         others = [account for account in accounts if account.id != debit.id]
@@ -312,9 +323,9 @@ class ScriptMaker:
         name = self.rng.choice([name for name in model.TRANSFER_WIDTHS if name != 'id'])
         return replace(transfer, **{name: self.other_value(name, getattr(transfer, name), model.TRANSFER_WIDTHS)})
 
-    def broken(self):
-        """A request that its own fields make wrong."""
-        transfer = self.rng.choice([self.plain, self.pending, self.settling])()
+    def broken(self, transfer=None):
+        """A request that its own fields make wrong, at times twice over."""
+        transfer = transfer or self.rng.choice([self.plain, self.pending, self.settling])()
         change = self.rng.choice(
             [
                 {'flags': self.rng.choice([1, 16, 2**15, 3])},
@@ -330,7 +341,8 @@ class ScriptMaker:
                 {'credit_account_id': transfer.debit_account_id},
             ]
         )
-        return replace(transfer, **change)
+        transfer = replace(transfer, **change)
+        return self.broken(transfer) if self.chance(0.2) else transfer
 
     def misplaced(self):
         """A request that names what isn't there, or isn't what it should be."""
@@ -409,7 +421,9 @@ class StepMaker:
     def end_waits(self):
         """Whether the session knows the end, and an event of it waits for its confirm."""
         session = self.world.session
-        return session is not None and session.complete and len(session.confirmed) < session.sent == len(session.offered)
+        if session is None or not session.complete:
+            return False
+        return len(session.confirmed) < session.sent == len(session.offered)
 
     def enabled_step(self):
         """A step that the world takes, which it has taken then. Few are idle."""
@@ -427,13 +441,15 @@ class StepMaker:
     def is_idle(self, step):
         """Whether a step would change little, were it enabled."""
         world = self.world
+        session = world.session
         match step.word:
             case 'close_ledger':
                 return world.ledger.closed
             case 'poll':
-                return not world.ledger.closed and world.session is not None and world.session.after() >= last_of(world.ledger)
+                all_told = session is not None and session.after() >= last_of(world.ledger)
+                return all_told and not world.ledger.closed
             case 'save':
-                return world.session is not None and world.progress == (world.session.number, world.session.moment())
+                return session is not None and world.progress == (session.number, session.moment())
             case 'arrive':
                 return step.numbers[0] <= self.arrived
             case 'answer':
@@ -460,8 +476,14 @@ class StepMaker:
     def refused_step(self):
         """A step that the world refuses, if one is found."""
         words = [word for word in model.STEPS if self.weights[word] > 0]
+        if self.world.session is None and self.rng.random() < 0.5:
+            confirm = self.rng.randint(1, max(1, len(self.world.confirms)))
+            without_session = [model.Step('answer', (confirm,))]
+            without_session += [model.Step(word) for word in ('poll', 'publish', 'save')]
+            return [self.rng.choice(without_session)]
         for _ in range(40):
-            step = self.any_step() if self.rng.random() < 0.3 else model.Step(w := self.rng.choice(words), self.numbers(w))
+            word = self.rng.choice(words)
+            step = self.any_step() if self.rng.random() < 0.3 else model.Step(word, self.numbers(word))
             if not self.is_taken(step):
                 return [step]
         return []
@@ -496,8 +518,10 @@ class StepMaker:
         session = self.world.session
         if self.in_order or self.is_calm or session is None or self.rng.random() < 0.8:
             return 0
+        if session.sent in session.confirmed:
+            return 0
         for number, confirm in enumerate(self.world.confirms, start=1):
-            if confirm.tag == session.sent and confirm.session != session.number and confirm.tag not in session.confirmed:
+            if confirm.tag == session.sent and confirm.session != session.number:
                 return number
         return 0
 
@@ -578,9 +602,10 @@ class Spoiler:
             [
                 ['client 0', 'client 3', f'client {2**64 - 1}', f'client {2**64}', 'client', 'client x', 'client 9 9'],
                 ['subscriber', 'subscriber some', 'subscriber all ledger', 'subscriber any code=1', 'subscriber ALL'],
-                ['subscriber all ' + 'ledger=1 ' * 11, 'subscriber all ledger=4294967296', 'subscriber any event_type=x'],
-                [f'subscriber all transfer_code={no_number}', 'subscriber all transfer_code=65536', 'subscriber all =1'],
-                ['subscriber all ledger=1=1', 'subscriber all ledger=', f'subscriber any ledger={FAR_TOO_LARGE}'],
+                ['subscriber all ' + 'ledger=1 ' * 11, 'subscriber all ledger=4294967296', 'subscriber all =1'],
+                [f'subscriber all transfer_code={no_number}', 'subscriber all transfer_code=65536'],
+                ['subscriber any event_type=x', 'subscriber all ledger=1=1', 'subscriber all ledger='],
+                [f'subscriber any ledger={FAR_TOO_LARGE}'],
                 ['subscriber all'] * 5,
                 [f'accounts {no_number}', f'pulse {2**64}', 'transfers', 'pulse', 'pulse x 6', 'accounts 1 2'],
                 ['account', 'transfer'],
@@ -598,21 +623,21 @@ class Spoiler:
         lines = [line.encode('ascii') for line in lines] or [b'batch']
         for _ in range(self.rng.choice([1, 1, 2])):
             change = self.rng.choice(
-                [self.bad_byte, self.lost_word, self.further_word, self.other_word, self.doubled_word, self.step_of_list]
+                [self.bad_byte, self.lost_word, self.further_word, self.other_word, self.doubled_word]
+                + [self.step_of_list] * 2
             )
             lines = change(lines)
         return lines
 
     def step_of_list(self, lines):
         no_number = self.rng.choice(NO_NUMBERS)
-        large = [
-            'rewind', f'break {no_number}', 'ack 1', 'ack x', 'ack x 1', 'ack 1 x', 'ack 1 2 3', f'close {2**64}',
-            f'ack {2**64} x', 'crash 1',
-        ]
+        lines_of_faults = ['rewind', f'break {no_number}', f'close {2**64}', 'crash 1', 'ack 1', 'ack x', 'ack x 1']
+        lines_of_faults += ['ack 1 x', 'ack 1 2 3', f'ack {2**64} x']
         line = self.rng.choice(
-            ['arrive', f'arrive {no_number}', f'arrive {2**64}', f'take {FAR_TOO_LARGE}', 'batch 1', 'Batch', 'start at']
-            + ['start x', 'send 1 1', 'send', 'answer 1 x', ' #x', 'stop', 'save me', 'close_ledger 1', 'poll x y']
-            + ([] if self.in_order else large)
+            ['arrive', f'arrive {no_number}', f'arrive {2**64}', f'take {FAR_TOO_LARGE}', 'batch 1', 'Batch']
+            + ['start at', 'start x', 'send 1 1', 'send', 'answer 1 x', ' #x', 'stop', 'save me', 'close_ledger 1']
+            + ['poll x y']
+            + ([] if self.in_order else lines_of_faults)
         )
         place = self.rng.randint(0, len(lines))
         return lines[:place] + [line.encode('ascii')] + lines[place:]
@@ -639,7 +664,8 @@ class Spoiler:
 
     def other_word(self, lines):
         def change(words):
-            words[self.rng.randrange(len(words))] = self.rng.choice([b'x', b'all', b'0', b'id=1', b'18446744073709551616'])
+            word = self.rng.choice([b'x', b'all', b'0', b'id=1', b'18446744073709551616'])
+            words[self.rng.randrange(len(words))] = word
 
         return self.with_words(lines, change)
 
@@ -911,7 +937,8 @@ def reason(world, step):
         return ' without a session'
     if step.word == 'publish' and session.complete and session.sent == len(session.offered):
         return ' while the end waits for a confirm'
-    if step.word in ('send', 'rewind', 'break', 'take', 'ack', 'close') and not 1 <= step.numbers[0] <= len(world.seats):
+    names_subscriber = step.word in ('send', 'rewind', 'break', 'take', 'ack', 'close')
+    if names_subscriber and not 1 <= step.numbers[0] <= len(world.seats):
         return ' without a subscriber'
     return ''
 
@@ -983,6 +1010,7 @@ class Soak:
     def __init__(self, options, room):
         self.options = options
         self.room = room  # a folder for the files of all cases
+        self.in_order = options.steps == 'ordered'
         self.counts = collections.Counter()
         self.cases = 0
         self.runs = 0
@@ -1010,7 +1038,7 @@ class Soak:
         for number, command in differing:
             self.differing += 1
             if self.differing <= MOST_SHOWN:
-                show(self.options.program, self.room, self.options.seed, number, command, self.options.steps == 'ordered')
+                show(self.options.program, self.room, self.options.seed, number, command, self.in_order)
         if time.monotonic() - self.told_last >= 60:
             self.told_last = time.monotonic()
             print(f'soak: {self.cases} cases, {self.differing} differ', file=sys.stderr, flush=True)
@@ -1019,7 +1047,7 @@ class Soak:
         waiting = collections.deque()
         with multiprocessing.Pool(self.options.jobs, ignore_signals) as pool:
             for numbers in self.chunks():
-                words = (self.options.program, self.room, self.options.seed, numbers, self.options.steps == 'ordered')
+                words = (self.options.program, self.room, self.options.seed, numbers, self.in_order)
                 waiting.append((numbers, pool.apply_async(run_chunk, words)))
                 if len(waiting) > self.options.jobs + 1:
                     taken, result = waiting.popleft()
@@ -1080,8 +1108,9 @@ def main(words):
             soak.run()
         except Stopped:
             print('soak: stopped', flush=True)
-        signal.signal(signal.SIGTERM, signal.SIG_IGN)
-        print(soak.told(), flush=True)
+        finally:
+            signal.signal(signal.SIGTERM, signal.SIG_IGN)
+            print(soak.told(), flush=True)
     return 1 if soak.differing else 0
 
 
