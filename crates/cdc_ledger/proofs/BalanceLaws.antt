@@ -130,12 +130,14 @@ balances-pushed_before h e a t after =
     let held_same : (side : Transfer → ℕ) → sum_by (share (held_amount (pushed h e) t) side a t) (h.entries ++ e ∷ [])
     ≡ sum_by (share (held_amount h t) side a t) h.entries =
     λ side. share-pushed h e a t none side
-    ∙ (ap (λ n. sum_by (share (held_amount h t) side a t) h.entries + n) (share_after (held_amount h t) side a t e after)
+    ∙ (ap (λ n. sum_by (share (held_amount h t) side a t) h.entries + n)
+    (share_after (held_amount h t) side a t e after)
     ∙ add-zero _) in
     let moved_same : (side : Transfer → ℕ) → sum_by (share moved_amount side a t) (h.entries ++ e ∷ [])
     ≡ sum_by (share moved_amount side a t) h.entries =
     λ side. sum_by_push (share moved_amount side a t) h.entries e
-    ∙ (ap (λ n. sum_by (share moved_amount side a t) h.entries + n) (share_after moved_amount side a t e after) ∙ add-zero _) in
+    ∙ (ap (λ n. sum_by (share moved_amount side a t) h.entries + n)
+    (share_after moved_amount side a t e after) ∙ add-zero _) in
     same_balances _ _ _ _ _ _ _ _ (held_same debit_side) (moved_same debit_side) (held_same credit_side)
     (moved_same credit_side)
 
@@ -373,7 +375,8 @@ module _ (h : History) (e : Entry) (a : ℕ) (sound : IsSound h) (follows : Foll
   -- where it settles nothing, all others hold what they held
   unchanged : settles e.kind ≡ false → (side : Transfer → ℕ)
       → sum_by (right_after side) h.entries ≡ sum_by (before side) h.entries
-  unchanged none side = share_same (held_amount (pushed h e) e.timestamp) (held_amount h h.last) side a h.last e.timestamp h.entries
+  unchanged none side =
+      share_same (held_amount (pushed h e) e.timestamp) (held_amount h h.last) side a h.last e.timestamp h.entries
       (AllByRecursion-weaker (λ x. x.timestamp ≤ h.last)
       (λ x. (held_amount (pushed h e) e.timestamp x ≡ held_amount h h.last x) ×
       (nat_le x.timestamp e.timestamp ≡ nat_le x.timestamp h.last))
@@ -472,7 +475,8 @@ module _ (h : History) (e : Entry) (a : ℕ) (sound : IsSound h) (follows : Foll
       ≡ sum_by (share moved_amount side a h.last) h.entries + part (side e.transfer) a (effect_of h e).moved
   moved_then side = sum_by_push (share moved_amount side a e.timestamp) h.entries e
       ∙ ap₂ (λ m n. m + n) (moved_agree h a h.last e.timestamp sound.past (omega arith) side)
-      (ap (λ b. if b && (side e.transfer == a) then moved_amount e else 0) (le-leb e.timestamp e.timestamp (omega arith)))
+      (ap (λ b. if b && (side e.transfer == a) then moved_amount e else 0)
+      (le-leb e.timestamp e.timestamp (omega arith)))
 
   -- the balances right after an entry of any kind
   pub balances-pushed : balances (pushed h e) a e.timestamp ≡ balances_after_entry h e a (balances h a h.last)

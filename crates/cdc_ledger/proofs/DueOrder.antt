@@ -24,7 +24,8 @@ either P false xs ys here there = there
 -- what holds of each stays so in the order
 module _ (P : Transfer → Type 0) where
   -- a transfer put in its place is like those that it stands among
-  pub All-insert_by_end : (p : Transfer) (qs : List Transfer) → P p → AllByRecursion P qs → AllByRecursion P (insert_by_end p qs)
+  pub All-insert_by_end : (p : Transfer) (qs : List Transfer) → P p → AllByRecursion P qs
+      → AllByRecursion P (insert_by_end p qs)
   All-insert_by_end p [] here all = (here, tt)
   All-insert_by_end p (q ∷ qs) here all =
       either (AllByRecursion P) (is_sooner q p) (q ∷ insert_by_end p qs) (p ∷ q ∷ qs)
@@ -64,5 +65,6 @@ in_order-soonest p [] back before after =
     insert_by_end-first p (in_order_of_end back) (All-in_order (λ q. is_sooner p q ≡ true) back after)
 in_order-soonest p (q ∷ front) back before after =
     ap (insert_by_end q) (in_order-soonest p front back before.1 after)
-    ∙ ap (λ b. if b then p ∷ insert_by_end q (in_order_of_end (front ++ back)) else q ∷ p ∷ in_order_of_end (front ++ back))
+    ∙ ap (λ b. if b then p ∷ insert_by_end q (in_order_of_end (front ++ back))
+    else q ∷ p ∷ in_order_of_end (front ++ back))
     before.0

@@ -128,7 +128,8 @@ module _ (h : History) (e : Entry) (a : ℕ) (within : IsUpTo h.last h) (after :
 
   -- and so does the posted one
   all_moved : (side : Transfer → ℕ) → side e.transfer ≢ a
-      → sum_by (share moved_amount side a e.timestamp) (h.entries ++ e ∷ []) ≡ sum_by (share moved_amount side a h.last) h.entries
+      → sum_by (share moved_amount side a e.timestamp) (h.entries ++ e ∷ [])
+      ≡ sum_by (share moved_amount side a h.last) h.entries
   all_moved side other =
       sum_by_push (share moved_amount side a e.timestamp) h.entries e
       ∙ (ap₂ (λ m n. m + n) (moved_agree h a h.last e.timestamp within (omega arith) side)

@@ -45,7 +45,8 @@ placed_ids : (p : Transfer) (qs : List Transfer) → AllByRecursion (λ q. p.id 
 placed_ids p [] other own = (tt, tt)
 placed_ids p (q ∷ qs) other own = either (is_sooner q p) (placed_ids p qs other.1 own.1)
   where
-    either : (b : Bool) → HaveOwnIds (insert_by_end p qs) → HaveOwnIds (if b then q ∷ insert_by_end p qs else p ∷ q ∷ qs)
+    either : (b : Bool) → HaveOwnIds (insert_by_end p qs)
+        → HaveOwnIds (if b then q ∷ insert_by_end p qs else p ∷ q ∷ qs)
     either true more = (All-insert_by_end (λ x. q.id ≢ x.id) p qs (λ same. other.0 (sym same)) own.0, more)
     either false more = (other, own)
 

@@ -130,7 +130,8 @@ impl Ledger {
 
     /// The account of this id, if there is one, with its balances now.
     pub fn account(&self, id: u128) -> Option<&Account>
-        ensures account { option_copied result ≡ option_map (account_now self.now) (opened self.now id) }
+        ensures account { option_copied result
+            ≡ option_map (account_now self.now) (opened self.now id) }
         ensures bounded { IsBounded self.now }
     {
         self.tables.account(id)
@@ -139,7 +140,8 @@ impl Ledger {
     /// The balances of the account of this id now, if there is one. On each side what is pending and what is posted
     /// fit 128 bits together.
     pub fn balances(&self, id: u128) -> Option<Balances>
-        ensures balances { result ≡ option_map (λ _. sums.balances self.now id self.now.last) (opened self.now id) }
+        ensures balances { result
+            ≡ option_map (λ _. sums.balances self.now id self.now.last) (opened self.now id) }
         ensures debits { IfSome result (λ b. b.debits_pending + b.debits_posted ≤ max_128) }
         ensures credits { IfSome result (λ b. b.credits_pending + b.credits_posted ≤ max_128) }
     {

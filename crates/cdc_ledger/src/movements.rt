@@ -24,7 +24,8 @@ pub(crate) struct Effect {
 impl Effect {
     /// Changes the balances of the account that is debited.
     fn debit(&self, account: &mut Account)
-        requires { SideFits self.now account.old.balances.debits_pending account.old.balances.debits_posted }
+        requires { let sums = account.old.balances in
+            SideFits self.now sums.debits_pending sums.debits_posted }
         ensures { account.new ≡ debited_account self.now account.old }
     {
         let balances = &mut account.balances;
@@ -34,7 +35,8 @@ impl Effect {
 
     /// Changes the balances of the account that is credited.
     fn credit(&self, account: &mut Account)
-        requires { SideFits self.now account.old.balances.credits_pending account.old.balances.credits_posted }
+        requires { let sums = account.old.balances in
+            SideFits self.now sums.credits_pending sums.credits_posted }
         ensures { account.new ≡ credited_account self.now account.old }
     {
         let balances = &mut account.balances;
@@ -83,7 +85,8 @@ impl Movement {
     /// Changes the balances of the two accounts.
     pub(crate) fn apply(&self, accounts: &mut [Account])
         requires placed { IsPlaced accounts.old self.now }
-        requires apart { self.now.entry.transfer.debit_account_id ≢ self.now.entry.transfer.credit_account_id }
+        requires apart { let transfer = self.now.entry.transfer in
+            transfer.debit_account_id ≢ transfer.credit_account_id }
         requires unique { AreApart (account_ids accounts.old) }
         requires fits { All
             (Takes (effect_of_movement self.now) self.now.entry.transfer.debit_account_id

@@ -33,7 +33,8 @@ impl Tables {
         requires within { timestamp ≤ max_timestamp }
         requires room { 0 < self.old.account_room }
         ensures result { result ≡ account_verdict features self.old.history request }
-        ensures history { self.new.history ≡ after_account self.old.history request timestamp result }
+        ensures history { self.new.history
+            ≡ after_account self.old.history request timestamp result }
         ensures fits { NewAccountFits request }
         ensures room { self.old.account_room ≤ self.new.account_room + 1 }
     {
@@ -56,7 +57,8 @@ impl Tables {
         requires room { 0 < self.old.entry_room }
         requires end_room { 0 < self.old.end_room }
         ensures result { result ≡ transfer_verdict features self.old.history request timestamp }
-        ensures history { self.new.history ≡ after_transfer self.old.history request timestamp result }
+        ensures history { self.new.history
+            ≡ after_transfer self.old.history request timestamp result }
         ensures fits { NewTransferFits request }
         ensures room { self.old.entry_room ≤ self.new.entry_room + 1 }
         ensures end_room { self.old.end_room ≤ self.new.end_room + 1 }

@@ -67,7 +67,8 @@ fn expires(entry: &Entry, pending: &Transfer) -> bool
 /// Whether the pending transfer has a timeout that is up at this moment.
 fn is_up(pending: &Transfer, timestamp: u64) -> bool
     requires { pending.now.timeout ≢ 0 → filling.expires_at pending.now < 2 ^ 64 }
-    ensures { result ≡ (not (pending.now.timeout == 0) && nat_le (filling.expires_at pending.now) timestamp) }
+    ensures { result
+        ≡ (not (pending.now.timeout == 0) && nat_le (filling.expires_at pending.now) timestamp) }
 {
     pending.timeout != 0 && expires_at(pending) <= timestamp
 }

@@ -96,7 +96,8 @@ impl EventLog {
         timestamp: u64,
         limit: usize,
     ) -> Result<Vec<Event>, AllocError>
-        ensures { IfOk result (λ read. read.items ≡ take limit (events_after timestamp self.now.events)) }
+        ensures { IfOk result (λ read.
+            read.items ≡ take limit (events_after timestamp self.now.events)) }
     {
         let later = &self.events[first_after(&self.events, timestamp)..];
         Vec::from_slice(alloc, &later[..limit.min(later.len())])
