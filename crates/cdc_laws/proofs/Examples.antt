@@ -264,8 +264,8 @@ first_of_each = refl
 other_moment : ◌≡◌ {A = ℕ} 2001 2000 → ⊥
 other_moment same = omega (arith, same)
 
--- where confirms came for a session of which nothing arrived, there is a hole: so a law can't leave out that each confirm
--- is of a publish that was taken
+-- where confirms came for a session of which nothing arrived, there is a hole: so a law can't leave out that each
+-- confirm is of a publish that was taken
 hole : IsPrefix (firsts same_item (items_of (taken_of (packets_of second_session)))) (line history) → ⊥
 unfolding moment_at
 hole front = other_moment (ap (λ (items : List Item). moment_at 0 (events_of items)) front.whole)
