@@ -63,6 +63,7 @@ class ScriptMaker:
         self.moment = 0  # the timestamp of the item that is written
         self.has_huge_amounts = rng.random() < 0.35
         self.is_late = rng.random() < 0.2
+        self.limited = rng.choice([0.1, 0.1, 0.7])  # the share of accounts with flags
 
     def chance(self, share):
         return self.rng.random() < share
@@ -158,11 +159,13 @@ class ScriptMaker:
             id=self.new_id(self.ledger.accounts),
             ledger=700 if self.chance(0.85) else self.rng.choice([701, 2**32 - 1]),
             code=self.rng.choice([10, 10, 10, 1, 2**16 - 1]),
-            flags=0 if self.chance(0.7) else self.rng.choice([2, 4, 8, 10, 12]),
+            flags=self.rng.choice([2, 2, 4, 4, 8, 10, 12]) if self.chance(self.limited) else 0,
         )
         if self.chance(0.1):
             account = replace(account, **self.user_data())
-        return self.broken_account(account) if self.chance(0.05) else account
+        while self.chance(0.05):
+            account = self.broken_account(account)
+        return account
 
     def known_account(self):
         """One that is there already, as it is or with another field."""
@@ -236,6 +239,13 @@ class ScriptMaker:
         accounts = [stored.request for stored in self.ledger.accounts.values()]
         if len(accounts) < 2:
             return model.NewAccount(id=1, ledger=700), model.NewAccount(id=2, ledger=700)
+        debit, credit = self.any_two(accounts)
+        without_credits = self.ledger.balances(debit.id).credits_posted == 0
+        if debit.flags & model.DEBITS_LIMITED and without_credits and self.chance(0.7):
+            return credit, debit
+        return debit, credit
+
+    def any_two(self, accounts):
         usual = [account for account in accounts if account.ledger == 700]
         debit = self.rng.choice(usual if len(usual) > 1 and self.chance(0.9) else accounts)
         others = [account for account in accounts if account.id != debit.id]
@@ -313,9 +323,9 @@ class ScriptMaker:
         name = self.rng.choice([name for name in model.TRANSFER_WIDTHS if name != 'id'])
         return replace(transfer, **{name: self.other_value(name, getattr(transfer, name), model.TRANSFER_WIDTHS)})
 
-    def broken(self):
-        """A request that its own fields make wrong."""
-        transfer = self.rng.choice([self.plain, self.pending, self.settling])()
+    def broken(self, transfer=None):
+        """A request that its own fields make wrong, at times twice over."""
+        transfer = transfer or self.rng.choice([self.plain, self.pending, self.settling])()
         change = self.rng.choice(
             [
                 {'flags': self.rng.choice([1, 16, 2**15, 3])},
@@ -331,7 +341,8 @@ class ScriptMaker:
                 {'credit_account_id': transfer.debit_account_id},
             ]
         )
-        return replace(transfer, **change)
+        transfer = replace(transfer, **change)
+        return self.broken(transfer) if self.chance(0.2) else transfer
 
     def misplaced(self):
         """A request that names what isn't there, or isn't what it should be."""
@@ -465,6 +476,11 @@ class StepMaker:
     def refused_step(self):
         """A step that the world refuses, if one is found."""
         words = [word for word in model.STEPS if self.weights[word] > 0]
+        if self.world.session is None and self.rng.random() < 0.5:
+            confirm = self.rng.randint(1, max(1, len(self.world.confirms)))
+            without_session = [model.Step('answer', (confirm,))]
+            without_session += [model.Step(word) for word in ('poll', 'publish', 'save')]
+            return [self.rng.choice(without_session)]
         for _ in range(40):
             word = self.rng.choice(words)
             step = self.any_step() if self.rng.random() < 0.3 else model.Step(word, self.numbers(word))

@@ -1,5 +1,5 @@
 -- The definitions at work: what they compute for small scripts, beside what the rules say in words.
-use Rattle.std.specs.Prelude.{ℕ, ◌≡◌, Result, Ok, Err, List, [], ◌∷◌, ◌++◌, codes}
+use Rattle.std.specs.Prelude.{ℕ, ◌≡◌, true, Ok, Err, List, [], ◌∷◌, ◌++◌, codes}
 use Rattle.std.proofs.Common.{refl}
 use Rattle.std.specs.Fmt.{digits}
 use Rattle.cdc_types.specs.declared.batches.BatchResults.TheVariants as results
@@ -13,8 +13,8 @@ use Rattle.cdc_match.specs.declared.pairs.Pair.TheVariants as pair
 use Rattle.cdc_message.specs.Bodies.{body}
 use Rattle.cdc_app.specs.declared.endings.Ending.TheVariants.{Done, BadScript}
 use Rattle.cdc_script.specs.declared.faults.FaultKind.TheVariants as kind
-use Rattle.cdc_app.specs.Feeds.{line_of, subscribers_text}
-use Rattle.cdc_app.specs.Held.{every_event}
+use Rattle.cdc_laws.specs.Line.{told}
+use Rattle.cdc_app.specs.Feeds.{subscribers_text}
 use Rattle.cdc_app.specs.Printed.{books_outcome, messages_outcome}
 use Rattle.cdc_app.specs.Report.{batch_line}
 
@@ -70,8 +70,8 @@ abbrev two_events : List Event
 two_events = event 2000 (side 2 5 0) (side 1 0 5) ∷ event 2001 (side 1 7 5) (side 3 0 7) ∷ []
 
 -- what two subscribers print of these events: one of every event, and one of those of another ledger
-prints_subscribers : subscribers_text 1 (line_of two_events)
-    (every_event ∷ record { mode = mode.All; pairs = pair.Ledger 800 ∷ [] } ∷ [])
+prints_subscribers : subscribers_text 1 (told two_events true)
+    (record { mode = mode.All; pairs = [] } ∷ record { mode = mode.All; pairs = pair.Ledger 800 ∷ [] } ∷ [])
     ≡ codes "subscriber 1 applied 2 last 2001 ended yes closed no\n"
     ++ codes "account 2 0 5 0 0\naccount 1 0 7 0 5\naccount 3 0 0 0 7\n"
     ++ codes "subscriber 2 applied 0 last 0 ended yes closed no\n"

@@ -1,5 +1,5 @@
 mod Examples
-pub mod FedLaws
+pub mod HeldLaws
 pub mod FeedLemmas
 pub mod OutputLemmas
 pub mod Places

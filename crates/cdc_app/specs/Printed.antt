@@ -11,7 +11,8 @@ use Rattle.cdc_app.specs.declared.endings.Ending.TheVariants.{Done, BadScript}
 use Rattle.cdc_script.specs.declared.faults.ScriptFault.{ScriptFault}
 use Rattle.cdc_script.specs.declared.scripts.ClientBatch.{ClientBatch}
 use Rattle.cdc_script.specs.declared.scripts.Script.{Script}
-use Rattle.cdc_app.specs.Feeds.{line_of, subscribers_text}
+use Rattle.cdc_laws.specs.Line.{line}
+use Rattle.cdc_app.specs.Feeds.{subscribers_text}
 use Rattle.cdc_app.specs.Messages.{message_lines}
 use Rattle.cdc_app.specs.Outcomes.{Outcome}
 use Rattle.cdc_app.specs.Report.{batch_line, script_fault_line}
@@ -41,7 +42,7 @@ history_of script = record (history_after empty_history script.batches) { closed
 abbrev pub printed_books : Script → List ℕ
 printed_books script =
     batch_lines 1 empty_history script.batches
-    ++ subscribers_text 1 (line_of (events (history_of script))) script.bindings
+    ++ subscribers_text 1 (line (history_of script)) script.bindings
 
 -- what `messages` prints: the lines of each event
 abbrev pub printed_messages : Script → List ℕ

@@ -112,10 +112,10 @@ fn expected(kind: FaultKind) -> &'static str {
 fn expected_step(kind: FaultKind) -> &'static str {
     match kind {
         FaultKind::UnknownWord => {
-            "a line begins with batch, close_ledger, start, poll, publish, arrive, answer, save, send or take"
+            "a line begins with batch, close_ledger, start, crash, poll, publish, arrive, answer, save, send, rewind, break, take, ack or close"
         }
         FaultKind::WrongCount => {
-            "arrive, answer, send and take have one number, batch, close_ledger, start, poll, publish and save have none"
+            "ack has two numbers, arrive, answer, send, rewind, break, take and close have one number, batch, close_ledger, start, crash, poll, publish and save have none"
         }
         FaultKind::NumberOutOfRange => "a number has 64 bits at most",
         FaultKind::TooLong => "a step file has 1048576 bytes at most",

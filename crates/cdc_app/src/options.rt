@@ -29,8 +29,9 @@ A script is a text of lines:
 A subscriber's binding is all or any, and up to ten pairs of a header and its value, as in
   subscriber any event_type=two_phase_posted ledger=700
 
-STEPS is a file with one step of a simulation in each line: batch, close_ledger, start, poll, publish,
-arrive K, answer K, save, send I or take I. The Kth packet or confirm ever sent arrives, and I is a subscriber.
+STEPS is a file with one step of a simulation in each line: batch, close_ledger, start, crash, poll, publish,
+arrive K, answer K, save, send I, rewind I, break I, take I, ack I K or close I. I is a subscriber and its queue,
+and K counts the packets, the confirms or a subscriber's acknowledgements ever sent, from 1.
 
 Examples:
   relayplum books examples/two-phase.script
@@ -169,7 +170,7 @@ fn read_window(word: Option<&str>) -> Option<usize>
     let Some(word) = word else {
         return Some(1);
     };
-    let number = decimal_up_to(word, Limits::WINDOW_TODAY as u128)?;
+    let number = decimal_up_to(word.as_bytes(), Limits::WINDOW_TODAY as u128)?;
     if number == 0 {
         None
     } else {

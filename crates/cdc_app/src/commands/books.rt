@@ -2,12 +2,11 @@
 //! queue of what was published.
 
 ghost use Rattle.std.specs.Prelude.{◌≡◌, ◌+◌, IfErr, IfOk, IfSome};
-ghost use Rattle.cdc_ledger.specs.History.{History};
 ghost use Rattle.cdc_match.specs.Arguments.{Arguments};
 ghost use Rattle.cdc_script.specs.Reading.{ConsumesAtMost};
 ghost use Rattle.cdc_script.specs.Scripts.{max_bytes};
 ghost use Rattle.cdc_script.specs.declared.scripts.Script.{Script as Said};
-ghost use Rattle.cdc_app.specs.Held.{HasWholeFeed, HoldsBalances};
+ghost use Rattle.cdc_app.specs.Held.{HasWholeFeed, ListsBalances};
 ghost use Rattle.cdc_app.specs.Outcomes.{IsScriptEnding, MayFailScript, PrintsOutcome, Writes, outcome_of};
 ghost use Rattle.cdc_app.specs.Printed.{books_outcome, history_of, printed_books};
 
@@ -43,7 +42,7 @@ pub fn books<R: Read, W: Write>(alloc: Global, reader: &mut R, writer: &mut W) -
     ensures writes { Writes (PrintsOutcome books_outcome (R.remaining reader.old))
         (W.contents writer.old) (W.contents writer.new) result }
     ensures whole { (script : Said) → (binding : Arguments) → HasWholeFeed (history_of script) binding }
-    ensures holds { (script : Said) → HoldsBalances (history_of script) }
+    ensures holds { (script : Said) → (binding : Arguments) → ListsBalances (history_of script) binding }
     ensures bounded { ConsumesAtMost (max_bytes + 1) (R.remaining reader.old) (R.remaining reader.new) }
 {
     print_output(writer, read_books(alloc, reader))

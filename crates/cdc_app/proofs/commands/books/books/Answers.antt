@@ -1,4 +1,4 @@
-use Rattle.cdc_app.proofs.FedLaws.{holds_balances, whole_feeds}
+use Rattle.cdc_app.proofs.HeldLaws.{all_balances, whole_feeds}
 use Rattle.cdc_app.proofs.OutputLemmas.{writes_outcome}
 use Rattle.cdc_app.proofs.commands.books.books.Goals as goal
 
@@ -11,4 +11,4 @@ pub returns-clause-whole : goal.returns-clause-whole
 returns-clause-whole g c = whole_feeds
 
 pub returns-clause-holds : goal.returns-clause-holds
-returns-clause-holds g c = holds_balances
+returns-clause-holds g c = all_balances
