@@ -15,7 +15,7 @@ use cdc_ledger::Ledger;
 use cdc_match::Binding;
 use cdc_message::{Confirm, Packet};
 use cdc_publisher::Session;
-use cdc_types::{Batch, Step};
+use cdc_types::{Batch, Limits, Step};
 use std::alloc::{AllocError, Global};
 use std::marker::Model;
 
@@ -48,7 +48,7 @@ impl Model for Actors {
       subscriptions = map subscription_parts actors.subscriptions.items;
     } };
 
-    ghost invariant = { λ actors. (actors.window ≡ 1)
+    ghost invariant = { λ actors. (actors.window ≡ Limits.WINDOW_TODAY)
         × (length actors.subscriptions.items ≡ length actors.broker.queues) };
 }
 
@@ -59,7 +59,7 @@ impl Actors {
         bindings: Vec<Binding>,
         window: usize,
     ) -> Result<Actors, AllocError>
-        requires { window ≡ 1 }
+        requires { window ≡ Limits.WINDOW_TODAY }
         ensures { IfOk result (λ actors. actors ≡ empty_actors bindings.items window) }
     {
         let subscriptions = empty_subscriptions(alloc, bindings.len())?;
@@ -84,7 +84,7 @@ impl Actors {
     /// For how many events a session waits at a time.
     pub(crate) fn window(&self) -> usize
         ensures value { result ≡ self.now.window }
-        ensures one { result ≡ 1 }
+        ensures one { result ≡ Limits.WINDOW_TODAY }
     {
         self.window
     }

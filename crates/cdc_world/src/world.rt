@@ -17,7 +17,7 @@ use cdc_match::Binding;
 use cdc_progress::{Progress, ProgressStore, StoreError};
 use cdc_publisher::Session;
 use cdc_subscriber::Subscriber;
-use cdc_types::Step;
+use cdc_types::{Limits, Step};
 use std::alloc::{AllocError, Global};
 use std::marker::Model;
 
@@ -64,7 +64,7 @@ impl<S: ProgressStore + Drop> World<S> {
         window: usize,
         store: S,
     ) -> Result<World<S>, AllocError>
-        requires { window ≡ 1 }
+        requires { window ≡ Limits.WINDOW_TODAY }
         ensures stands { IfOk result (λ world. Stands world (new_world bindings.items window (S.held store))) }
         ensures honest { IfOk result (λ world. world.honest ≡ S.is_honest store) }
     {
