@@ -4,14 +4,18 @@
   tests/streams.py [PROGRAM]    PROGRAM: crates/cdc_app/out/cdc_app
 
 A socket whose peer resets the connection gives what was sent, then one failure, then the end: a program that went on
-reading after the failure would see a whole script. A pipe that nobody empties takes what fits, and then refuses.
+reading after the failure would see a whole script. A stop interrupts a read. A pipe that nobody empties takes what fits,
+and then refuses.
 """
 import fcntl
 import os
+import signal
 import socket
+import struct
 import subprocess
 import sys
 import tempfile
+import time
 
 HERE = os.path.dirname(os.path.realpath(__file__))
 # A script whose book is good, and says so.
@@ -26,7 +30,7 @@ def same(what, wanted, found):
     global checks
     checks += 1
     if wanted != found:
-        failures.append(f"failed: {what}\n  wanted: {wanted[:300]!r}\n  found:  {found[:300]!r}" if isinstance(wanted, bytes) else f"failed: {what}: wanted {wanted}, found {found}")
+        failures.append(f"failed: {what}\n  wanted: {repr(wanted)[:300]}\n  found:  {repr(found)[:300]}")
 
 
 def broken_stream(text):
@@ -68,6 +72,29 @@ def reads_that_fail():
             same(f"{words[0]}, a read that fails: why", True, b"standard input" in ran.stderr and b"reset" in ran.stderr)
 
 
+def a_read_that_is_interrupted():
+    """It is a failed read, and isn't tried again. A stop interrupts a read from a socket with a time limit."""
+    sender, reader = socket.socketpair()
+    reader.setsockopt(socket.SOL_SOCKET, socket.SO_RCVTIMEO, struct.pack("ll", SECONDS, 0))
+    sender.sendall(SCRIPT)
+    how = {"stdin": reader, "stdout": subprocess.PIPE, "stderr": subprocess.PIPE}
+    with subprocess.Popen([program, "books", "-"], **how) as process:
+        # once it has begun, it waits for more of the script, and the first stop ends it
+        for _ in range(30):
+            time.sleep(0.1)
+            if process.poll() is not None:
+                break
+            process.send_signal(signal.SIGSTOP)
+            time.sleep(0.1)
+            process.send_signal(signal.SIGCONT)
+        sender.close()
+        out, err = process.communicate(timeout=SECONDS)
+    reader.close()
+    same("an interrupted read: status", 1, process.returncode)
+    same("an interrupted read: standard output", b"fault: read_fault\n", out)
+    same("an interrupted read: why", True, b"nterrupted" in err)
+
+
 def crowded_script():
     """A script with a long report: its accounts come to more than a page."""
     accounts = b"".join(b"account id=%d ledger=1 code=1\n" % it for it in range(1, 601))
@@ -100,6 +127,7 @@ def writes_that_fail():
 program = os.path.realpath(sys.argv[1] if len(sys.argv) > 1 else f"{HERE}/../crates/cdc_app/out/cdc_app")
 behaviour_of_a_broken_stream()
 reads_that_fail()
+a_read_that_is_interrupted()
 writes_that_fail()
 for it in failures:
     print(it)

@@ -1,13 +1,15 @@
 #!/usr/bin/env python3
 """Tries the wrong bodies of each crate, crates/NAME/must-fail/*.edit: the prover must refuse each of them.
 
-  tests/wrong_bodies.py [--jobs N] [--proved] [--kept] [NAME..]    at the top of the repository; no NAME: all crates with edits
+  tests/wrong_bodies.py [--jobs N] [--proved] [--kept] [NAME..]
+
+It runs at the top of the repository; with no NAME it takes each crate that has edits.
 
 `rt must-fail` checks a crate once for each edit. A caller sees contracts alone, so edits in different functions don't
 touch each other: here they are applied all at once to a copy of the crate, the copy is checked once, and for each edit
 it is read whether its own function was refused. docs/GATE.md has the rules. The crates below are proved first where
-they aren't; --proved says that `rt ci` has just proved this tree, and takes the libraries that it left. A crate itself is
-proved from nothing; with --kept over a copy of what its earlier checks kept in out/, which takes less, and trusts that.
+they aren't; --proved says that `rt ci` has just proved this tree, and takes the libraries that it left. A crate itself
+is proved from nothing; with --kept over a copy of what its earlier checks kept in out/, which is quicker.
 
 The last line is 'N passed, M failed'; the status is 0 where nothing failed, and 1 else. Needs Python 3.8 or later.
 """
@@ -156,13 +158,14 @@ def functions_of(crate_name, file, tokens):
 
 
 def outside(tokens, functions):
-    """Returns what a caller may see of a file: its tokens without the functions' bodies, and without `mut` of a parameter."""
+    """Returns what a caller may see of a file: its tokens, but no body and no `mut` of a parameter."""
     left, place = [], 0
     for it in functions:
         left += [token.text for token in tokens[place : it.tokens[1]]]
         place = it.tokens[2] + 1
     left += [token.text for token in tokens[place:]]
-    return [it for at, it in enumerate(left) if it != "mut" or left[at - 1] not in ("(", ",") or left[at + 2 : at + 3] != [":"]]
+    is_pattern = lambda at: left[at - 1] in ("(", ",") and left[at + 2 : at + 3] == [":"]
+    return [it for at, it in enumerate(left) if it != "mut" or not is_pattern(at)]
 
 
 def body_of(tokens, function):
@@ -211,7 +214,7 @@ class Sources:
         return ["const", "fn"] in [[a.text, b.text] for a, b in zip(head, head[1:])]
 
     def with_changes(self, changes):
-        """Returns the texts of the files with these changes, one for a function, and of each changed function its lines there."""
+        """Returns the texts of the files with these changes, and in which lines each changed function is there."""
         texts, lines = {}, {}
         for file in {it.file for it in changes}:
             text, done, place = self.texts[file], b"", 0
@@ -291,7 +294,7 @@ class Answer:
         return [it for it in self.lines if at.match(it)]
 
     def open_goals(self, path, lines):
-        """Returns the notes on goals of a function that weren't proved, which stand right above its line, and whose places are in its lines."""
+        """Returns the notes on open goals that stand right above a function's line, and whose places are in its text."""
         file, first, last = lines
         found = []
         for it in self.notes.get(path, []):
@@ -301,7 +304,7 @@ class Answer:
         return found
 
     def of(self, path, lines=("", 0, 0)):
-        """Returns how a function came out, and the first line of the reason; lines are the file and the lines of its text."""
+        """Returns how a function came out, and the first line of the reason; lines say where its text stands."""
         if [len(self.said.get(path, []))] != [1]:
             return UNCLEAR, "it has not one line in the check"
         words = [(it, line) for it in self.own(path) for line in self.said[it]]
@@ -309,7 +312,8 @@ class Answer:
             return PROVED, ""
         errors = [line for it, _ in words for line in self.errors_in_proofs(it) if not FOLLOWS.search(line)]
         told = [line for line in errors if not NAME_IS_GONE.search(line)]
-        told += [goal for it, line in words if line.startswith(("no proof", "not proved")) for goal in self.open_goals(it, lines)]
+        for it, line in words:
+            told += self.open_goals(it, lines) if line.startswith(("no proof", "not proved")) else []
         told += [line for _, line in words if re.match(r"(no|not) proved?\b.*did not prove", line)]
         if told:
             return REFUSED, told[0]
@@ -350,7 +354,7 @@ class Trial:
     def put(self, edit, passed, text):
         self.results[edit.name] = Result(passed, f"wrong body {self.crate.name}/{edit.name}: {text}")
 
-    def fail_all(self, text):
+    def failure(self, text):
         return [Result(False, f"wrong bodies of {self.crate.name}: {text}")]
 
     def run(self):
@@ -359,8 +363,9 @@ class Trial:
             return []
         first = self.check({})
         if first.is_stale or not first.is_proved:
-            return self.fail_all(f"the crate itself is not proved, so nothing was tried: {first.first_line()}")
-        results = [Result(False, f"{os.path.relpath(it, self.crate.folder)}: BAD EDIT: an edit stands right in must-fail/, and ends in .edit") for it in bad]
+            return self.failure(f"the crate itself is not proved, so nothing was tried: {first.first_line()}")
+        why = "BAD EDIT: an edit stands right in must-fail/, and ends in .edit"
+        results = [Result(False, f"{os.path.relpath(it, self.crate.folder)}: {why}") for it in bad]
         edits = [it for it in map(self.read, good) if it]
         # a function that the check doesn't name once can't be told apart
         in_group = lambda it: it.change and first.of(it.change.function.path)[0] == PROVED
@@ -371,9 +376,10 @@ class Trial:
             self.try_alone(it)
         last = self.check({})
         if last.is_stale or not last.is_proved:
-            return self.fail_all("over the kept work the crate itself is not proved, so no answer counts")
-        missing = [Result(False, f"wrong body {self.crate.name}/{it}: it was not tried") for it in map(os.path.basename, good) if it not in self.results]
-        return results + [self.results[it] for it in sorted(self.results)] + missing
+            return self.failure("over the kept work the crate itself is not proved, so no answer counts")
+        for it in map(os.path.basename, good):
+            self.results.setdefault(it, Result(False, f"wrong body {self.crate.name}/{it}: it was not tried"))
+        return results + [self.results[it] for it in sorted(self.results)]
 
     def read(self, path):
         """Reads an edit file, and says so where it can't be applied."""
@@ -391,8 +397,8 @@ class Trial:
         return edit
 
     def groups(self, edits, first):
-        """Parts the edits into groups, each with one edit of a function at the most, and chooses the two functions of each group that it
-        gives besides: one for the harmless statement, one for the statement that has to be refused."""
+        """Parts the edits into groups, each with one edit of a function at the most. With each group come two functions
+        more, one for the statement that does no harm, one for the statement that has to be refused."""
         while edits:
             group, taken, left = [], set(), []
             for it in edits:
@@ -404,13 +410,13 @@ class Trial:
                 spare = self.spare(group, first)
             if not group:
                 for it in left:
-                    self.put(it, False, "CANNOT BE TOLD: no function is left for the harmless edit and the one that has to be refused")
+                    self.put(it, False, "CANNOT BE TOLD: no function is left for the two edits that test its group")
                 return
             yield group, spare
             edits = left
 
     def spare(self, group, first):
-        """Returns a function for the harmless statement, which calls none of those that the group edits, and one for the control."""
+        """Returns a function for the harmless statement, which calls no edited one, and one for the control."""
         taken = {it.change.function for it in group}
         free = [
             it
@@ -440,22 +446,23 @@ class Trial:
                 break
             bad = set() if answer.is_stale else self.unreadable(group)
             if not bad:
-                why = "the kept work of a library could not be used" if answer.is_stale else (unread or [answer.first_line()])[0][:200]
+                why = (unread or [answer.first_line()])[0][:200]
+                why = "the kept work of a library could not be used" if answer.is_stale else why
                 for it in group:
                     self.put(it, False, f"CANNOT BE TOLD: the check of its group gave no answer: {why}")
                 return []
             group = [it for it in group if it.name not in bad]
         results = []
         if answer.of(harmless.path)[0] != PROVED:
-            results.append(Result(False, f"wrong bodies of {self.crate.name}: the harmless edit of {harmless.path} was refused, so no answer of its group counts"))
+            results += self.failure(f"a harmless edit of {harmless.path} was refused, so its group counts for nothing")
         if answer.of(control.path, lines[control])[0] != REFUSED:
-            results.append(Result(False, f"wrong bodies of {self.crate.name}: the false statement in {control.path} was let through, so no answer of its group counts"))
+            results += self.failure(f"a false edit of {control.path} was let through, so its group counts for nothing")
         for it in group:
             self.tell(it, answer, lines[it.change.function])
         return results
 
     def unreadable(self, group):
-        """Finds the edits of a group that don't compile or can't be read, each tried by itself, says so, and returns their names."""
+        """Finds the edits of a group that don't compile or can't be read, says so, and returns their names."""
         texts = {it.name: self.sources.with_changes([it.change])[0] for it in group}
         # (a look that proves nothing takes seconds, and sees all but what antt can't read)
         quick = {name: self.check(it, ["--only", ""]) for name, it in texts.items()}
@@ -476,8 +483,8 @@ class Trial:
         if how == REFUSED:
             self.put(edit, True, f"refused: {why[:160]}")
         elif how == NAMES_ONLY:
-            few = "only because a proof file names what the edit took away, so this says little of the contract: change a value and keep the names"
-            self.put(edit, True, f"refused ({few}): {why[:160]}")
+            little = "only because a proof file names what the edit took away, so this says little of the contract"
+            self.put(edit, True, f"refused ({little}: change a value and keep the names): {why[:160]}")
         elif how == PROVED:
             self.put(edit, False, f"NOT REFUSED: {path} is proved with this edit")
         elif how == CALLS:
@@ -518,9 +525,9 @@ def libraries(crates, are_proved):
 
 def main():
     read = argparse.ArgumentParser(description=__doc__, formatter_class=argparse.RawDescriptionHelpFormatter)
-    read.add_argument("--jobs", type=int, help="how many crates at a time; else RT_JOBS, or as processors and memory allow")
+    read.add_argument("--jobs", type=int, help="how many crates at a time, else RT_JOBS or as many as there is room for")
     read.add_argument("--proved", action="store_true", help="takes the libraries that `rt ci` has just left")
-    read.add_argument("--kept", action="store_true", help="begins with the work that earlier checks kept in out/, for a quick look")
+    read.add_argument("--kept", action="store_true", help="begins with what earlier checks kept in out/: a quick look")
     read.add_argument("names", nargs="*", metavar="NAME")
     said = read.parse_args()
     if said.jobs:
@@ -559,11 +566,12 @@ def main():
     missing = libraries(crates, said.proved)
     for crate in missing:
         waits = [(it.name, "proof") for it in crate.below() if it in missing]
-        tasks[crate.name, "proof"] = (waits, crate.count(rb"\n"), rt.need(crate), lambda given, jobs, it=crate: build(it))
+        call = lambda given, jobs, it=crate: build(it)
+        tasks[crate.name, "proof"] = (waits, crate.count(rb"\n"), rt.need(crate), call)
     for crate in crates:
         waits = [(it.name, "proof") for it in crate.below() if it in missing]
-        lines = 2 * crate.count(rb"\n")
-        tasks[crate.name, "edits"] = (waits, lines, rt.need(crate), lambda given, jobs, it=crate: attempt(it, given))
+        call = lambda given, jobs, it=crate: attempt(it, given)
+        tasks[crate.name, "edits"] = (waits, 2 * crate.count(rb"\n"), rt.need(crate), call)
     given = rt.in_lanes(tasks)
     results = [it for key, found in given.items() if key[1] == "edits" for it in found]
     passed, failed = sum(it.passed for it in results), sum(not it.passed for it in results)

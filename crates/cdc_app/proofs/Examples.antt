@@ -1,9 +1,7 @@
 -- The definitions at work: what they compute for small scripts, beside what the rules say in words.
-use Rattle.std.specs.Prelude.{ℕ, ◌≡◌, Result, Ok, Err, List, [], ◌∷◌, ◌++◌, codes}
+use Rattle.std.specs.Prelude.{ℕ, ◌≡◌, true, Ok, Err, List, [], ◌∷◌, ◌++◌, codes}
 use Rattle.std.proofs.Common.{refl}
 use Rattle.std.specs.Fmt.{digits}
-use Rattle.cdc_types.specs.declared.accounts.NewAccount.{NewAccount}
-use Rattle.cdc_types.specs.declared.batches.Batch.TheVariants as batch
 use Rattle.cdc_types.specs.declared.batches.BatchResults.TheVariants as results
 use Rattle.cdc_types.specs.declared.events.Event.{Event}
 use Rattle.cdc_types.specs.declared.events.EventAccount.{EventAccount}
@@ -14,16 +12,11 @@ use Rattle.cdc_match.specs.declared.pairs.Mode.TheVariants as mode
 use Rattle.cdc_match.specs.declared.pairs.Pair.TheVariants as pair
 use Rattle.cdc_message.specs.Bodies.{body}
 use Rattle.cdc_app.specs.declared.endings.Ending.TheVariants.{Done, BadScript}
-use Rattle.cdc_script.specs.declared.faults.FaultKind.{FaultKind}
 use Rattle.cdc_script.specs.declared.faults.FaultKind.TheVariants as kind
-use Rattle.cdc_script.specs.declared.faults.ScriptFault.{ScriptFault}
-use Rattle.cdc_script.specs.declared.scripts.Script.{Script}
-use Rattle.cdc_app.specs.Feeds.{line_of, subscribers_text}
-use Rattle.cdc_app.specs.Held.{every_event}
-use Rattle.cdc_app.specs.Printed.{outcome_of}
-use Rattle.cdc_app.specs.declared.commands.Report.TheVariants.{Books, Messages}
+use Rattle.cdc_laws.specs.Line.{told}
+use Rattle.cdc_app.specs.Feeds.{subscribers_text}
+use Rattle.cdc_app.specs.Printed.{books_outcome, messages_outcome}
 use Rattle.cdc_app.specs.Report.{batch_line}
-use Rattle.cdc_script.specs.Scripts.{script_of}
 
 -- the lines of batches
 prints_batches : (batch_line 2 (Ok (results.Transfers (Accepted ∷ OverflowsDebitsPosted ∷ [])))
@@ -77,8 +70,8 @@ abbrev two_events : List Event
 two_events = event 2000 (side 2 5 0) (side 1 0 5) ∷ event 2001 (side 1 7 5) (side 3 0 7) ∷ []
 
 -- what two subscribers print of these events: one of every event, and one of those of another ledger
-prints_subscribers : subscribers_text 1 (line_of two_events)
-    (every_event ∷ record { mode = mode.All; pairs = pair.Ledger 800 ∷ [] } ∷ [])
+prints_subscribers : subscribers_text 1 (told two_events true)
+    (record { mode = mode.All; pairs = [] } ∷ record { mode = mode.All; pairs = pair.Ledger 800 ∷ [] } ∷ [])
     ≡ codes "subscriber 1 applied 2 last 2001 ended yes closed no\n"
     ++ codes "account 2 0 5 0 0\naccount 1 0 7 0 5\naccount 3 0 0 0 7\n"
     ++ codes "subscriber 2 applied 0 last 0 ended yes closed no\n"
@@ -93,7 +86,7 @@ one_transfer =
     ++ codes "transfer id=1 debit_account_id=1 credit_account_id=2 amount=100 ledger=700 code=1\n"
 
 -- from bytes to bytes: the book of one transfer
-prints_transfer : outcome_of Books one_transfer ≡ record {
+prints_transfer : books_outcome one_transfer ≡ record {
   text = codes "batch 1: 0 0\nbatch 2: 0\nsubscriber 1 applied 1 last 2000 ended yes closed no\n"
       ++ codes "account 1 0 100 0 0\naccount 2 0 0 0 100\n";
   ending = Done;
@@ -121,13 +114,13 @@ its_body =
     ++ codes "\"user_data_32\":0,\"user_data_64\":\"0\"},\"type\":\"single_phase\"}"
 
 -- from bytes to bytes: the message of one transfer
-prints_message : outcome_of Messages one_transfer
+prints_message : messages_outcome one_transfer
     ≡ record { text = its_headers ++ codes "\n" ++ (its_body ++ codes "\n"); ending = Done }
 unfolding digits body
 prints_message = refl
 
 -- from bytes to bytes: a bad script
-prints_fault : outcome_of Messages (codes "subscriber all\naccounts x") ≡ record {
+prints_fault : messages_outcome (codes "subscriber all\naccounts x") ≡ record {
   text = codes "fault: script line 2: bad_number\n";
   ending = BadScript (record { line = 2; kind = kind.BadNumber });
 }

@@ -1,22 +1,28 @@
 -- Queues of a broker that are filled, one item after another, and taken, one delivery after another.
 use Rattle.std.proofs.Common.{◌≡◌, ℕ, ◌+◌, ◌-◌, ◌<◌, ◌≤◌, Bool, true, false, List, [], ◌∷◌, ◌++◌, Option, Some, None, refl, sym, ap, ap₂, ◌∙◌, map, length, take, append-nil, arith}
-use Rattle.std.specs.Prelude.{slice_get, slice_set, option_map, if◌then◌else◌, IsTrue, ◌↔◌}
-use Rattle.std.proofs.lemmas.Bool.{lt-ltb, false≢true}
+use Rattle.std.specs.Prelude.{Ok, slice_get, slice_set, option_map, if◌then◌else◌}
+use Rattle.std.proofs.lemmas.Bool.{eq-eqb, lt-ltb, false≢true}
 use Rattle.std.proofs.lemmas.List.{set-get_or, get_or-set_same, set-set, take_all, map_push}
 use Rattle.std.proofs.lemmas.List.Sums.{fold-append}
 use Rattle.std.proofs.lemmas.Option.{unwrap_or-slice_get}
-use Rattle.cdc_broker.specs.Broker.{BrokerState, connected, empty_broker, published, queue_of, with_queue, tag_after, max_64, nobody}
-use Rattle.cdc_broker.specs.Queues.{QueueState, empty_queue, moved_on, next_delivery, queued, with_item}
+use Rattle.cdc_broker.specs.declared.broker.Taken.{Taken}
+use Rattle.cdc_broker.specs.declared.broker.Taken.TheVariants.{Accepted, Ignored}
+use Rattle.cdc_broker.specs.Broker.{BrokerState, Publishes, connected, empty_broker, published, queue_of, takes_packet, with_queue, nobody}
+use Rattle.cdc_broker.specs.Cursors.{Cursor, first_cursor}
+use Rattle.cdc_broker.specs.Packets.{tag_after}
+use Rattle.cdc_broker.specs.Queues.{QueueState, empty_queue, next_delivery, queued, with_delivery, with_item}
 use Rattle.cdc_match.specs.Arguments.{Arguments}
 use Rattle.cdc_match.specs.Queue.{takes_item}
 use Rattle.cdc_message.specs.declared.items.Delivery.{Delivery}
 use Rattle.cdc_message.specs.declared.items.Item.{Item}
 use Rattle.cdc_message.specs.declared.items.Item.TheVariants.{Event as OfEvent, EndMark}
+use Rattle.cdc_message.specs.declared.packets.Packet.TheVariants.{Connect, Publish}
 use Rattle.cdc_types.specs.declared.events.Event.{Event}
+use Rattle.cdc_types.specs.Widths.{max_64}
 use Rattle.cdc_subscriber.specs.Heard.{nothing, next, kept_of}
 use Rattle.cdc_subscriber.specs.Kept.{Kept}
 use Rattle.cdc_app.specs.Feeds.{hearing}
-use Rattle.cdc_app.specs.Private.Queues.{TakesNext, filled, filled_queues, with_delivery}
+use Rattle.cdc_app.specs.Private.Queues.{TakesNext, filled, filled_queues, hearing_delivery}
 use Rattle.cdc_app.proofs.Places.{take_found}
 use Rattle.std.proofs.lemmas.List.Elements.{filter-append}
 
@@ -54,15 +60,26 @@ pub record IsFilled (told : List Event) (bindings : List Arguments) (place : ℕ
 -- under the first connection, before anything is published
 pub IsFilled-connected : (told : List Event) (bindings : List Arguments) (b : Bool) (s s' : BrokerState)
     → s ≡ empty_broker bindings
-    → (IsTrue b ↔ (s.connection < 1)) → s' ≡ (if b then connected 1 s else s) → IsFilled told bindings 0 s'
+    → b ≡ takes_packet s (Connect 1) → s' ≡ (if b then connected 1 s else s) → IsFilled told bindings 0 s'
 IsFilled-connected told bindings true s s' new taken is = record {
   connection = ap (λ (x : BrokerState). x.connection) is;
   expected = ap (λ (x : BrokerState). x.expected) is;
   queues = ap (λ (x : BrokerState). x.queues) is ∙ ap (λ (x : BrokerState). x.queues) new;
 }
 IsFilled-connected told bindings false s s' new taken is =
-    let first : s.connection < 1 = omega (arith, ap (λ (x : BrokerState). x.connection) new) in
-    absurd (false≢true (taken.1 first))
+    absurd (false≢true (taken ∙ ap (λ (x : BrokerState). takes_packet x (Connect 1)) new))
+
+-- the item of the next tag is taken
+next_tag_taken : (s : BrokerState) (tag : ℕ) (item : Item) → s.connection ≡ 1 → s.expected ≡ Some tag
+    → takes_packet s (Publish 1 tag item) ≡ true
+next_tag_taken s tag item connected next = rw (connected, next) (eq-eqb tag tag refl)
+
+-- so a publish under it, where it is answered, is done
+pub published_next : (s s' : BrokerState) (tag : ℕ) (item : Item) (taken : Taken) → s.connection ≡ 1
+    → s.expected ≡ Some tag → Publishes s 1 tag item (Ok taken) s' → s' ≡ published tag item s
+published_next s s' tag item Accepted connected next publishes = publishes.1
+published_next s s' tag item (Ignored why) connected next publishes =
+    absurd (false≢true (sym publishes.0 ∙ next_tag_taken s tag item connected next))
 
 -- one more item was published
 published-queues : (tag : ℕ) (item : Item) (items : List Item) (bindings : List Arguments) (s s' : BrokerState)
@@ -115,28 +132,28 @@ pub record IsTaking (i counter : ℕ) (old now : BrokerState) (subscriber : Kept
   pub queue : QueueState
   pub now_is : now ≡ with_queue i queue old
   pub items : queue.items ≡ (queue_of old i).items
-  pub cursor : queue.cursor ≡ counter + 1
+  pub cursor : queue.cursor.next ≡ counter + 1
   pub heard : subscriber ≡ kept_of (hearing (take counter (queue_of old i).items))
 
 -- nothing was taken yet, and nothing heard
-pub IsTaking-none : (i : ℕ) (old : BrokerState) (subscriber : Kept) → (queue_of old i).cursor ≡ 1
+pub IsTaking-none : (i : ℕ) (old : BrokerState) (subscriber : Kept) → (queue_of old i).cursor ≡ first_cursor
     → subscriber ≡ kept_of nothing
     → IsTaking i 0 old old subscriber
 IsTaking-none i old subscriber untaken new = record {
   queue = queue_of old i;
   now_is = sym (with_queue_same old i);
   items = refl;
-  cursor = untaken;
+  cursor = ap (λ (x : Cursor). x.next) untaken;
   heard = new;
 }
 
 -- what is handed out next at a place that is there
-next_at : (q : QueueState) (counter : ℕ) (item : Item) → q.cursor ≡ counter + 1 → slice_get q.items counter ≡ Some item
-    → next_delivery q ≡ Some (record { position = q.cursor; item = item })
+next_at : (q : QueueState) (counter : ℕ) (item : Item) → q.cursor.next ≡ counter + 1 → slice_get q.items counter ≡ Some item
+    → next_delivery q ≡ Some (record { position = q.cursor.next; item = item })
 next_at q counter item at found =
-    let place : q.cursor - 1 ≡ counter = omega (arith, at) in
-    ap (λ n. option_map (λ (x : Item). record { position = q.cursor; item = x }) (slice_get q.items n)) place
-    ∙ ap (option_map (λ (x : Item). record { position = q.cursor; item = x })) found
+    let place : q.cursor.next - 1 ≡ counter = omega (arith, at) in
+    ap (λ n. option_map (λ (x : Item). record { position = q.cursor.next; item = x }) (slice_get q.items n)) place
+    ∙ ap (option_map (λ (x : Item). record { position = q.cursor.next; item = x })) found
 
 -- one more item is heard
 hearing-push : (items : List Item) (item : Item) → hearing (items ++ item ∷ []) ≡ next (hearing items) item
@@ -151,19 +168,19 @@ IsTaking-more i counter old now new before after item inside taking found takes 
     let q = taking.queue in
     let this : queue_of now i ≡ q = ap (λ s. queue_of s i) taking.now_is ∙ queue_of-with_queue old i q inside in
     let there : slice_get q.items counter ≡ Some item = ap (λ xs. slice_get xs counter) taking.items ∙ found in
-    let given : next_delivery (queue_of now i) ≡ Some (record { position = q.cursor; item = item }) =
+    let given : next_delivery (queue_of now i) ≡ Some (record { position = q.cursor.next; item = item }) =
     ap next_delivery this ∙ next_at q counter item taking.cursor there in
     record {
-      queue = moved_on (Some (record { position = q.cursor; item = item })) q;
+      queue = with_delivery (Some (record { position = q.cursor.next; item = item })) q;
       now_is = takes.0
-          ∙ ap₂ (λ (d : Option Delivery) (x : QueueState). with_queue i (moved_on d x) now) given this
-          ∙ ap (λ (s : BrokerState). with_queue i (moved_on (Some (record { position = q.cursor; item = item })) q) s)
+          ∙ ap₂ (λ (d : Option Delivery) (x : QueueState). with_queue i (with_delivery d x) now) given this
+          ∙ ap (λ (s : BrokerState). with_queue i (with_delivery (Some (record { position = q.cursor.next; item = item })) q) s)
           taking.now_is
           ∙ with_queue_twice old i q _;
       items = taking.items;
       cursor = ap (λ n. n + 1) taking.cursor;
       heard = takes.1 (hearing (take counter (queue_of old i).items)) taking.heard
-          ∙ ap (λ (d : Option Delivery). kept_of (with_delivery d (hearing (take counter (queue_of old i).items))))
+          ∙ ap (λ (d : Option Delivery). kept_of (hearing_delivery d (hearing (take counter (queue_of old i).items))))
           given
           ∙ ap kept_of (sym (hearing-push (take counter (queue_of old i).items) item))
           ∙ ap (λ xs. kept_of (hearing xs)) (sym (take_found (queue_of old i).items counter item found));

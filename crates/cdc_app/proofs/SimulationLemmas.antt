@@ -1,6 +1,7 @@
 -- Simulations, act by act, and the subscribers of a world, one after another.
 use Rattle.std.proofs.Common.{◌≡◌, ◌∙◌, ℕ, ◌+◌, ◌-◌, List, [], ◌∷◌, ◌++◌, Some, None, true, false, drop, append_assoc, append-nil, refl, sym, ap, ap₂, subst, inl, inr, arith, rules}
-use Rattle.std.specs.Prelude.{Option, Ok, Err, ◌==◌, is_some, string_bytes}
+use Rattle.std.specs.Prelude.{IfOk, Option, Ok, Err, Result, ◌==◌, is_some, option_map, string_bytes}
+use Rattle.std.specs.declared.alloc.AllocError.{AllocError}
 use Rattle.std.specs.List.{slice_get}
 use Rattle.std.proofs.lemmas.List.{drop_more}
 use Rattle.std.proofs.lemmas.Option.{slice_get_within, get_or_from_slice_get}
@@ -9,7 +10,8 @@ use Rattle.cdc_subscriber.specs.Heard.{kept_of}
 use Rattle.cdc_subscriber.specs.Kept.{Kept}
 use Rattle.cdc_subscriber.specs.Lines.{subscriber_text}
 use Rattle.cdc_world.specs.declared.steps.Did.{Did}
-use Rattle.cdc_world.specs.declared.steps.Step.{Step}
+use Rattle.cdc_types.specs.declared.steps.Step.{Step}
+use Rattle.cdc_types.specs.declared.steps.Step.TheVariants as step
 use Rattle.cdc_world.specs.declared.steps.StepError.{StepError}
 use Rattle.cdc_world.specs.Next.{Next}
 use Rattle.cdc_world.specs.Stands.{Parts, Stands}
@@ -17,8 +19,9 @@ use Rattle.cdc_world.specs.Worlds.{Subscription, WorldState, numbered}
 use Rattle.cdc_script.specs.declared.scripts.ClientBatch.{ClientBatch}
 use Rattle.cdc_app.specs.declared.simulations.Simulation.{Simulation}
 use Rattle.cdc_script.specs.declared.step_files.Act.{Act}
+use Rattle.cdc_script.specs.declared.step_files.Act.TheVariants as act
 use Rattle.cdc_app.specs.Private.Stages.{IsAt}
-use Rattle.cdc_app.specs.Simulations.{ActsTo, AnswersTo, PlaysTo, Stage, asked, did_text, moved_on, progress_line, refusal_line, simulation_text, steps_line, subscriptions_text}
+use Rattle.cdc_app.specs.Simulations.{ActsTo, AnswersTo, PlaysActs, Stage, after_act, did_text, step_for, progress_line, refusal_line, simulation_text, steps_line, subscriptions_text}
 use Rattle.cdc_app.proofs.TextLemmas.{pieces}
 
 -- the element at a place, and those behind it
@@ -61,8 +64,8 @@ pub record HasCome (batches : List ClientBatch) (acts : List Act) (before : Stag
   pub here : Stage
   pub at : IsAt simulation here
   pub done : here.done ≡ place
-  pub on : (refusal : Option StepError) (end : Stage) → PlaysTo batches here (drop place acts) refusal end
-      → PlaysTo batches before acts refusal end
+  pub on : (refusal : Option StepError) (end : Stage) → PlaysActs batches here (drop place acts) refusal end
+      → PlaysActs batches before acts refusal end
 
 -- an act counts
 acts_count : (before : Stage) (want : Option (Step × ℕ)) (after : Stage) → AnswersTo before want None after
@@ -77,8 +80,8 @@ pub HasCome-more : (batches : List ClientBatch) (acts : List Act) (before : Stag
 HasCome-more batches acts before place old new a after found come at acted = record {
   here = after;
   at = at;
-  done = acts_count come.here (asked batches come.here.batches a) after acted ∙ ap (λ n. n + 1) come.done;
-  on = λ refusal end plays. come.on refusal end (subst (λ xs. PlaysTo batches come.here xs refusal end)
+  done = acts_count come.here (step_for batches come.here.batches a) after acted ∙ ap (λ n. n + 1) come.done;
+  on = λ refusal end plays. come.on refusal end (subst (λ xs. PlaysActs batches come.here xs refusal end)
       (sym (drop_found acts place a found)) (inr (after, (acted, plays))));
 }
 
@@ -86,9 +89,9 @@ HasCome-more batches acts before place old new a after found come at acted = rec
 pub played_to : (batches : List ClientBatch) (acts : List Act) (before : Stage) (place : ℕ) (old : Simulation)
     (a : Act) (why : StepError) (end : Stage) → slice_get acts place ≡ Some a
     → (come : HasCome batches acts before place old) → ActsTo batches come.here a (Some why) end
-    → PlaysTo batches before acts (Some why) end
+    → PlaysActs batches before acts (Some why) end
 played_to batches acts before place old a why end found come acted =
-    come.on (Some why) end (subst (λ xs. PlaysTo batches come.here xs (Some why) end)
+    come.on (Some why) end (subst (λ xs. PlaysActs batches come.here xs (Some why) end)
     (sym (drop_found acts place a found)) (inl (why, (refl, acted))))
 
 -- a refusal leaves the count of the acts that are done
@@ -102,14 +105,14 @@ pub stopped_count : (batches : List ClientBatch) (acts : List Act) (before : Sta
     (a : Act) (why : StepError) (end : Stage) → (come : HasCome batches acts before place old)
     → ActsTo batches come.here a (Some why) end → end.done ≡ place
 stopped_count batches acts before place old a why end come acted =
-    refused_count come.here (asked batches come.here.batches a) why end acted ∙ come.done
+    refused_count come.here (step_for batches come.here.batches a) why end acted ∙ come.done
 
 -- the loop ends at a refusal
 pub stopped : (batches : List ClientBatch) (acts : List Act) (before : Stage) (place : ℕ) (old new : Simulation)
     (a : Act) (refusal : Option StepError) → slice_get acts place ≡ Some a → is_some refusal ≡ true
     → (come : HasCome batches acts before place old)
     → ((after : Stage) × (IsAt new after × ActsTo batches come.here a refusal after))
-    → (end : Stage) × (IsAt new end × ((end.done ≡ place) × PlaysTo batches before acts refusal end))
+    → (end : Stage) × (IsAt new end × ((end.done ≡ place) × PlaysActs batches before acts refusal end))
 stopped batches acts before place old new a None found some come acted = cc
 stopped batches acts before place old new a (Some why) found some come acted = (
   acted.0,
@@ -132,42 +135,49 @@ went_on batches acts before place old new a None found none come acted =
     HasCome-more batches acts before place old new a acted.0 found come acted.1.0 acted.1.1
 went_on batches acts before place old new a (Some why) found none come acted = cc
 
--- the step that is asked for stands in the stage as in the simulation
-asked_at : (batches : List ClientBatch) (old : Simulation) (stage : Stage) (a : Act) (want : Option (Step × ℕ))
-    → IsAt old stage → want ≡ asked batches old.batches a → want ≡ asked batches stage.batches a
-asked_at batches old stage a want at named = named ∙ ap (λ n. asked batches n a) at.batches
+-- what a step that was taken says of an act that asks for it
+pub act_answered : (batches : List ClientBatch) (stage : Stage) (a : Act) (want : Option (Step × ℕ)) (new : Simulation)
+    (result : Result (Option StepError) AllocError) → want ≡ step_for batches stage.batches a
+    → IfOk result (λ refusal. (after : Stage) × (IsAt new after × AnswersTo stage want refusal after))
+    → IfOk result (λ refusal. (after : Stage) × (IsAt new after × ActsTo batches stage a refusal after))
+act_answered batches stage a want new result is answered =
+    subst (λ x. IfOk result (λ refusal. (after : Stage) × (IsAt new after × AnswersTo stage x refusal after)))
+    is answered
+
+-- `batch` asks for the next batch of the script
+pub next_batch : (batches : List ClientBatch) (n m : ℕ) (b : ClientBatch) → slice_get batches n ≡ Some b → n ≡ m
+    → Some (step.Submit b.batch, n + 1) ≡ step_for batches m act.Batch
+next_batch batches n m b found same =
+    sym (ap (option_map (λ (x : ClientBatch). (step.Submit x.batch, n + 1))) found)
+    ∙ ap (λ k. step_for batches k act.Batch) same
 
 -- a step that is done
-pub act_done : (batches : List ClientBatch) (old new : Simulation) (stage : Stage) (a : Act) (step : Step) (n : ℕ)
-    (did : Did) → IsAt old stage → Some (step, n) ≡ asked batches old.batches a
-    → ((w : WorldState) × (Stands new.world w × Next stage.world step (Ok did) w)) → new.batches ≡ n
+pub step_done : (old new : Simulation) (stage : Stage) (taken : Step) (n : ℕ) (did : Did) → IsAt old stage
+    → ((w : WorldState) × (Stands new.world w × Next stage.world taken (Ok did) w)) → new.batches ≡ n
     → string_bytes new.lines ≡ string_bytes old.lines ++ did_text (old.batches + 1) did
-    → (after : Stage) × (IsAt new after × ActsTo batches stage a None after)
-act_done batches old new stage a step n did at named moved count lines = (
-  moved_on stage n did moved.0,
+    → (after : Stage) × (IsAt new after × AnswersTo stage (Some (taken, n)) None after)
+step_done old new stage taken n did at moved count lines = (
+  after_act stage n did moved.0,
   (
     record {
       world = moved.1.0;
       batches = count;
       lines = lines ∙ ap₂ (λ t k. t ++ did_text (k + 1) did) at.lines at.batches;
     },
-    subst (λ want. AnswersTo stage want None (moved_on stage n did moved.0))
-        (asked_at batches old stage a (Some (step, n)) at named) (did, moved.0, (moved.1.1, refl)),
+    (did, moved.0, (moved.1.1, refl)),
   ),
 )
 
 -- a step that is refused
-pub act_refused : (batches : List ClientBatch) (old new : Simulation) (stage : Stage) (a : Act) (step : Step) (n : ℕ)
-    (why : StepError) → IsAt old stage → Some (step, n) ≡ asked batches old.batches a
-    → ((w : WorldState) × (Stands new.world w × Next stage.world step (Err why) w)) → new.batches ≡ old.batches
+pub step_refused : (old new : Simulation) (stage : Stage) (taken : Step) (n : ℕ) (why : StepError) → IsAt old stage
+    → ((w : WorldState) × (Stands new.world w × Next stage.world taken (Err why) w)) → new.batches ≡ old.batches
     → string_bytes new.lines ≡ string_bytes old.lines
-    → (after : Stage) × (IsAt new after × ActsTo batches stage a (Some why) after)
-act_refused batches old new stage a step n why at named moved count lines = (
+    → (after : Stage) × (IsAt new after × AnswersTo stage (Some (taken, n)) (Some why) after)
+step_refused old new stage taken n why at moved count lines = (
   record stage { world = moved.0 },
   (
     record { world = moved.1.0; batches = count ∙ at.batches; lines = lines ∙ at.lines },
-    subst (λ want. AnswersTo stage want (Some why) (record stage { world = moved.0 }))
-        (asked_at batches old stage a (Some (step, n)) at named) (moved.0, (moved.1.1, refl)),
+    (moved.0, (moved.1.1, refl)),
   ),
 )
 

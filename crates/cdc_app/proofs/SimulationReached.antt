@@ -3,7 +3,7 @@ use Rattle.std.proofs.Common.{◌≡◌, ℕ, ◌+◌, List, [], ◌∷◌, Some
 use Rattle.std.specs.Prelude.{Option, All}
 use Rattle.std.proofs.lemmas.Option.{slice_get-get_or}
 use Rattle.cdc_match.specs.Arguments.{Arguments}
-use Rattle.cdc_world.specs.declared.steps.Step.{Step}
+use Rattle.cdc_types.specs.declared.steps.Step.{Step}
 use Rattle.cdc_world.specs.declared.steps.StepError.{StepError}
 use Rattle.cdc_world.specs.Headline.{IsFaithful}
 use Rattle.cdc_world.specs.Next.{IsReached, LeadsBy, offered}
@@ -12,7 +12,7 @@ use Rattle.cdc_world.proofs.Reached.{faithful-reached}
 use Rattle.cdc_script.specs.declared.scripts.ClientBatch.{ClientBatch}
 use Rattle.cdc_script.specs.declared.scripts.Script.{Script}
 use Rattle.cdc_script.specs.declared.step_files.Act.{Act}
-use Rattle.cdc_app.specs.Simulations.{AnswersTo, PlaysTo, Simulates, Stage, asked, at_start, simulation_text}
+use Rattle.cdc_app.specs.Simulations.{AnswersTo, PlaysActs, Simulates, Stage, at_start, step_for, simulation_text}
 use Rattle.cdc_app.proofs.SimulationLemmas.{numbered_found}
 
 -- a step that is done, and those after it
@@ -39,18 +39,18 @@ refused_leads before end (Some want) why answers =
 
 -- the steps that acts ask for lead from one world to the other
 acts_lead : (batches : List ClientBatch) (before : Stage) (acts : List Act) (refusal : Option StepError) (end : Stage)
-    → PlaysTo batches before acts refusal end → (steps : List Step) × LeadsBy offered before.world steps end.world
+    → PlaysActs batches before acts refusal end → (steps : List Step) × LeadsBy offered before.world steps end.world
 acts_lead batches before [] None end plays = ([], ap (λ (x : Stage). x.world) plays)
 acts_lead batches before [] (Some why) end plays = absurd plays
 acts_lead batches before (a ∷ acts) refusal end (inl refused) =
-    refused_leads before end (asked batches before.batches a) refused.0 refused.1.1
+    refused_leads before end (step_for batches before.batches a) refused.0 refused.1.1
 acts_lead batches before (a ∷ acts) refusal end (inr on) =
     let rest = acts_lead batches on.0 acts refusal end on.1.1 in
-    done_leads before on.0 (asked batches before.batches a) rest.0 end.world on.1.0 rest.1
+    done_leads before on.0 (step_for batches before.batches a) rest.0 end.world on.1.0 rest.1
 
 -- the world is one that steps lead to
 pub is_reached : (bindings : List Arguments) (window : ℕ) (batches : List ClientBatch) (acts : List Act)
-    (refusal : Option StepError) (end : Stage) → PlaysTo batches (at_start bindings window) acts refusal end
+    (refusal : Option StepError) (end : Stage) → PlaysActs batches (at_start bindings window) acts refusal end
     → IsReached end.world
 is_reached bindings window batches acts refusal end plays =
     let steps = acts_lead batches (at_start bindings window) acts refusal end plays in
@@ -58,7 +58,7 @@ is_reached bindings window batches acts refusal end plays =
 
 -- each subscriber is faithful
 pub all_faithful : (bindings : List Arguments) (window : ℕ) (batches : List ClientBatch) (acts : List Act)
-    (refusal : Option StepError) (end : Stage) → PlaysTo batches (at_start bindings window) acts refusal end
+    (refusal : Option StepError) (end : Stage) → PlaysActs batches (at_start bindings window) acts refusal end
     → All (λ s. IsFaithful end.world s) end.world.subscriptions
 all_faithful bindings window batches acts refusal end plays = λ k d inside.
     let subscriptions = end.world.subscriptions in
@@ -69,12 +69,13 @@ all_faithful bindings window batches acts refusal end plays = λ k d inside.
 -- what is printed of the world that the acts of a script lead to
 pub simulated : (script : Script) (window : ℕ) (acts : List Act) (refusal : Option StepError) (printed : List ℕ)
     (batches : List ClientBatch) (bindings : List Arguments) (end : Stage) → batches ≡ script.batches
-    → bindings ≡ script.bindings → PlaysTo batches (at_start bindings window) acts refusal end
-    → printed ≡ simulation_text (length acts) refusal end → Simulates script window acts refusal printed
+    → bindings ≡ script.bindings → PlaysActs batches (at_start bindings window) acts refusal end
+    → printed ≡ simulation_text (length acts) refusal end
+    → Simulates (record { script = script; window = window; acts = acts }) refusal printed
 simulated script window acts refusal printed batches bindings end whose of plays prints =
-    let of_script : PlaysTo script.batches (at_start script.bindings window) acts refusal end =
-    subst (λ (bs : List ClientBatch). PlaysTo bs (at_start script.bindings window) acts refusal end) whose
-    (subst (λ (bs : List Arguments). PlaysTo batches (at_start bs window) acts refusal end) of plays) in
+    let of_script : PlaysActs script.batches (at_start script.bindings window) acts refusal end =
+    subst (λ (bs : List ClientBatch). PlaysActs bs (at_start script.bindings window) acts refusal end) whose
+    (subst (λ (bs : List Arguments). PlaysActs batches (at_start bs window) acts refusal end) of plays) in
     record {
       end = end;
       plays = of_script;

@@ -1,41 +1,36 @@
--- What the subscribers of a closed ledger hold.
-use Rattle.std.specs.Prelude.{◌≡◌, ℕ, true, false, [], length, map}
+-- What a subscriber of a closed ledger may rely on that has taken its whole queue.
+use Rattle.std.specs.Prelude.{◌≡◌, ℕ, true, false, length, map}
 use Rattle.cdc_types.specs.Timestamps.{last_timestamp}
 use Rattle.cdc_ledger.specs.Balances.{as_of}
 use Rattle.cdc_ledger.specs.Events.{events}
 use Rattle.cdc_ledger.specs.History.{History}
-use Rattle.cdc_match.specs.declared.pairs.Mode.TheVariants.{All}
 use Rattle.cdc_match.specs.Arguments.{Arguments}
-use Rattle.cdc_match.specs.Queue.{feed}
 use Rattle.cdc_subscriber.specs.declared.book.BookEntry.{BookEntry}
 use Rattle.cdc_subscriber.specs.Book.{book_of, accounts_of}
-use Rattle.cdc_subscriber.specs.Kept.{Kept}
-use Rattle.cdc_app.specs.Feeds.{fed, line_of}
+use Rattle.cdc_subscriber.specs.Heard.{has_ended}
+use Rattle.cdc_laws.specs.Faithful.{IsFaithful}
+use Rattle.cdc_laws.specs.Line.{feed_of, line}
+use Rattle.cdc_app.specs.Feeds.{heard_of, kept_by}
 
--- a subscriber of this binding has applied each event of its feed and heard the end
-abbrev pub HasWholeFeed : History → Arguments → Type 0
-HasWholeFeed h binding = fed (line_of (events h)) binding ≡ record {
-  book = book_of (feed (events h) binding);
-  last = last_timestamp (feed (events h) binding);
-  applied = length (feed (events h) binding);
-  ended = true;
-  closed = false;
-}
-
--- the binding that takes every event
-abbrev pub every_event : Arguments
-every_event = record { mode = All; pairs = [] }
-
--- a subscriber of every event
-abbrev pub of_every_event : History → Kept
-of_every_event h = fed (line_of (events h)) every_event
+-- a subscriber of this binding is faithful and has heard the end: so it has applied each event that its binding takes,
+-- and what it keeps is told by these alone
+pub record HasWholeFeed (h : History) (binding : Arguments) : Type 0 where
+  pub faithful : IsFaithful h binding (heard_of (line h) binding)
+  pub ended : has_ended (heard_of (line h) binding) ≡ true
+  pub kept : kept_by (line h) binding ≡ record {
+    book = book_of (feed_of h binding);
+    last = last_timestamp (feed_of h binding);
+    applied = length (feed_of h binding);
+    ended = true;
+    closed = false;
+  }
 
 -- an account with the ledger's balances as of the moment t
 abbrev pub entry_as_of : History → ℕ → ℕ → BookEntry
 entry_as_of h t id = record { id = id; balances = as_of h t id }
 
--- the book of a subscriber of every event has each account that an event names, with the ledger's balances as of the
--- last event that it applied
-abbrev pub HoldsBalances : History → Type 0
-HoldsBalances h =
-    (of_every_event h).book ≡ map (entry_as_of h (of_every_event h).last) (accounts_of (events h))
+-- where the binding of a subscriber takes every event, its book has each account that an event names, with the ledger's
+-- balances as of the last event that it applied
+abbrev pub ListsBalances : History → Arguments → Type 0
+ListsBalances h binding = feed_of h binding ≡ events h
+    → (kept_by (line h) binding).book ≡ map (entry_as_of h (kept_by (line h) binding).last) (accounts_of (events h))

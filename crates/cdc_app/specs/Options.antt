@@ -1,5 +1,6 @@
 -- What the words of the command line ask for.
 use Rattle.std.specs.Prelude.{◌≡◌, ◌≤◌, ℕ, List, codes}
+use Rattle.cdc_types.specs.declared.bounds.TheConstants.Limits.{WINDOW_TODAY}
 use Rattle.cdc_app.specs.declared.command_line.Options.{Options}
 use Rattle.cdc_app.specs.declared.command_line.Options.TheVariants.{Books, Messages, Simulate, Explain}
 use Rattle.cdc_app.specs.declared.command_line.OptionsFault.{OptionsFault}
@@ -12,14 +13,10 @@ IsBooks name (Messages file) = ⊥
 IsBooks name (Simulate file steps window) = ⊥
 IsBooks name (Explain text) = ⊥
 
--- for how many events a session may wait at a time, at most: today for one
-abbrev pub max_window : ℕ
-max_window = 1
-
 -- a session may wait for so many events at a time
 pub record IsWindow (window : ℕ) : Type 0 where
   pub least : 1 ≤ window
-  pub greatest : window ≤ max_window
+  pub greatest : window ≤ WINDOW_TODAY
 
 -- the numbers that are asked for are within their limits
 abbrev pub IsWithinLimits : Options → Type 0

@@ -1,11 +1,13 @@
 -- What is printed: lines of text, each with its line feed.
-use Rattle.std.specs.Prelude.{ℕ, List, ◌++◌, codes, decimal, Result, Ok, Err}
+use Rattle.std.specs.Prelude.{ℕ, List, [], ◌++◌, codes, decimal, Result, Ok, Err}
 use Rattle.std.specs.List.{flat_map}
 use Rattle.cdc_types.specs.declared.batches.BatchResults.{BatchResults}
 use Rattle.cdc_types.specs.declared.batches.BatchResults.TheVariants as results
 use Rattle.cdc_types.specs.Results.{account_number, transfer_number}
 use Rattle.cdc_ledger.specs.declared.errors.BatchError.{BatchError}
 use Rattle.cdc_ledger.specs.BatchErrors.{batch_error_number, batch_error_name}
+use Rattle.cdc_app.specs.declared.endings.Ending.{Ending}
+use Rattle.cdc_app.specs.declared.endings.Ending.TheVariants.{BadScript, BadSteps}
 use Rattle.cdc_app.specs.declared.faults.ProgramFault.{ProgramFault}
 use Rattle.cdc_app.specs.declared.faults.ProgramFault.TheVariants as fault
 use Rattle.cdc_script.specs.declared.faults.ScriptFault.{ScriptFault}
@@ -35,6 +37,12 @@ script_fault_line at = codes "fault: script line"
 abbrev pub steps_fault_line : ScriptFault → List ℕ
 steps_fault_line at = codes "fault: steps line"
     ++ (spaced at.line ++ (codes ": " ++ (kind_name at.kind ++ codes "\n")))
+
+-- the line of the bad file that a command ends with
+abbrev pub file_fault_line : Ending → List ℕ
+file_fault_line (BadScript at) = script_fault_line at
+file_fault_line (BadSteps at) = steps_fault_line at
+file_fault_line _ = []
 
 -- the line of a command that gave up
 abbrev pub program_fault_line : ProgramFault → List ℕ

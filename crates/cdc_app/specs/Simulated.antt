@@ -1,46 +1,44 @@
 -- All that `simulate` prints for a script and a step file.
-use Rattle.std.specs.Prelude.{◌≡◌, ◌⊎◌, ℕ, List, Option, Some, None, IfSome, Ok, Err}
-use Rattle.std.specs.Io.KnownBytes.{Appends}
+use Rattle.std.specs.Prelude.{◌≡◌, ℕ, List, Option, Some, None, IfSome, Ok, Err}
 use Rattle.cdc_world.specs.declared.steps.StepError.{StepError}
 use Rattle.cdc_app.specs.declared.endings.Ending.{Ending}
 use Rattle.cdc_app.specs.declared.endings.Ending.TheVariants.{Done, Failed, Refused, BadScript, BadSteps, BadWords}
 use Rattle.cdc_script.specs.declared.scripts.Script.{Script}
 use Rattle.cdc_script.specs.declared.step_files.Act.{Act}
-use Rattle.cdc_app.specs.Printed.{IsWriteFault}
 use Rattle.cdc_app.specs.Report.{script_fault_line, steps_fault_line, program_fault_line}
 use Rattle.cdc_script.specs.Scripts.{script_of}
-use Rattle.cdc_app.specs.Simulations.{Simulates}
+use Rattle.cdc_app.specs.Simulations.{Plan, Simulates}
 use Rattle.cdc_script.specs.StepFiles.{acts_of}
 
--- these bytes of a script and of a step file have no fault, and their simulation prints this
-pub record Ran (window : ℕ) (script steps : List ℕ) (refusal : Option StepError) (printed : List ℕ) : Type 0 where
-  pub said : Script
-  pub acts : List Act
-  pub script_said : script_of script ≡ Ok said
-  pub steps_said : acts_of steps ≡ Ok acts
-  pub simulated : Simulates said window acts refusal printed
+-- what `simulate` reads, as far as the bytes of its files are known, and the window of its sessions
+pub record SimulationInput : Type 0 where
+  pub window : ℕ
+  pub script : Option (List ℕ)
+  pub steps : Option (List ℕ)
+
+-- these bytes of a script and of a step file have no fault, and say this plan
+pub record SaysPlan (window : ℕ) (script steps : List ℕ) (plan : Plan) : Type 0 where
+  pub window_is : plan.window ≡ window
+  pub script_said : script_of script ≡ Ok plan.script
+  pub steps_said : acts_of steps ≡ Ok plan.acts
+
+-- what is read says a plan, whose simulation prints this
+abbrev pub RunPrints : SimulationInput → Option StepError → List ℕ → Type 0
+RunPrints input refusal printed = IfSome input.script (λ script. IfSome input.steps (λ steps.
+    (plan : Plan) × (SaysPlan input.window script steps plan × Simulates plan refusal printed)))
 
 -- the script has no fault
 abbrev pub IsGoodScript : List ℕ → Type 0
 IsGoodScript script = (said : Script) × (script_of script ≡ Ok said)
 
--- this is printed by a command that ends so, of which the bytes of the script and of the steps are known or not; the
--- steps are judged after the script
-abbrev pub SimulationPrints : ℕ → Option (List ℕ) → Option (List ℕ) → Ending → List ℕ → Type 0
-SimulationPrints window script steps Done printed =
-    IfSome script (λ a. IfSome steps (λ b. Ran window a b None printed))
-SimulationPrints window script steps (Refused why) printed =
-    IfSome script (λ a. IfSome steps (λ b. Ran window a b (Some why) printed))
-SimulationPrints window script steps (BadScript at) printed =
-    (printed ≡ script_fault_line at) × IfSome script (λ a. script_of a ≡ Err at)
-SimulationPrints window script steps (BadSteps at) printed =
-    (printed ≡ steps_fault_line at) × (IfSome script IsGoodScript × IfSome steps (λ b. acts_of b ≡ Err at))
-SimulationPrints window script steps (Failed why) printed = printed ≡ program_fault_line why
-SimulationPrints window script steps BadWords printed = ⊥
-
--- what is written by a command that ends so, unless a write failed
-abbrev pub SimulationWrites
-    : ℕ → Option (List ℕ) → Option (List ℕ) → Option (List ℕ) → Option (List ℕ) → Ending → Type 0
-SimulationWrites window script steps old new ending =
-    IsWriteFault ending
-    ⊎ ((printed : List ℕ) × (Appends old new printed × SimulationPrints window script steps ending printed))
+-- this is printed by a command that reads such an input and ends so; the steps are judged after the script
+abbrev pub SimulationPrints : SimulationInput → Ending → List ℕ → Type 0
+SimulationPrints input Done printed = RunPrints input None printed
+SimulationPrints input (Refused why) printed = RunPrints input (Some why) printed
+SimulationPrints input (BadScript at) printed =
+    (printed ≡ script_fault_line at) × IfSome input.script (λ script. script_of script ≡ Err at)
+SimulationPrints input (BadSteps at) printed =
+    (printed ≡ steps_fault_line at)
+    × (IfSome input.script IsGoodScript × IfSome input.steps (λ steps. acts_of steps ≡ Err at))
+SimulationPrints input (Failed why) printed = printed ≡ program_fault_line why
+SimulationPrints input BadWords printed = ⊥

@@ -7,8 +7,8 @@ use Rattle.cdc_subscriber.specs.Heard.{kept_of}
 use Rattle.cdc_subscriber.specs.Lines.{subscriber_text}
 use Rattle.cdc_world.specs.declared.steps.Did.{Did}
 use Rattle.cdc_world.specs.declared.steps.Did.TheVariants.{Submitted, Arrived, Counted, Took, Done}
-use Rattle.cdc_world.specs.declared.steps.Step.{Step}
-use Rattle.cdc_world.specs.declared.steps.Step.TheVariants as step
+use Rattle.cdc_types.specs.declared.steps.Step.{Step}
+use Rattle.cdc_types.specs.declared.steps.Step.TheVariants as step
 use Rattle.cdc_world.specs.declared.steps.StepError.{StepError}
 use Rattle.cdc_world.specs.declared.steps.StepError.TheVariants.{NotEnabled}
 use Rattle.cdc_world.specs.Errors.{step_error_name}
@@ -34,17 +34,9 @@ abbrev pub at_start : List Arguments → ℕ → Stage
 at_start bindings window = record { world = new_world bindings window None; batches = 0; lines = []; done = 0 }
 
 -- the step that an act asks for, and how many batches are done after it; `batch` asks for the next one, if one is left
-abbrev pub asked : List ClientBatch → ℕ → Act → Option (Step × ℕ)
-asked batches n act.Batch = option_map (λ b. (step.Submit b.batch, n + 1)) (slice_get batches n)
-asked batches n act.CloseLedger = Some (step.CloseLedger, n)
-asked batches n act.Start = Some (step.Start, n)
-asked batches n act.Poll = Some (step.Poll, n)
-asked batches n act.Publish = Some (step.Publish, n)
-asked batches n (act.Arrive k) = Some (step.Arrive k, n)
-asked batches n (act.Answer k) = Some (step.Answer k, n)
-asked batches n act.Save = Some (step.Save, n)
-asked batches n (act.Send i) = Some (step.Send i, n)
-asked batches n (act.Take i) = Some (step.Take i, n)
+abbrev pub step_for : List ClientBatch → ℕ → Act → Option (Step × ℕ)
+step_for batches n act.Batch = option_map (λ b. (step.Submit b.batch, n + 1)) (slice_get batches n)
+step_for batches n (act.Step said) = Some (said, n)
 
 -- what is printed of a step that is done: the line of its batch, where it is one
 abbrev pub did_text : ℕ → Did → List ℕ
@@ -55,8 +47,8 @@ did_text number (Took taking) = []
 did_text number Done = []
 
 -- the stage after an act that is done, which leaves so many batches done and this world
-abbrev pub moved_on : Stage → ℕ → Did → WorldState → Stage
-moved_on before batches did w = record {
+abbrev pub after_act : Stage → ℕ → Did → WorldState → Stage
+after_act before batches did w = record {
   world = w;
   batches = batches;
   lines = before.lines ++ did_text (before.batches + 1) did;
@@ -68,21 +60,21 @@ abbrev pub AnswersTo : Stage → Option (Step × ℕ) → Option StepError → S
 AnswersTo before None None after = ⊥
 AnswersTo before None (Some why) after = (why ≡ NotEnabled) × (after ≡ before)
 AnswersTo before (Some want) None after =
-    (did : Did) × (w : WorldState) × (Next before.world want.0 (Ok did) w × (after ≡ moved_on before want.1 did w))
+    (did : Did) × (w : WorldState) × (Next before.world want.0 (Ok did) w × (after ≡ after_act before want.1 did w))
 AnswersTo before (Some want) (Some why) after =
     (w : WorldState) × (Next before.world want.0 (Err why) w × (after ≡ record before { world = w }))
 
 -- an act leads from one stage to another, and is done, or refused
 abbrev pub ActsTo : List ClientBatch → Stage → Act → Option StepError → Stage → Type 0
-ActsTo batches before a refusal after = AnswersTo before (asked batches before.batches a) refusal after
+ActsTo batches before a refusal after = AnswersTo before (step_for batches before.batches a) refusal after
 
 -- acts lead from one stage to another: all are done, or those before the first that is refused
-abbrev pub PlaysTo : List ClientBatch → Stage → List Act → Option StepError → Stage → Type 0
-PlaysTo batches before [] None after = after ≡ before
-PlaysTo batches before [] (Some why) after = ⊥
-PlaysTo batches before (a ∷ acts) refusal after =
+abbrev pub PlaysActs : List ClientBatch → Stage → List Act → Option StepError → Stage → Type 0
+PlaysActs batches before [] None after = after ≡ before
+PlaysActs batches before [] (Some why) after = ⊥
+PlaysActs batches before (a ∷ acts) refusal after =
     ((why : StepError) × ((refusal ≡ Some why) × ActsTo batches before a (Some why) after))
-    ⊎ ((between : Stage) × (ActsTo batches before a None between × PlaysTo batches between acts refusal after))
+    ⊎ ((between : Stage) × (ActsTo batches before a None between × PlaysActs batches between acts refusal after))
 
 -- the line that says how many of all steps are done
 abbrev pub steps_line : ℕ → ℕ → List ℕ
@@ -110,11 +102,16 @@ simulation_text all refusal end =
     end.lines ++ (steps_line end.done all ++ (refusal_line end.done refusal
     ++ (progress_line end.world.held ++ subscriptions_text 1 end.world.subscriptions)))
 
--- a simulation of this script by these acts prints this: the lines of a world that they lead to, each of whose
--- subscribers is faithful
-pub record Simulates (script : Script) (window : ℕ) (acts : List Act) (refusal : Option StepError) (printed : List ℕ)
-    : Type 0 where
+-- what is simulated: a script, the window of its sessions, and the acts
+pub record Plan : Type 0 where
+  pub script : Script
+  pub window : ℕ
+  pub acts : List Act
+
+-- a simulation of this plan prints this: the lines of a world that its acts lead to, each of whose subscribers is
+-- faithful
+pub record Simulates (plan : Plan) (refusal : Option StepError) (printed : List ℕ) : Type 0 where
   pub end : Stage
-  pub plays : PlaysTo script.batches (at_start script.bindings window) acts refusal end
-  pub prints : printed ≡ simulation_text (length acts) refusal end
+  pub plays : PlaysActs plan.script.batches (at_start plan.script.bindings plan.window) plan.acts refusal end
+  pub prints : printed ≡ simulation_text (length plan.acts) refusal end
   pub faithful : All (λ s. IsFaithful end.world s) end.world.subscriptions

@@ -1,8 +1,9 @@
 //! What standard error says to a person, beside the fault's line on standard output.
 
 use crate::endings::Ending;
-use crate::faults::{FaultKind, ProgramFault, ScriptFault};
-use crate::options::STANDARD_INPUT;
+use crate::faults::ProgramFault;
+use crate::sources::STANDARD_INPUT;
+use cdc_script::{FaultKind, ScriptFault};
 use std::io;
 
 /// Says why a command over a file gave up or refused the file's script: the place, the fault's name, and what was
@@ -111,10 +112,10 @@ fn expected(kind: FaultKind) -> &'static str {
 fn expected_step(kind: FaultKind) -> &'static str {
     match kind {
         FaultKind::UnknownWord => {
-            "a line begins with batch, close_ledger, start, poll, publish, arrive, answer, save, send or take"
+            "a line begins with batch, close_ledger, start, crash, poll, publish, arrive, answer, save, send, rewind, break, take, ack or close"
         }
         FaultKind::WrongCount => {
-            "arrive, answer, send and take have one number, batch, close_ledger, start, poll, publish and save have none"
+            "ack has two numbers, arrive, answer, send, rewind, break, take and close have one, batch, close_ledger, start, crash, poll, publish and save have none"
         }
         FaultKind::NumberOutOfRange => "a number has 64 bits at most",
         FaultKind::TooLong => "a step file has 1048576 bytes at most",

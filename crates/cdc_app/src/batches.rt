@@ -6,8 +6,8 @@ ghost use Rattle.cdc_ledger.specs.Submit.{submit, history_or};
 ghost use Rattle.cdc_app.specs.Printed.{answer, batch_lines, history_after, history_of};
 
 use crate::report::push_batch;
-use crate::scripts::{ClientBatch, Script};
 use cdc_ledger::{BatchError, Ledger};
+use cdc_script::{ClientBatch, Script};
 use cdc_types::{Batch, BatchResults};
 use std::alloc::{AllocError, Global};
 

@@ -1,9 +1,10 @@
 //! How a command ends.
 
 ghost use Rattle.std.specs.Prelude.{◌≡◌};
-ghost use Rattle.cdc_app.specs.Printed.{status_of};
+ghost use Rattle.cdc_app.specs.Outcomes.{status_of};
 
-use crate::faults::{ProgramFault, ScriptFault};
+use crate::faults::ProgramFault;
+use cdc_script::ScriptFault;
 use cdc_world::StepError;
 
 /// How a command ended.

@@ -1,10 +1,11 @@
 //! A broker to which the events of a closed ledger are published, and the subscribers that take its queues.
 
-ghost use Rattle.std.specs.Prelude.{◌≡◌, ◌+◌, ◌^◌, ◌<◌, ◌≤◌, ◌++◌, All, IfOk, OnOk, Some, length};
+ghost use Rattle.std.specs.Prelude.{◌≡◌, ◌^◌, ◌<◌, ◌≤◌, ◌++◌, true, All, IfOk, OnOk, Some, length};
 ghost use Rattle.cdc_broker.specs.Broker.{published as with_published, queue_of};
 ghost use Rattle.cdc_subscriber.specs.Heard.{kept_of};
 ghost use Rattle.cdc_subscriber.specs.Lines.{subscriber_text};
-ghost use Rattle.cdc_app.specs.Feeds.{hearing, line_of};
+ghost use Rattle.cdc_laws.specs.Line.{told};
+ghost use Rattle.cdc_app.specs.Feeds.{hearing};
 ghost use Rattle.cdc_app.specs.Private.Queues.{ChangesQueue, IsUntaken, TakesNext, filled_queues, takers_text};
 
 use cdc_broker::Broker;
@@ -24,7 +25,7 @@ pub fn publish_log(
     log: &EventLog,
 ) -> Result<Broker, AllocError>
     requires { length log.now.events < 2 ^ 63 }
-    ensures { IfOk result (λ broker. broker.queues ≡ filled_queues (line_of log.now.events) bindings.items) }
+    ensures { IfOk result (λ broker. broker.queues ≡ filled_queues (told log.now.events true) bindings.items) }
 {
     let mut broker = Broker::new(alloc, bindings)?;
     broker.connect(CONNECTION);

@@ -5,39 +5,28 @@ ghost use Rattle.cdc_app.specs.Options.{IsWindow};
 
 mod advice;
 mod batches;
-mod books;
 mod command_line;
 mod commands;
-mod drafts;
 mod endings;
 mod faults;
 mod feeding;
-mod fields;
-mod late_files;
-mod messages;
-mod numbers;
-mod operands;
 mod options;
-mod reading;
+mod output;
 mod report;
-mod scripts;
-mod simulate;
 mod simulation_report;
 mod simulations;
-mod statements;
-mod step_files;
-mod words;
+mod sources;
 
 use advice::{advise, advise_on_steps};
-use commands::{Report, books, messages, print_fault, print_text};
+use commands::books::books;
+use commands::messages::messages;
+use commands::simulate::simulate;
 use endings::Ending;
 use faults::ProgramFault;
-use late_files::LateFile;
-use options::{Options, OptionsFault, STANDARD_INPUT, options};
-use simulate::simulate_command;
+use options::{Options, OptionsFault, options};
+use output::{print_fault, print_text};
+use sources::{STANDARD_INPUT, Source};
 use std::alloc::AllocError;
-use std::fs::File;
-use std::io::Read;
 use std::process::ExitCode;
 use std::{env, io};
 
@@ -68,67 +57,52 @@ fn run_words(rt: &HostRuntime, words: &[String]) -> Ending {
         return give_up(rt, ProgramFault::OutOfMemory);
     };
     match options(rt.alloc(), texts.as_slice()) {
-        Ok(Options::Books { file }) => run_file(rt, Report::Books, file),
-        Ok(Options::Messages { file }) => run_file(rt, Report::Messages, file),
+        Ok(Options::Books { file }) => run_books(rt, file),
+        Ok(Options::Messages { file }) => run_messages(rt, file),
         Ok(
             Options::Simulate {
                 file,
                 steps,
                 window,
             },
-        ) => simulate_files(rt, file, steps, window),
+        ) => run_simulation(rt, file, steps, window),
         Ok(Options::Explain { text }) => explain(rt, text.as_str()),
         Err(OptionsFault::BadWords { message }) => refuse_words(rt, message.as_str()),
         Err(OptionsFault::OutOfMemory) => give_up(rt, ProgramFault::OutOfMemory),
     }
 }
 
-/// Runs a command over a file, or over standard input, and says on standard error why it gave up.
-fn run_file(rt: &HostRuntime, report: Report, file: &str) -> Ending {
-    let ending = if file == STANDARD_INPUT {
-        run_reader(rt, report, &mut rt.reader())
-    } else {
-        match File::open(rt, file) {
-            Ok(mut script) => run_reader(rt, report, &mut script),
-            Err(error) => print_fault(&mut io::writer(rt), ProgramFault::ReadFault(error)),
-        }
-    };
+/// Runs `books` over the script of this name, and says on standard error why it gave up.
+fn run_books(rt: &HostRuntime, file: &str) -> Ending {
+    let mut script = Source::of_script(rt, file);
+    let ending = books(rt.alloc(), &mut script, &mut io::writer(rt));
     advise(rt, file, ending);
     ending
 }
 
-/// Runs a command over the bytes of a script.
-fn run_reader<R: Read>(rt: &HostRuntime, report: Report, reader: &mut R) -> Ending {
-    let mut writer = io::writer(rt);
-    match report {
-        Report::Books => books(rt.alloc(), reader, &mut writer),
-        Report::Messages => messages(rt.alloc(), reader, &mut writer),
-    }
-}
-
-/// Runs a simulation over two files, the first of which may be standard input, and says on standard error why it gave up.
-fn simulate_files(rt: &HostRuntime, file: &str, steps: &str, window: usize) -> Ending
-    requires { IsWindow window }
-{
-    let ending = if file == STANDARD_INPUT {
-        simulate_reader(rt, &mut rt.reader(), steps, window)
-    } else {
-        match File::open(rt, file) {
-            Ok(mut script) => simulate_reader(rt, &mut script, steps, window),
-            Err(error) => print_fault(&mut io::writer(rt), ProgramFault::ReadFault(error)),
-        }
-    };
-    advise_on_steps(rt, file, steps, ending);
+/// Runs `messages` over the script of this name, and says on standard error why it gave up.
+fn run_messages(rt: &HostRuntime, file: &str) -> Ending {
+    let mut script = Source::of_script(rt, file);
+    let ending = messages(rt.alloc(), &mut script, &mut io::writer(rt));
+    advise(rt, file, ending);
     ending
 }
 
-/// Runs a simulation over the bytes of a script and a step file, which is opened at once, but not missed before it is
-/// read.
-fn simulate_reader<R: Read>(rt: &HostRuntime, script: &mut R, steps: &str, window: usize) -> Ending
+/// Runs `simulate` over the script and the step file of these names, and says on standard error why it gave up.
+fn run_simulation(rt: &HostRuntime, file: &str, steps: &str, window: usize) -> Ending
     requires { IsWindow window }
 {
-    let mut steps = LateFile::open(rt, steps);
-    simulate_command(rt.alloc(), script, &mut steps, window, &mut io::writer(rt))
+    let mut script = Source::of_script(rt, file);
+    let mut step_file = Source::of_file(rt, steps);
+    let ending = simulate(
+        rt.alloc(),
+        &mut script,
+        &mut step_file,
+        window,
+        &mut io::writer(rt),
+    );
+    advise_on_steps(rt, file, steps, ending);
+    ending
 }
 
 /// Prints what was asked about the program itself.

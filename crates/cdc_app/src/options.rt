@@ -1,19 +1,15 @@
 //! The words of the command line.
 
 ghost use Rattle.std.specs.Prelude.{◌≡◌, length, codes, IfOk, IfSome, IsOkAnd};
-ghost use Rattle.cdc_app.specs.Options.{IsBooks, IsWindow, IsWithinLimits, max_window};
+ghost use Rattle.cdc_app.specs.Options.{IsBooks, IsWindow, IsWithinLimits};
 
 pub use crate::command_line::{Options, OptionsFault};
-use crate::numbers::read_number;
+use crate::sources::STANDARD_INPUT;
+use cdc_message::decimal_up_to;
+use cdc_types::Limits;
 use clap::error::ErrorKind;
 use clap::{Arg, ArgAction, ArgMatches, Command, Error};
 use std::alloc::{AllocError, Global};
-
-/// The name of standard input as a file.
-pub const STANDARD_INPUT: &str = "-";
-
-/// For how many events a session may wait at a time, at most.
-pub const MAX_WINDOW: usize = 1;
 
 /// What the program is for.
 const ABOUT: &str =
@@ -33,8 +29,9 @@ A script is a text of lines:
 A subscriber's binding is all or any, and up to ten pairs of a header and its value, as in
   subscriber any event_type=two_phase_posted ledger=700
 
-STEPS is a file with one step of a simulation in each line: batch, close_ledger, start, poll, publish,
-arrive K, answer K, save, send I or take I. The Kth packet or confirm ever sent arrives, and I is a subscriber.
+STEPS is a file with one step of a simulation in each line: batch, close_ledger, start, crash, poll, publish,
+arrive K, answer K, save, send I, rewind I, break I, take I, ack I K or close I. I is a subscriber and its queue,
+and K counts the packets, the confirms or a subscriber's acknowledgements ever sent, from 1.
 
 Examples:
   relayplum books examples/two-phase.script
@@ -72,14 +69,14 @@ fn read_words<'a>(alloc: Global, words: &'a [&'a str]) -> Result<ArgMatches<'a>,
         .about(ABOUT)
         .after_help(MORE)
         .subcommand_required(true)
-        .subcommand(books_command(alloc)?)?
-        .subcommand(messages_command(alloc)?)?
-        .subcommand(simulate_command(alloc)?)?;
+        .subcommand(books_words(alloc)?)?
+        .subcommand(messages_words(alloc)?)?
+        .subcommand(simulate_words(alloc)?)?;
     program.try_get_matches_from(words)
 }
 
 /// The command `books`.
-fn books_command<'a>(alloc: Global) -> Result<Command<'a>, AllocError> {
+fn books_words<'a>(alloc: Global) -> Result<Command<'a>, AllocError> {
     Command::new(alloc, "books")
         .about("Print the results of a script's batches and the books of its subscribers")
         .after_help(MORE)
@@ -87,7 +84,7 @@ fn books_command<'a>(alloc: Global) -> Result<Command<'a>, AllocError> {
 }
 
 /// The command `messages`.
-fn messages_command<'a>(alloc: Global) -> Result<Command<'a>, AllocError> {
+fn messages_words<'a>(alloc: Global) -> Result<Command<'a>, AllocError> {
     Command::new(alloc, "messages")
         .about(
             "Print two lines for each event of a script: what its message is routed by, and its JSON body",
@@ -97,7 +94,7 @@ fn messages_command<'a>(alloc: Global) -> Result<Command<'a>, AllocError> {
 }
 
 /// The command `simulate`.
-fn simulate_command<'a>(alloc: Global) -> Result<Command<'a>, AllocError> {
+fn simulate_words<'a>(alloc: Global) -> Result<Command<'a>, AllocError> {
     let steps = Arg::new(alloc, "STEPS")
         .required(true)
         .action(ArgAction::Set)
@@ -173,9 +170,11 @@ fn read_window(word: Option<&str>) -> Option<usize>
     let Some(word) = word else {
         return Some(1);
     };
-    match read_number(word.as_bytes(), u128::from(u64::MAX)) {
-        Ok(number) if 1 <= number && number <= MAX_WINDOW as u128 => Some(number as usize),
-        _ => None,
+    let number = decimal_up_to(word.as_bytes(), Limits::WINDOW_TODAY as u128)?;
+    if number == 0 {
+        None
+    } else {
+        Some(number as usize)
     }
 }
 

@@ -4,10 +4,11 @@ ghost use Rattle.std.specs.Prelude.{◌≡◌, ◌++◌, codes, Err, OnOk, strin
 ghost use Rattle.std.specs.List.{flat_map};
 ghost use Rattle.cdc_types.specs.Results.{account_number, transfer_number};
 ghost use Rattle.cdc_script.specs.Faults.{kind_name};
-ghost use Rattle.cdc_app.specs.Report.{spaced, answer_text, batch_line, script_fault_line, steps_fault_line};
+ghost use Rattle.cdc_app.specs.Report.{spaced, answer_text, batch_line, file_fault_line};
 
-use crate::faults::ScriptFault;
+use crate::endings::Ending;
 use cdc_ledger::BatchError;
+use cdc_script::ScriptFault;
 use cdc_types::{AccountResult, BatchResults, TransferResult};
 use itoa::{Buffer, Integer};
 use std::alloc::AllocError;
@@ -94,18 +95,15 @@ fn push_refusal(text: &mut String, refusal: BatchError) -> Result<(), AllocError
     text.push_str(refusal.name())
 }
 
-/// The line of a fault of a script.
-pub fn push_script_fault(text: &mut String, fault: ScriptFault) -> Result<(), AllocError>
-    ensures { OnOk result (string_bytes text.new ≡ string_bytes text.old ++ script_fault_line fault) }
+/// The line of the bad file that a command ends with; nothing where it ends otherwise.
+pub fn push_file_fault(text: &mut String, ending: Ending) -> Result<(), AllocError>
+    ensures { OnOk result (string_bytes text.new ≡ string_bytes text.old ++ file_fault_line ending) }
 {
-    push_fault(text, "fault: script line", fault)
-}
-
-/// The line of a fault of a step file.
-pub fn push_steps_fault(text: &mut String, fault: ScriptFault) -> Result<(), AllocError>
-    ensures { OnOk result (string_bytes text.new ≡ string_bytes text.old ++ steps_fault_line fault) }
-{
-    push_fault(text, "fault: steps line", fault)
+    match ending {
+        Ending::BadScript(fault) => push_fault(text, "fault: script line", fault),
+        Ending::BadSteps(fault) => push_fault(text, "fault: steps line", fault),
+        _ => Ok(()),
+    }
 }
 
 /// The line of a fault of a file, with the words that stand before the number of its line.

@@ -1,18 +1,17 @@
 //! Simulations: a world over the batches of a script, moved by the acts of a step file.
 
-ghost use Rattle.std.specs.Prelude.{◌≡◌, ◌^◌, ◌<◌, ◌≤◌, true, IfErr, IfOk, IfSome, OnOk, length};
+ghost use Rattle.std.specs.Prelude.{◌≡◌, ◌^◌, ◌<◌, ◌≤◌, ℕ, true, IfErr, IfOk, OnOk, Some, length};
 ghost use Rattle.cdc_app.specs.Options.{IsWindow};
 ghost use Rattle.cdc_app.specs.Private.Stages.{IsAt, IsSimulationFault};
-ghost use Rattle.cdc_app.specs.Simulations.{ActsTo, PlaysTo, Simulates, Stage, asked, at_start, simulation_text};
+ghost use Rattle.cdc_app.specs.Simulations.{ActsTo, AnswersTo, PlaysActs, Simulates, Stage, at_start, simulation_text};
 
 use crate::faults::ProgramFault;
-use crate::scripts::{ClientBatch, Script};
 use crate::simulation_report::{
     push_did, push_progress, push_refusal, push_steps, push_subscriptions,
 };
-use crate::step_files::Act;
 use cdc_match::Binding;
 use cdc_progress::MemoryStore;
+use cdc_script::{Act, ClientBatch, Script};
 use cdc_world::{Played, Step, StepError, World};
 use std::alloc::{AllocError, Global};
 
@@ -37,14 +36,15 @@ pub struct Simulation {
 }
 
 /// What is printed of a script that is taken step by step.
-pub fn simulate(
+pub fn play_script(
     alloc: Global,
     script: Script,
     window: usize,
     acts: &[Act],
 ) -> Result<Simulated, ProgramFault>
     requires { IsWindow window }
-    ensures prints { IfOk result (λ simulated. Simulates script window acts.now simulated.refusal simulated.text.items) }
+    ensures prints { IfOk result (λ simulated. Simulates
+        (record { script = script; window = window; acts = acts.now }) simulated.refusal simulated.text.items) }
     ensures fault { IfErr result IsSimulationFault }
 {
     let Script { bindings, batches } = script;
@@ -83,12 +83,12 @@ impl Simulation {
         requires none { self.old.batches ≡ 0 }
         ensures plays { (stage : Stage) → IsAt self.old stage → stage.done ≡ 0 → IfOk result (λ played.
             (end : Stage) × (IsAt self.new end × ((end.done ≡ played.done)
-            × PlaysTo batches.now stage acts.now played.refusal end))) }
+            × PlaysActs batches.now stage acts.now played.refusal end))) }
         ensures honest { OnOk result (self.new.world.honest ≡ true) }
         ensures count { IfOk result (λ played. played.done ≤ length acts.now) }
     {
         for (done, act) in acts.iter().enumerate() {
-            let refusal = self.play_act(alloc, batches, *act)?;
+            let refusal = self.play_act(alloc, batches, act)?;
             if refusal.is_some() {
                 return Ok(Played { done, refusal });
             }
@@ -104,19 +104,48 @@ impl Simulation {
         &mut self,
         alloc: Global,
         batches: &[ClientBatch],
-        act: Act,
+        act: &Act,
     ) -> Result<Option<StepError>, AllocError>
         requires honest { self.old.world.honest ≡ true }
         requires within { self.old.batches ≤ length batches.now }
         ensures acts { (stage : Stage) → IsAt self.old stage → IfOk result (λ refusal.
-            (after : Stage) × (IsAt self.new after × ActsTo batches.now stage act refusal after)) }
+            (after : Stage) × (IsAt self.new after × ActsTo batches.now stage act.now refusal after)) }
         ensures honest { OnOk result (self.new.world.honest ≡ true) }
         ensures within { OnOk result (self.new.batches ≤ length batches.now) }
     {
-        let Some((step, batches_done)) = asked_step(alloc, batches, self.batches, act)? else {
-            return Ok(Some(StepError::NotEnabled));
-        };
-        match self.world.step(alloc, &step) {
+        match act {
+            Act::Step(step) => {
+                let batches_done = self.batches;
+                self.play_step(alloc, step, batches_done)
+            }
+            Act::Batch => match batches.get(self.batches) {
+                None => Ok(Some(StepError::NotEnabled)),
+                Some(item) => {
+                    let batches_done = self.batches + 1;
+                    let step = Step::Submit(item.batch.try_copy(alloc)?);
+                    self.play_step(alloc, &step, batches_done)
+                }
+            },
+        }
+    }
+
+    /// Takes a step, after which so many batches are done, or says why it is refused.
+    fn play_step(
+        &mut self,
+        alloc: Global,
+        step: &Step,
+        batches_done: usize,
+    ) -> Result<Option<StepError>, AllocError>
+        requires honest { self.old.world.honest ≡ true }
+        requires few { self.old.batches < 2 ^ 63 }
+        ensures answers { (stage : Stage) → IsAt self.old stage → IfOk result (λ refusal.
+            (after : Stage) × (IsAt self.new after
+            × AnswersTo stage (Some (step.now, batches_done)) refusal after)) }
+        ensures honest { OnOk result (self.new.world.honest ≡ true) }
+        ensures within { (most : ℕ) → self.old.batches ≤ most → batches_done ≤ most
+            → OnOk result (self.new.batches ≤ most) }
+    {
+        match self.world.step(alloc, step) {
             Ok(did) => {
                 push_did(&mut self.lines, self.batches as u64 + 1, did)?;
                 self.batches = batches_done;
@@ -145,49 +174,5 @@ impl Simulation {
         let mut bytes = text.into_bytes();
         push_subscriptions(&mut bytes, &world)?;
         Ok(bytes)
-    }
-}
-
-/// The step that an act asks for where so many batches are done, and how many are done after it.
-fn asked_step(
-    alloc: Global,
-    batches: &[ClientBatch],
-    done: usize,
-    act: Act,
-) -> Result<Option<(Step, usize)>, AllocError>
-    requires { done ≤ length batches.now }
-    ensures step { IfOk result (λ step. step ≡ asked batches.now done act) }
-    ensures within { IfOk result (λ step. IfSome step (λ want. want.1 ≤ length batches.now)) }
-{
-    let step = match act {
-        Act::Batch => return next_submit(alloc, batches, done),
-        Act::CloseLedger => Step::CloseLedger,
-        Act::Start => Step::Start,
-        Act::Poll => Step::Poll,
-        Act::Publish => Step::Publish,
-        Act::Arrive(k) => Step::Arrive(k),
-        Act::Answer(k) => Step::Answer(k),
-        Act::Save => Step::Save,
-        Act::Send(i) => Step::Send(i),
-        Act::Take(i) => Step::Take(i),
-    };
-    Ok(Some((step, done)))
-}
-
-/// The step of the batch behind so many, if there is one, and how many are done after it.
-fn next_submit(
-    alloc: Global,
-    batches: &[ClientBatch],
-    done: usize,
-) -> Result<Option<(Step, usize)>, AllocError>
-    ensures step { IfOk result (λ step. step ≡ asked batches.now done Act.Batch) }
-    ensures within { IfOk result (λ step. IfSome step (λ want. want.1 ≤ length batches.now)) }
-{
-    match batches.get(done) {
-        None => Ok(None),
-        Some(item) => {
-            let batch = item.batch.try_copy(alloc)?;
-            Ok(Some((Step::Submit(batch), done + 1)))
-        }
     }
 }

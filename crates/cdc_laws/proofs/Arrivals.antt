@@ -155,7 +155,8 @@ module _ (h : History) (sound : IsSound h) (confirms : List Confirm) (sessions :
       let after : List Packet = taken ++ packet ∷ [] in
       let pushed : items_of after ≡ items_of taken ++ item ∷ [] = items_of-push taken packet in
       let more : (x : Item) → Contains (items_of taken) x → Contains (items_of after) x =
-      λ x old. subst (λ items. Contains items x) (sym pushed) (Contains-append_left (items_of taken) (item ∷ []) x old) in
+      λ x old.
+      subst (λ items. Contains items x) (sym pushed) (Contains-append_left (items_of taken) (item ∷ []) x old) in
       let last : Contains (items_of after) item =
       subst (λ items. Contains items item) (sym pushed) (Contains-push (items_of taken) item) in
       let found : IsPublished sessions session tag item = IsPublished-sent sessions session tag item was_sent in
@@ -232,9 +233,9 @@ module _ (h : History) (sound : IsSound h) (confirms : List Confirm) (sessions :
             (IsInTurn-taken taken rest packet of_taken is first takes))
         | inr passes ↦
             let same = taken_after-false taken packet passes in
-            subst (λ ps. IsInTurn (fold taken_after ps rest)) (sym same)
-            (IsInTurn-all taken rest (subst (λ ps. AreOfTaken confirms (fold taken_after ps rest)) same confirmed) others
-            is)
+            let of_taken : AreOfTaken confirms (fold taken_after taken rest) =
+            subst (λ ps. AreOfTaken confirms (fold taken_after ps rest)) same confirmed in
+            subst (λ ps. IsInTurn (fold taken_after ps rest)) (sym same) (IsInTurn-all taken rest of_taken others is)
       ]
 
 -- so whatever arrives of what a connector has sent, what a broker takes of it is a replay of the line

@@ -124,7 +124,8 @@ module _ (h : History) (sound : IsSound h) where
               let here : slice_get s.items found.0 ≡ Some (OfEvent e) =
               prefix_has s.items (line_after h s.base) found.0 (OfEvent e) front within
               (told_at es h.closed found.0 e found.1) in
-              has s among below found.0 (OfEvent e) here (is.confirmed (found.0 + 1) (omega arith) (omega (arith, early)))
+              has s among below found.0 (OfEvent e) here
+              (is.confirmed (found.0 + 1) (omega arith) (omega (arith, early)))
           | inr early ↦ base e there early
         ]
 

@@ -447,7 +447,9 @@ saved_base h c keeps course runs =
           (elim live.last [
             | inl new ↦ new.1
             | inr (_, (earlier, is)) ↦
-                inr (shown_of course, subst (λ xs. Contains xs (shown_of course)) (sym is) (0, omega arith, refl), inl refl)
+                let among : Contains keeps.sessions (shown_of course) =
+                subst (λ xs. Contains xs (shown_of course)) (sym is) (0, omega arith, refl) in
+                inr (shown_of course, among, inl refl)
           ])
       | inr at ↦
           let tags : (tag : ℕ) → 0 < tag → tag ≤ at.place + 1 → is_confirmed course tag ≡ true =

@@ -76,7 +76,8 @@ HasHandedOut-next q out d has found =
     let before : (y : Delivery) → Contains (take place (deliveries q.items)) y → Contains out y =
     λ y there.
     has.all y
-    (Contains-take_longer place q.handed (deliveries q.items) y (omega (arith, has.next_at_most, has.from_one)) there) in
+    (Contains-take_longer place q.handed (deliveries q.items) y (omega (arith, has.next_at_most, has.from_one))
+    there) in
     record {
       replay = IsReplay-found out (deliveries q.items) d place has.replay here before;
       all = λ y there.

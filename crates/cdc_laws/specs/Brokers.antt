@@ -10,8 +10,8 @@ use Rattle.cdc_message.specs.declared.packets.Confirm.{Confirm}
 use Rattle.cdc_message.specs.declared.packets.Packet.{Packet}
 use Rattle.cdc_message.specs.Replays.{IsReplay}
 
--- a broker at which these packets arrived, and which sent these confirms: its connection, the tag that it takes next and
--- its queues are what it took of the packets, and it confirmed nothing else
+-- a broker at which these packets arrived, and which sent these confirms: its connection, the tag that it takes next
+-- and its queues are what it took of the packets, and it confirmed nothing else
 pub record HasArrived (b : BrokerState) (arrived : List Packet) (confirms : List Confirm) : Type 0 where
   pub connection : b.connection ≡ current_session (taken_of arrived)
   pub expected : b.expected ≡ expected_tag (taken_of arrived)

@@ -40,16 +40,16 @@ shown_of course = record {
   items = take (tags_sent course) (told course.offered true);
 }
 
--- a session stands behind those that have sent something: it has sent nothing yet, and may come after them; or it is the
--- latest of them
+-- a session stands behind those that have sent something: it has sent nothing yet, and may come after them; or it is
+-- the latest of them
 abbrev pub StandsLast : List Confirm → List Shown → Course → Type 0
 StandsLast confirms sessions course =
     ((course.sent ≡ 0) × IsBase confirms sessions course.base
     × ((s : Shown) → Contains sessions s → s.number < course.number))
     ⊎ ((0 < course.sent) × ((earlier : List Shown) × (sessions ≡ shown_of course ∷ earlier)))
 
--- a session has sent no more than it was offered; or no event can follow, each tag of an event was confirmed, and it has
--- sent the end mark besides
+-- a session has sent no more than it was offered; or no event can follow, each tag of an event was confirmed, and it
+-- may have sent the end mark besides
 abbrev pub SendsInTurn : List Confirm → Course → Type 0
 SendsInTurn confirms course =
     (tags_sent course ≤ length course.offered)

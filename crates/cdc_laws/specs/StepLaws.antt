@@ -63,7 +63,8 @@ PacketsAreSent = (h : History) (c : ConnectorState) (course : Course) (packet : 
 
 -- a confirm comes, of this session or an earlier one, or where none runs
 abbrev pub ConfirmsCome : Type 0
-ConfirmsCome = (h : History) (c : ConnectorState) (confirm : Confirm) → KeepsTo h c → KeepsTo h (after_confirm confirm c)
+ConfirmsCome = (h : History) (c : ConnectorState) (confirm : Confirm) → KeepsTo h c
+    → KeepsTo h (after_confirm confirm c)
 
 -- it saves how far it has come
 abbrev pub ProgressIsSaved : Type 0
@@ -127,7 +128,8 @@ QueuesBegin = (binding : Arguments) → HasHandedOut (empty_queue binding) []
 
 -- the broker accepts an item, which the binding takes or not
 abbrev pub QueuesGrow : Type 0
-QueuesGrow = (q : QueueState) (out : List Delivery) (item : Item) → HasHandedOut q out → HasHandedOut (queued item q) out
+QueuesGrow = (q : QueueState) (out : List Delivery) (item : Item) → HasHandedOut q out
+    → HasHandedOut (queued item q) out
 
 -- it hands out what is next
 abbrev pub DeliveriesAreHandedOut : Type 0

@@ -8,7 +8,7 @@ use Rattle.cdc_ledger.specs.History.{Opened, History, opened}
 use Rattle.cdc_ledger.specs.Events.{accounts_now, account_now, account_with}
 use Rattle.cdc_ledger.specs.Follows.{Follows}
 use Rattle.cdc_ledger.specs.Sound.{HasAccounts, IsSound}
-use Rattle.cdc_ledger.proofs.Changes.{pushed, with_account, timed, IsUpTo, account_changed, effect_of, no_balances}
+use Rattle.cdc_ledger.proofs.Changes.{pushed, with_account, timed, IsUpTo, account_after, effect_of, no_balances}
 use Rattle.cdc_ledger.proofs.Elements.{AllByRecursion-every, map_same, map-map}
 use Rattle.cdc_ledger.proofs.BalanceLaws.{balances_later, balances-pushed, balances_none}
 
@@ -23,16 +23,16 @@ accounts_now-timed h t within later = map_every (account_now (timed h t)) (accou
     (λ o. ap (account_with o) (balances_later h o.request.id h.last t within later)) h.accounts
 
 -- the account after the entry e
-abbrev pub account_after : History → Entry → Account → Account
-account_after h e = account_changed (effect_of h e) e.transfer.debit_account_id e.transfer.credit_account_id
+abbrev pub account_after_entry : History → Entry → Account → Account
+account_after_entry h e = account_after (effect_of h e) e.transfer.debit_account_id e.transfer.credit_account_id
 
 -- an entry changes all accounts as the code changes its running balances
 pub accounts_now-pushed : (h : History) (e : Entry) → IsSound h → Follows h e → h.last < e.timestamp
-    → accounts_now (pushed h e) ≡ map (account_after h e) (accounts_now h)
+    → accounts_now (pushed h e) ≡ map (account_after_entry h e) (accounts_now h)
 accounts_now-pushed h e sound follows after =
-    map_every (account_now (pushed h e)) (λ o. account_after h e (account_now h o))
+    map_every (account_now (pushed h e)) (λ o. account_after_entry h e (account_now h o))
     (λ o. ap (account_with o) (balances-pushed h e o.request.id sound follows after)) h.accounts
-    ∙ sym (map-map (account_after h e) (account_now h) h.accounts)
+    ∙ sym (map-map (account_after_entry h e) (account_now h) h.accounts)
 
 -- a new account comes last, without any amount, and the others keep their balances
 pub accounts_now-with_account : (h : History) (o : Opened) → IsUpTo h.last h → AllByRecursion (HasAccounts h) h.entries

@@ -13,12 +13,12 @@ use Rattle.cdc_types.specs.declared.events.EventKind.TheVariants.{SinglePhase, T
 use Rattle.cdc_types.specs.declared.transfers.Transfer.{Transfer}
 use Rattle.cdc_ledger.specs.History.{History, opened}
 use Rattle.cdc_ledger.specs.Kinds.{holds, stores, settles, settled_id, posts, voids, expires}
-use Rattle.cdc_ledger.specs.Balances.{balances, resolves, resolved, held, moved, share, debit_side, credit_side}
+use Rattle.cdc_ledger.specs.Balances.{balances, resolves, resolved, held_amount, moved_amount, share, debit_side, credit_side}
 use Rattle.cdc_ledger.specs.Effects.{amount_of, settled_by, settled_in}
 use Rattle.cdc_ledger.specs.Filling.{stored_in, stored}
 use Rattle.cdc_ledger.specs.Follows.{Follows, SettlesOpen}
 use Rattle.cdc_ledger.specs.Sound.{HasAccounts, AreApart, stored_ids, Settles, Stands, IsSound}
-use Rattle.cdc_ledger.proofs.Changes.{pushed, IsUpTo, part, changed_by, effect_of, no_balances}
+use Rattle.cdc_ledger.proofs.Changes.{pushed, IsUpTo, part, balances_after_entry, effect_of, no_balances}
 use Rattle.cdc_ledger.proofs.Elements.{AllByRecursion-weaker, AllByRecursion-both, sum_by_same, sum_by_every, sum_by_zero, list_any_same, list_any_none}
 use Rattle.cdc_ledger.proofs.StoredLaws.{is_stored, stored_has, apart-cons}
 
@@ -58,23 +58,23 @@ share_same f g side a s t es agree =
 
 module _ (h : History) (a s t : ℕ) (within : IsUpTo s h) (later : s ≤ t) where
   -- no amount is released by time alone
-  held_later : (e : Entry) → held h t e ≡ held h s e
+  held_later : (e : Entry) → held_amount h t e ≡ held_amount h s e
   held_later e = ap (λ b. held_by b e) (resolved_later h e.transfer s t within later)
 
   -- so the sums of what is held are the same at both moments
   held_agree : (side : Transfer → ℕ)
-      → sum_by (share (held h t) side a t) h.entries ≡ sum_by (share (held h s) side a s) h.entries
-  held_agree side = share_same (held h t) (held h s) side a s t h.entries
+      → sum_by (share (held_amount h t) side a t) h.entries ≡ sum_by (share (held_amount h s) side a s) h.entries
+  held_agree side = share_same (held_amount h t) (held_amount h s) side a s t h.entries
       (AllByRecursion-weaker (λ e. e.timestamp ≤ s)
-      (λ e. (held h t e ≡ held h s e) × (nat_le e.timestamp t ≡ nat_le e.timestamp s))
+      (λ e. (held_amount h t e ≡ held_amount h s e) × (nat_le e.timestamp t ≡ nat_le e.timestamp s))
       (λ e at. (held_later e, seen_alike e s t at later)) h.entries within)
 
   -- and so are the sums of what was moved
   pub moved_agree : (side : Transfer → ℕ)
-      → sum_by (share moved side a t) h.entries ≡ sum_by (share moved side a s) h.entries
-  moved_agree side = share_same moved moved side a s t h.entries
+      → sum_by (share moved_amount side a t) h.entries ≡ sum_by (share moved_amount side a s) h.entries
+  moved_agree side = share_same moved_amount moved_amount side a s t h.entries
       (AllByRecursion-weaker (λ e. e.timestamp ≤ s)
-      (λ e. (moved e ≡ moved e) × (nat_le e.timestamp t ≡ nat_le e.timestamp s))
+      (λ e. (moved_amount e ≡ moved_amount e) × (nat_le e.timestamp t ≡ nat_le e.timestamp s))
       (λ e at. (refl, seen_alike e s t at later)) h.entries within)
 
 -- no entry lies between the moments s and t
@@ -103,19 +103,19 @@ or_none false c q = q
 module _ (h : History) (e : Entry) (a t : ℕ)
     (none : (p : Transfer) → (nat_le e.timestamp t && resolves p e) ≡ false) where
   -- each entry holds what it held, since the new one resolves nothing
-  held-pushed : (x : Entry) → held (pushed h e) t x ≡ held h t x
+  held-pushed : (x : Entry) → held_amount (pushed h e) t x ≡ held_amount h t x
   held-pushed x = ap (λ b. held_by b x)
       (resolved-pushed h e x.transfer t ∙ or_none (resolved h x.transfer t) _ (none x.transfer))
 
   -- so the pending sum grows by what the new entry holds itself
   share-pushed : (side : Transfer → ℕ)
-      → sum_by (share (held (pushed h e) t) side a t) (h.entries ++ e ∷ [])
-      ≡ sum_by (share (held h t) side a t) h.entries + share (held h t) side a t e
+      → sum_by (share (held_amount (pushed h e) t) side a t) (h.entries ++ e ∷ [])
+      ≡ sum_by (share (held_amount h t) side a t) h.entries + share (held_amount h t) side a t e
   share-pushed side =
-      sum_by_every (share (held (pushed h e) t) side a t) (share (held h t) side a t)
+      sum_by_every (share (held_amount (pushed h e) t) side a t) (share (held_amount h t) side a t)
       (λ x. ap (λ n. if nat_le x.timestamp t && (side x.transfer == a) then n else 0) (held-pushed x))
       (h.entries ++ e ∷ [])
-      ∙ sum_by_push (share (held h t) side a t) h.entries e
+      ∙ sum_by_push (share (held_amount h t) side a t) h.entries e
 
 -- an entry after the moment counts in no sum at that moment
 share_after : (f : Entry → ℕ) (side : Transfer → ℕ) (a t : ℕ) (e : Entry) → t < e.timestamp → share f side a t e ≡ 0
@@ -127,15 +127,15 @@ pub balances-pushed_before : (h : History) (e : Entry) (a t : ℕ) → t < e.tim
 balances-pushed_before h e a t after =
     let none : (p : Transfer) → (nat_le e.timestamp t && resolves p e) ≡ false =
     λ p. ap (λ b. b && resolves p e) (lt-leb e.timestamp t after) in
-    let held_same : (side : Transfer → ℕ) → sum_by (share (held (pushed h e) t) side a t) (h.entries ++ e ∷ [])
-    ≡ sum_by (share (held h t) side a t) h.entries =
+    let held_same : (side : Transfer → ℕ) → sum_by (share (held_amount (pushed h e) t) side a t) (h.entries ++ e ∷ [])
+    ≡ sum_by (share (held_amount h t) side a t) h.entries =
     λ side. share-pushed h e a t none side
-    ∙ (ap (λ n. sum_by (share (held h t) side a t) h.entries + n) (share_after (held h t) side a t e after)
+    ∙ (ap (λ n. sum_by (share (held_amount h t) side a t) h.entries + n) (share_after (held_amount h t) side a t e after)
     ∙ add-zero _) in
-    let moved_same : (side : Transfer → ℕ) → sum_by (share moved side a t) (h.entries ++ e ∷ [])
-    ≡ sum_by (share moved side a t) h.entries =
-    λ side. sum_by_push (share moved side a t) h.entries e
-    ∙ (ap (λ n. sum_by (share moved side a t) h.entries + n) (share_after moved side a t e after) ∙ add-zero _) in
+    let moved_same : (side : Transfer → ℕ) → sum_by (share moved_amount side a t) (h.entries ++ e ∷ [])
+    ≡ sum_by (share moved_amount side a t) h.entries =
+    λ side. sum_by_push (share moved_amount side a t) h.entries e
+    ∙ (ap (λ n. sum_by (share moved_amount side a t) h.entries + n) (share_after moved_amount side a t e after) ∙ add-zero _) in
     same_balances _ _ _ _ _ _ _ _ (held_same debit_side) (moved_same debit_side) (held_same credit_side)
     (moved_same credit_side)
 
@@ -328,11 +328,11 @@ module _ (h : History) (e : Entry) (a : ℕ) (sound : IsSound h) (follows : Foll
     (after : h.last < e.timestamp) where
   -- what an entry adds to the pending sum before the new one
   abbrev before : (Transfer → ℕ) → Entry → ℕ
-  before side x = share (held h h.last) side a h.last x
+  before side x = share (held_amount h h.last) side a h.last x
 
   -- and right after it
   abbrev right_after : (Transfer → ℕ) → Entry → ℕ
-  right_after side x = share (held (pushed h e) e.timestamp) side a e.timestamp x
+  right_after side x = share (held_amount (pushed h e) e.timestamp) side a e.timestamp x
 
   -- a pending transfer isn't resolved by its own entry
   own_unresolved : holds e.kind ≡ true → resolved (pushed h e) e.transfer e.timestamp ≡ false
@@ -373,9 +373,9 @@ module _ (h : History) (e : Entry) (a : ℕ) (sound : IsSound h) (follows : Foll
   -- where it settles nothing, all others hold what they held
   unchanged : settles e.kind ≡ false → (side : Transfer → ℕ)
       → sum_by (right_after side) h.entries ≡ sum_by (before side) h.entries
-  unchanged none side = share_same (held (pushed h e) e.timestamp) (held h h.last) side a h.last e.timestamp h.entries
+  unchanged none side = share_same (held_amount (pushed h e) e.timestamp) (held_amount h h.last) side a h.last e.timestamp h.entries
       (AllByRecursion-weaker (λ x. x.timestamp ≤ h.last)
-      (λ x. (held (pushed h e) e.timestamp x ≡ held h h.last x) ×
+      (λ x. (held_amount (pushed h e) e.timestamp x ≡ held_amount h h.last x) ×
       (nat_le x.timestamp e.timestamp ≡ nat_le x.timestamp h.last))
       (λ x at. (
         ap (λ b. held_by b x)
@@ -402,7 +402,7 @@ module _ (h : History) (e : Entry) (a : ℕ) (sound : IsSound h) (follows : Foll
       (held_falls x.kind (resolved h x.transfer h.last)
       (x.transfer.id == settled_id e.kind e.transfer) x.transfer.amount)
       ∙ share_falls (nat_le x.timestamp h.last && (side x.transfer == a)) (is_stored (settled_id e.kind e.transfer) x)
-      (held h h.last x))
+      (held_amount h h.last x))
 
   -- what the settled transfer added before is its whole amount, on its own side
   released_one : (side : Transfer → ℕ) (x : Entry) → stored h (settled_id e.kind e.transfer) ≡ Some x
@@ -468,14 +468,14 @@ module _ (h : History) (e : Entry) (a : ℕ) (sound : IsSound h) (follows : Foll
 
   -- the posted sum grows by what is moved
   moved_then : (side : Transfer → ℕ)
-      → sum_by (share moved side a e.timestamp) (h.entries ++ e ∷ [])
-      ≡ sum_by (share moved side a h.last) h.entries + part (side e.transfer) a (effect_of h e).moved
-  moved_then side = sum_by_push (share moved side a e.timestamp) h.entries e
+      → sum_by (share moved_amount side a e.timestamp) (h.entries ++ e ∷ [])
+      ≡ sum_by (share moved_amount side a h.last) h.entries + part (side e.transfer) a (effect_of h e).moved
+  moved_then side = sum_by_push (share moved_amount side a e.timestamp) h.entries e
       ∙ ap₂ (λ m n. m + n) (moved_agree h a h.last e.timestamp sound.past (omega arith) side)
-      (ap (λ b. if b && (side e.transfer == a) then moved e else 0) (le-leb e.timestamp e.timestamp (omega arith)))
+      (ap (λ b. if b && (side e.transfer == a) then moved_amount e else 0) (le-leb e.timestamp e.timestamp (omega arith)))
 
   -- the balances right after an entry of any kind
-  pub balances-pushed : balances (pushed h e) a e.timestamp ≡ changed_by h e a (balances h a h.last)
+  pub balances-pushed : balances (pushed h e) a e.timestamp ≡ balances_after_entry h e a (balances h a h.last)
   balances-pushed =
       let both : Fits debit_side × Fits credit_side = taken_out (settles e.kind) refl in
       same_changed _ _ _ _ _ _ _ _ _ _ (balances h a h.last) (pending_then debit_side both.0) (moved_then debit_side)
@@ -525,6 +525,6 @@ module _ (h : History) (a t : ℕ) (known : AllByRecursion (HasAccounts h) h.ent
 
   -- a new account begins without any amount
   pub balances_none : balances h a t ≡ no_balances
-  balances_none = same_balances _ _ _ _ _ _ _ _ (none_of (held h t) debit_side (λ e has. has.0))
-      (none_of moved debit_side (λ e has. has.0))
-      (none_of (held h t) credit_side (λ e has. has.1)) (none_of moved credit_side (λ e has. has.1))
+  balances_none = same_balances _ _ _ _ _ _ _ _ (none_of (held_amount h t) debit_side (λ e has. has.0))
+      (none_of moved_amount debit_side (λ e has. has.0))
+      (none_of (held_amount h t) credit_side (λ e has. has.1)) (none_of moved_amount credit_side (λ e has. has.1))

@@ -3,7 +3,7 @@ use Rattle.std.proofs.Common.{ℕ, ◌≤◌}
 use Rattle.std.specs.List.{AllByRecursion}
 use Rattle.cdc_ledger.specs.History.{History}
 pub use Rattle.cdc_ledger.specs.Accounts.{no_balances}
-pub use Rattle.cdc_ledger.specs.Effects.{part, changed, changed_by, account_changed, effect_of}
+pub use Rattle.cdc_ledger.specs.Effects.{part, balances_after, balances_after_entry, account_after, effect_of}
 pub use Rattle.cdc_ledger.specs.Changes.{pushed, with_account, timed}
 
 -- every entry is at or before the moment t

@@ -4,7 +4,7 @@ use Rattle.std.specs.Prelude.{◌==◌, ◌&&◌, ◌||◌, nat_lt, if◌then◌
 use Rattle.std.specs.List.{AllByRecursion}
 use Rattle.std.proofs.lemmas.Bool.Decides.{nat_tests}
 use Rattle.cdc_types.specs.declared.transfers.Transfer.{Transfer}
-use Rattle.cdc_ledger.specs.Due.{is_sooner, placed, in_order_of_end}
+use Rattle.cdc_ledger.specs.Due.{is_sooner, insert_by_end, in_order_of_end}
 use Rattle.cdc_ledger.specs.Filling.{expires_at}
 
 -- one moment and number before another isn't after it
@@ -24,45 +24,45 @@ either P false xs ys here there = there
 -- what holds of each stays so in the order
 module _ (P : Transfer → Type 0) where
   -- a transfer put in its place is like those that it stands among
-  pub All-placed : (p : Transfer) (qs : List Transfer) → P p → AllByRecursion P qs → AllByRecursion P (placed p qs)
-  All-placed p [] here all = (here, tt)
-  All-placed p (q ∷ qs) here all =
-      either (AllByRecursion P) (is_sooner q p) (q ∷ placed p qs) (p ∷ q ∷ qs)
-      (all.0, All-placed p qs here all.1) (here, all)
+  pub All-insert_by_end : (p : Transfer) (qs : List Transfer) → P p → AllByRecursion P qs → AllByRecursion P (insert_by_end p qs)
+  All-insert_by_end p [] here all = (here, tt)
+  All-insert_by_end p (q ∷ qs) here all =
+      either (AllByRecursion P) (is_sooner q p) (q ∷ insert_by_end p qs) (p ∷ q ∷ qs)
+      (all.0, All-insert_by_end p qs here all.1) (here, all)
 
   -- so what holds of all transfers holds of them in order
   pub All-in_order : (ps : List Transfer) → AllByRecursion P ps → AllByRecursion P (in_order_of_end ps)
   All-in_order [] all = tt
-  All-in_order (p ∷ ps) all = All-placed p (in_order_of_end ps) all.0 (All-in_order ps all.1)
+  All-in_order (p ∷ ps) all = All-insert_by_end p (in_order_of_end ps) all.0 (All-in_order ps all.1)
 
 -- a transfer put in its place among others makes one more
-length-placed : (p : Transfer) (qs : List Transfer) → length (placed p qs) ≡ suc (length qs)
-length-placed p [] = refl
-length-placed p (q ∷ qs) =
-    either (λ xs. length xs ≡ suc (suc (length qs))) (is_sooner q p) (q ∷ placed p qs) (p ∷ q ∷ qs)
-    (ap suc (length-placed p qs)) refl
+length-insert_by_end : (p : Transfer) (qs : List Transfer) → length (insert_by_end p qs) ≡ suc (length qs)
+length-insert_by_end p [] = refl
+length-insert_by_end p (q ∷ qs) =
+    either (λ xs. length xs ≡ suc (suc (length qs))) (is_sooner q p) (q ∷ insert_by_end p qs) (p ∷ q ∷ qs)
+    (ap suc (length-insert_by_end p qs)) refl
 
 -- the order takes none away
 pub length-in_order : (ps : List Transfer) → length (in_order_of_end ps) ≡ length ps
 length-in_order [] = refl
-length-in_order (p ∷ ps) = length-placed p (in_order_of_end ps) ∙ ap suc (length-in_order ps)
+length-in_order (p ∷ ps) = length-insert_by_end p (in_order_of_end ps) ∙ ap suc (length-in_order ps)
 
 -- p comes before all of these
 abbrev pub IsSoonest : Transfer → List Transfer → Type 0
 IsSoonest p = AllByRecursion (λ q. is_sooner p q ≡ true)
 
 -- one that ends sooner than all others is put before them
-placed_first : (p : Transfer) (qs : List Transfer) → IsSoonest p qs → placed p qs ≡ p ∷ qs
-placed_first p [] all = refl
-placed_first p (q ∷ qs) all =
-    ap (λ b. if b then q ∷ placed p qs else p ∷ q ∷ qs) (is_sooner-once p q all.0)
+insert_by_end-first : (p : Transfer) (qs : List Transfer) → IsSoonest p qs → insert_by_end p qs ≡ p ∷ qs
+insert_by_end-first p [] all = refl
+insert_by_end-first p (q ∷ qs) all =
+    ap (λ b. if b then q ∷ insert_by_end p qs else p ∷ q ∷ qs) (is_sooner-once p q all.0)
 
 -- wherever the soonest stands, the order has it first
 pub in_order-soonest : (p : Transfer) (front back : List Transfer) → IsSoonest p front → IsSoonest p back
     → in_order_of_end (front ++ p ∷ back) ≡ p ∷ in_order_of_end (front ++ back)
 in_order-soonest p [] back before after =
-    placed_first p (in_order_of_end back) (All-in_order (λ q. is_sooner p q ≡ true) back after)
+    insert_by_end-first p (in_order_of_end back) (All-in_order (λ q. is_sooner p q ≡ true) back after)
 in_order-soonest p (q ∷ front) back before after =
-    ap (placed q) (in_order-soonest p front back before.1 after)
-    ∙ ap (λ b. if b then p ∷ placed q (in_order_of_end (front ++ back)) else q ∷ p ∷ in_order_of_end (front ++ back))
+    ap (insert_by_end q) (in_order-soonest p front back before.1 after)
+    ∙ ap (λ b. if b then p ∷ insert_by_end q (in_order_of_end (front ++ back)) else q ∷ p ∷ in_order_of_end (front ++ back))
     before.0

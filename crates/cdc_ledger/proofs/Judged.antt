@@ -25,10 +25,10 @@ use Rattle.cdc_ledger.specs.Filling.{stored, filled, filled_by, filled_from, as_
 use Rattle.cdc_ledger.specs.History.{History, Opened, opened}
 use Rattle.cdc_ledger.specs.Kinds.{posts, voids, expires}
 use Rattle.cdc_ledger.specs.Movements.{IsPlace}
-use Rattle.cdc_ledger.specs.Parts.{field_lines, end_lines}
-use Rattle.cdc_ledger.specs.Sound.{IsBounded}
+use Rattle.cdc_ledger.specs.Parts.{end_lines_of}
+use Rattle.cdc_ledger.specs.Balances.{IsBounded}
 use Rattle.cdc_ledger.specs.Submit.{entry_of}
-use Rattle.cdc_ledger.specs.Verdict.{transfer_lines, known_transfer_lines, plain_lines, settling_lines}
+use Rattle.cdc_ledger.specs.Verdict.{transfer_lines, known_transfer_lines, plain_lines, field_lines, settling_lines}
 use Rattle.cdc_ledger.proofs.BalanceLaws.{balances_later}
 use Rattle.cdc_ledger.proofs.Changes.{IsUpTo}
 use Rattle.cdc_ledger.proofs.Elements.{AllByRecursion-weaker, list_any_same}
@@ -171,7 +171,7 @@ module _ (h : History) (r : NewTransfer) (t : ℕ) (x : Entry) (shape : transfer
 
   -- so what was posted, voided or expired may be asked of all entries
   by_parts : first_line (settling_lines (stored h r.pending_id) h r t)
-      ≡ first_line (field_lines x r ++ end_lines h.entries x.transfer t)
+      ≡ first_line (field_lines x r ++ end_lines_of h.entries x.transfer t)
   by_parts =
       let p : Transfer = x.transfer in
       ap (λ o. first_line (settling_lines o h r t)) there
@@ -185,14 +185,14 @@ module _ (h : History) (r : NewTransfer) (t : ℕ) (x : Entry) (shape : transfer
       → first_line (transfer_lines features h r t) ≡ Some refusal
   first_line-field refusal is =
       first_line-settling h r t shape unknown settles
-      ∙ by_parts ∙ first_line-append_some (field_lines x r) (end_lines h.entries x.transfer t) refusal is
+      ∙ by_parts ∙ first_line-append_some (field_lines x r) (end_lines_of h.entries x.transfer t) refusal is
 
   -- where its fields are right, the end of the pending transfer decides
   pub first_line-end : first_line (field_lines x r) ≡ None
-      → first_line (transfer_lines features h r t) ≡ first_line (end_lines h.entries x.transfer t)
+      → first_line (transfer_lines features h r t) ≡ first_line (end_lines_of h.entries x.transfer t)
   first_line-end none =
       first_line-settling h r t shape unknown settles
-      ∙ by_parts ∙ first_line-append_none (field_lines x r) (end_lines h.entries x.transfer t) none
+      ∙ by_parts ∙ first_line-append_none (field_lines x r) (end_lines_of h.entries x.transfer t) none
 
 -- what a request asks for, by its flags
 plain_settles : (pending post void : Bool) (h : History) (x : Transfer) → not (post || void) ≡ true

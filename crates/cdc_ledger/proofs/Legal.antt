@@ -13,7 +13,7 @@ use Rattle.cdc_ledger.specs.Balances.{balances}
 use Rattle.cdc_ledger.specs.Events.{account_now}
 use Rattle.cdc_ledger.specs.Fits.{BatchFits}
 use Rattle.cdc_ledger.specs.History.{History, Opened, opened}
-use Rattle.cdc_ledger.specs.Sound.{IsBounded}
+use Rattle.cdc_ledger.specs.Balances.{IsBounded}
 use Rattle.cdc_ledger.specs.Submit.{IsLegal}
 use Rattle.cdc_ledger.proofs.LegalLaws.{IsLegal-submit}
 use Rattle.cdc_ledger.proofs.OpenedLaws.{opened_id}

@@ -6,7 +6,7 @@ use Rattle.std.proofs.lemmas.Bool.{and_parts, and_right, eqb-true, ne_eqb, false
 use Rattle.std.proofs.lemmas.List.Sums.{sum_by_push}
 use Rattle.cdc_types.specs.declared.events.Entry.{Entry}
 use Rattle.cdc_types.specs.declared.transfers.Transfer.{Transfer}
-use Rattle.cdc_ledger.specs.Balances.{balances, resolves, resolved, held, moved, share, debit_side, credit_side}
+use Rattle.cdc_ledger.specs.Balances.{balances, resolves, resolved, held_amount, moved_amount, share, debit_side, credit_side}
 use Rattle.cdc_ledger.specs.Filling.{stored}
 use Rattle.cdc_ledger.specs.History.{History}
 use Rattle.cdc_ledger.specs.Kinds.{holds, stores, settles, settled_id}
@@ -65,14 +65,14 @@ module _ (h : History) (sound : IsSound h) where
 module _ (h : History) (e : Entry) (a : ℕ) (within : IsUpTo h.last h) (after : h.last < e.timestamp) where
   -- what an entry adds to the pending sum before the new one
   abbrev before : (Transfer → ℕ) → Entry → ℕ
-  before side x = share (held h h.last) side a h.last x
+  before side x = share (held_amount h h.last) side a h.last x
 
   -- and right after it
   abbrev right_after : (Transfer → ℕ) → Entry → ℕ
-  right_after side x = share (held (pushed h e) e.timestamp) side a e.timestamp x
+  right_after side x = share (held_amount (pushed h e) e.timestamp) side a e.timestamp x
 
   -- what an entry holds, where this one doesn't settle it
-  kept : (x : Entry) → resolves x.transfer e ≡ false → held (pushed h e) e.timestamp x ≡ held h h.last x
+  kept : (x : Entry) → resolves x.transfer e ≡ false → held_amount (pushed h e) e.timestamp x ≡ held_amount h h.last x
   kept x unresolved =
       ap (λ b. held_by b x)
       (resolved-pushed h e x.transfer e.timestamp
@@ -86,7 +86,7 @@ module _ (h : History) (e : Entry) (a : ℕ) (within : IsUpTo h.last h) (after :
 
   -- an entry that holds nothing, or that this one doesn't settle, holds as much as before
   held_either : (x : Entry) (holding done : Bool) → holds x.kind ≡ holding → resolves x.transfer e ≡ done
-      → (holding ≡ true → done ≡ true → false ≡ true) → held (pushed h e) e.timestamp x ≡ held h h.last x
+      → (holding ≡ true → done ≡ true → false ≡ true) → held_amount (pushed h e) e.timestamp x ≡ held_amount h h.last x
   held_either x holding false is settled never = kept x settled
   held_either x true true is settled never = absurd (false≢true (never refl refl))
   held_either x false true is settled never =
@@ -98,9 +98,9 @@ module _ (h : History) (e : Entry) (a : ℕ) (within : IsUpTo h.last h) (after :
       → (holds x.kind ≡ true → resolves x.transfer e ≡ true → side e.transfer ≡ side x.transfer)
       → x.timestamp ≤ h.last → right_after side x ≡ before side x
   one_share side x false is other sides at =
-      ap (λ b. if b then held (pushed h e) e.timestamp x else 0)
+      ap (λ b. if b then held_amount (pushed h e) e.timestamp x else 0)
       (and_right (nat_le x.timestamp e.timestamp) (side x.transfer == a) is)
-      ∙ sym (ap (λ b. if b then held h h.last x else 0)
+      ∙ sym (ap (λ b. if b then held_amount h h.last x else 0)
       (and_right (nat_le x.timestamp h.last) (side x.transfer == a) is))
   one_share side x true is other sides at =
       ap₂ (λ b n. if b && (side x.transfer == a) then n else 0) (seen_alike x h.last e.timestamp at (omega arith))
@@ -122,19 +122,19 @@ module _ (h : History) (e : Entry) (a : ℕ) (within : IsUpTo h.last h) (after :
       (λ x both. one_share side x (side x.transfer == a) refl other both.0 both.1) h.entries
       (AllByRecursion-both (λ x. holds x.kind ≡ true → resolves x.transfer e ≡ true → side e.transfer ≡ side x.transfer)
       (λ x. x.timestamp ≤ h.last) h.entries sides within)))
-      (ap (λ b. if b then held (pushed h e) e.timestamp e else 0)
+      (ap (λ b. if b then held_amount (pushed h e) e.timestamp e else 0)
       (and_right (nat_le e.timestamp e.timestamp) (side e.transfer == a) (ne_eqb (side e.transfer) a other)))
       ∙ add-zero (sum_by (before side) h.entries))
 
   -- and so does the posted one
   all_moved : (side : Transfer → ℕ) → side e.transfer ≢ a
-      → sum_by (share moved side a e.timestamp) (h.entries ++ e ∷ []) ≡ sum_by (share moved side a h.last) h.entries
+      → sum_by (share moved_amount side a e.timestamp) (h.entries ++ e ∷ []) ≡ sum_by (share moved_amount side a h.last) h.entries
   all_moved side other =
-      sum_by_push (share moved side a e.timestamp) h.entries e
+      sum_by_push (share moved_amount side a e.timestamp) h.entries e
       ∙ (ap₂ (λ m n. m + n) (moved_agree h a h.last e.timestamp within (omega arith) side)
-      (ap (λ b. if b then moved e else 0)
+      (ap (λ b. if b then moved_amount e else 0)
       (and_right (nat_le e.timestamp e.timestamp) (side e.transfer == a) (ne_eqb (side e.transfer) a other)))
-      ∙ add-zero (sum_by (share moved side a h.last) h.entries))
+      ∙ add-zero (sum_by (share moved_amount side a h.last) h.entries))
 
   -- an account that the entry doesn't name
   pub balances-pushed_other : AllByRecursion (HasSidesOf e) h.entries → e.transfer.debit_account_id ≢ a

@@ -12,10 +12,10 @@ use Rattle.std.proofs.lemmas.Option.{slice_get-get_or}
 use Rattle.cdc_types.specs.declared.accounts.Account.{Account}
 use Rattle.cdc_types.specs.declared.accounts.Balances.{Balances}
 use Rattle.cdc_ledger.specs.Accounts.{no_balances, shown_as, shown_in}
-use Rattle.cdc_ledger.specs.Effects.{Effect, part, account_changed}
+use Rattle.cdc_ledger.specs.Effects.{Effect, part, account_after}
 use Rattle.cdc_ledger.specs.Events.{nobody, shown_account}
 use Rattle.cdc_ledger.specs.declared.movements.Movement.{Movement}
-use Rattle.cdc_ledger.specs.Movements.{IsPlace, IsPlaced, account_ids, accounts_changed, debited, credited, effect_of_movement}
+use Rattle.cdc_ledger.specs.Movements.{IsPlace, IsPlaced, account_ids, accounts_after, debited_account, credited_account, effect_of_movement}
 use Rattle.cdc_ledger.specs.Sound.{AreApart}
 
 -- the place that a search answers is the one where it stopped
@@ -122,7 +122,7 @@ same_sums a b c d = cc
 
 module _ (f : Effect) (debit credit : ℕ) (apart : debit ≢ credit) (a : Account) where
   -- the account that the code debits is the account after the effect
-  pub changed-debited : a.id ≡ debit → debited f a ≡ account_changed f debit credit a
+  pub changed-debited : a.id ≡ debit → debited_account f a ≡ account_after f debit credit a
   changed-debited at =
       let b : Balances = a.balances in
       let not_credit : a.id ≢ credit = λ same. apart (sym at ∙ same) in
@@ -134,7 +134,7 @@ module _ (f : Effect) (debit credit : ℕ) (apart : debit ≢ credit) (a : Accou
       (let m = part-other credit a.id f.moved not_credit in rw m (omega arith)))
 
   -- the same of the one that is credited
-  pub changed-credited : a.id ≡ credit → credited f a ≡ account_changed f debit credit a
+  pub changed-credited : a.id ≡ credit → credited_account f a ≡ account_after f debit credit a
   changed-credited at =
       let not_debit : a.id ≢ debit = λ same. apart (sym same ∙ at) in
       ap (λ (sums : Balances). record a { balances = sums }) (same_sums
@@ -145,7 +145,7 @@ module _ (f : Effect) (debit credit : ℕ) (apart : debit ≢ credit) (a : Accou
       (let m = part-same credit a.id f.moved at in rw m refl))
 
   -- any other account stays as it was
-  pub changed-neither : a.id ≢ debit → a.id ≢ credit → account_changed f debit credit a ≡ a
+  pub changed-neither : a.id ≢ debit → a.id ≢ credit → account_after f debit credit a ≡ a
   changed-neither not_debit not_credit =
       ap (λ (sums : Balances). record a { balances = sums }) (same_sums
       (let h = part-other debit a.id f.held not_debit in let r = part-other debit a.id f.released not_debit in rw (h, r)
@@ -170,14 +170,14 @@ module _ (accounts : List Account) (m : Movement) (placed : IsPlaced accounts m)
 
   -- one account debited and the other credited are the accounts after the movement
   pub both-changed : (a b : Account) → AreApart (account_ids accounts)
-      → a ≡ debited (effect_of_movement m) (get_or accounts m.debit d)
-      → b ≡ credited (effect_of_movement m) (get_or accounts m.credit d)
-      → set (set accounts m.debit a) m.credit b ≡ accounts_changed m accounts
+      → a ≡ debited_account (effect_of_movement m) (get_or accounts m.debit d)
+      → b ≡ credited_account (effect_of_movement m) (get_or accounts m.credit d)
+      → set (set accounts m.debit a) m.credit b ≡ accounts_after m accounts
   both-changed a b unique first second =
       let debit_id : ℕ = m.entry.transfer.debit_account_id in
       let credit_id : ℕ = m.entry.transfer.credit_account_id in
       let f : Effect = effect_of_movement m in
-      set_two (account_changed f debit_id credit_id) accounts m.debit m.credit a b d
+      set_two (account_after f debit_id credit_id) accounts m.debit m.credit a b d
       (place-inside accounts debit_id m.debit d placed.debit)
       (place-inside accounts credit_id m.credit d placed.credit) places_apart
       (first ∙ changed-debited f debit_id credit_id apart (get_or accounts m.debit d)

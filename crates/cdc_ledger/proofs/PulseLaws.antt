@@ -8,7 +8,7 @@ use Rattle.cdc_types.specs.declared.events.Entry.{Entry}
 use Rattle.cdc_types.specs.declared.transfers.Transfer.{Transfer}
 use Rattle.cdc_ledger.specs.Balances.{resolved}
 use Rattle.cdc_ledger.specs.Changes.{expiry}
-use Rattle.cdc_ledger.specs.Due.{is_due, is_sooner, placed, in_order_of_end, due}
+use Rattle.cdc_ledger.specs.Due.{is_due, is_sooner, insert_by_end, in_order_of_end, due}
 use Rattle.cdc_ledger.specs.Filling.{stored, expires_at}
 use Rattle.cdc_ledger.specs.Follows.{Follows}
 use Rattle.cdc_ledger.specs.History.{History}
@@ -19,7 +19,7 @@ use Rattle.cdc_ledger.specs.Verdict.{max_timestamp}
 use Rattle.cdc_ledger.proofs.AcceptedLaws.{Follows-expiry}
 use Rattle.cdc_ledger.proofs.BalanceLaws.{resolved_then, stores-holds}
 use Rattle.cdc_ledger.proofs.Changes.{pushed}
-use Rattle.cdc_ledger.proofs.DueOrder.{All-placed, All-in_order}
+use Rattle.cdc_ledger.proofs.DueOrder.{All-insert_by_end, All-in_order}
 use Rattle.cdc_ledger.proofs.Elements.{AllByRecursion-weaker, AllByRecursion-both}
 use Rattle.cdc_ledger.proofs.SoundLaws.{IsSound-pushed}
 use Rattle.cdc_ledger.proofs.StoredLaws.{is_stored, apart-cons, stored_each, stored-pushed_kept}
@@ -41,12 +41,12 @@ HaveOwnIds (p ∷ ps) = AllByRecursion (λ q. p.id ≢ q.id) ps × HaveOwnIds ps
 
 -- a transfer put in its place among others of different ids leaves all ids different
 placed_ids : (p : Transfer) (qs : List Transfer) → AllByRecursion (λ q. p.id ≢ q.id) qs → HaveOwnIds qs
-    → HaveOwnIds (placed p qs)
+    → HaveOwnIds (insert_by_end p qs)
 placed_ids p [] other own = (tt, tt)
 placed_ids p (q ∷ qs) other own = either (is_sooner q p) (placed_ids p qs other.1 own.1)
   where
-    either : (b : Bool) → HaveOwnIds (placed p qs) → HaveOwnIds (if b then q ∷ placed p qs else p ∷ q ∷ qs)
-    either true more = (All-placed (λ x. q.id ≢ x.id) p qs (λ same. other.0 (sym same)) own.0, more)
+    either : (b : Bool) → HaveOwnIds (insert_by_end p qs) → HaveOwnIds (if b then q ∷ insert_by_end p qs else p ∷ q ∷ qs)
+    either true more = (All-insert_by_end (λ x. q.id ≢ x.id) p qs (λ same. other.0 (sym same)) own.0, more)
     either false more = (other, own)
 
 -- so the order of their ends brings no transfer twice

@@ -20,12 +20,12 @@ use Rattle.cdc_ledger.specs.Accounts.{opened_as, no_balances, shown_as, shown_in
 use Rattle.cdc_ledger.specs.Balances.{balances}
 use Rattle.cdc_ledger.specs.Changes.{pushed}
 use Rattle.cdc_ledger.specs.Contents.{Contents}
-use Rattle.cdc_ledger.specs.Effects.{Effect, effect_of, effect_by, settled_by, account_changed}
+use Rattle.cdc_ledger.specs.Effects.{Effect, effect_of, effect_by, settled_by, account_after}
 use Rattle.cdc_ledger.specs.Events.{accounts_now, account_now, account_at, events, shown_account, shown_transfer, event_of, nobody}
 use Rattle.cdc_ledger.specs.Follows.{Follows}
 use Rattle.cdc_ledger.specs.History.{History, Opened, opened}
 use Rattle.cdc_ledger.specs.Kinds.{settles}
-use Rattle.cdc_ledger.specs.Movements.{IsPlace, IsPlaced, IsMovement, SideFits, Takes, account_ids, accounts_changed, effect_of_movement}
+use Rattle.cdc_ledger.specs.Movements.{IsPlace, IsPlaced, IsMovement, SideFits, Takes, account_ids, accounts_after, effect_of_movement}
 use Rattle.cdc_ledger.specs.OpenTriples.{index_of, ends_after}
 use Rattle.cdc_ledger.specs.Sound.{AreApart, IsSound}
 use Rattle.cdc_ledger.specs.Tables.{IsKept, contents_of, history_of}
@@ -129,23 +129,23 @@ AreApart-kept t kept = subst AreApart (sym (ids_opened t.accounts.items)) kept.s
 -- a change of balances opens no account and moves none
 module _ (m : Movement) where
   -- accounts keep everything but their balances
-  opened_as-changed : (xs : List Account) → map opened_as (accounts_changed m xs) ≡ map opened_as xs
+  opened_as-changed : (xs : List Account) → map opened_as (accounts_after m xs) ≡ map opened_as xs
   opened_as-changed [] = refl
   opened_as-changed (a ∷ rest) = ap (λ os. opened_as a ∷ os) (opened_as-changed rest)
 
   -- an id is found as far down the list as before
   before_changed : (id : ℕ) (xs : List Account)
-      → position_or_len (λ a. a.id == id) (accounts_changed m xs) ≡ position_or_len (λ a. a.id == id) xs
+      → position_or_len (λ a. a.id == id) (accounts_after m xs) ≡ position_or_len (λ a. a.id == id) xs
   before_changed id [] = refl
   before_changed id (a ∷ rest) = ap (λ n. cond (not (a.id == id)) (1 + n) 0) (before_changed id rest)
 
   -- so it keeps its place
-  place_changed : (id place : ℕ) (xs : List Account) → IsPlace xs id place → IsPlace (accounts_changed m xs) id place
+  place_changed : (id place : ℕ) (xs : List Account) → IsPlace xs id place → IsPlace (accounts_after m xs) id place
   place_changed id place xs at =
       ap₂ (λ n l. cond (nat_lt n l) (Some n) None) (before_changed id xs) (length-map xs _) ∙ at
 
   -- so the movement's places still hold when its event is made of the changed accounts
-  pub IsPlaced-changed : (xs ys : List Account) → ys ≡ accounts_changed m xs → IsPlaced xs m → IsPlaced ys m
+  pub IsPlaced-changed : (xs ys : List Account) → ys ≡ accounts_after m xs → IsPlaced xs m → IsPlaced ys m
   IsPlaced-changed xs ys same placed =
       subst (λ zs. IsPlaced zs m) (sym same) (record {
         debit = place_changed m.entry.transfer.debit_account_id m.debit xs placed.debit;
@@ -153,7 +153,7 @@ module _ (m : Movement) where
       })
 
   -- so the tables hold the history with one more entry, and nothing else new
-  pub history-recorded : (t t' : Inside) → t'.accounts.items ≡ accounts_changed m t.accounts.items
+  pub history-recorded : (t t' : Inside) → t'.accounts.items ≡ accounts_after m t.accounts.items
       → t'.entries.items ≡ t.entries.items ++ m.entry ∷ [] → t'.last ≡ m.entry.timestamp → t'.closed ≡ t.closed
       → history_of t' ≡ pushed (history_of t) m.entry
   history-recorded t t' accounts entries last closed =
@@ -192,13 +192,13 @@ event_from-now h e debit credit last =
 
 -- the accounts after the movement are those after its entry
 pub accounts-recorded : (t : Inside) (m : Movement) → CanTake t m
-    → accounts_changed m t.accounts.items ≡ accounts_now (pushed (history_of t) m.entry)
+    → accounts_after m t.accounts.items ≡ accounts_now (pushed (history_of t) m.entry)
 accounts-recorded t m can =
     let d : ℕ = m.entry.transfer.debit_account_id in
     let c : ℕ = m.entry.transfer.credit_account_id in
-    ap (λ (g : Effect). map (account_changed g d c) t.accounts.items)
+    ap (λ (g : Effect). map (account_after g d c) t.accounts.items)
     (effect-movement (history_of t) m can.movement.settled)
-    ∙ ap (map (account_changed (effect_of (history_of t) m.entry) d c)) can.kept.balanced
+    ∙ ap (map (account_after (effect_of (history_of t) m.entry) d c)) can.kept.balanced
     ∙ sym (accounts_now-pushed (history_of t) m.entry can.kept.sound can.follows can.later)
 
 -- events have the timestamps of their entries, of which none is past the last one
@@ -224,7 +224,7 @@ items-with_items v f ws xs mapped same =
 -- what is kept of the tables is kept after the movement, whose entry takes this place
 pub IsKept-recorded : (t t' : Inside) (m : Movement) (place : ℕ) → CanTake t m → m.entry.timestamp ≤ max_timestamp
     → place ≡ length t.entries.items
-    → t'.accounts.items ≡ accounts_changed m t.accounts.items
+    → t'.accounts.items ≡ accounts_after m t.accounts.items
     → t'.log.events ≡ t.log.events ++ event_from t'.accounts.items m.entry ∷ []
     → t'.index.triples ≡ ends_after m.settled m.entry place t.index.triples
     → history_of t' ≡ pushed (history_of t) m.entry → IsKept t'

@@ -1,9 +1,10 @@
 -- The balances of an account, as sums over the entries (TigerBeetle, Account and Two-Phase Transfers).
-use Rattle.std.specs.Prelude.{ℕ, Bool, ◌==◌, ◌&&◌, ◌||◌, not, nat_le, if◌then◌else◌, sum_by}
+use Rattle.std.specs.Prelude.{ℕ, ◌+◌, ◌≤◌, Bool, ◌==◌, ◌&&◌, ◌||◌, not, nat_le, if◌then◌else◌, sum_by}
 use Rattle.std.specs.List.{list_any}
 use Rattle.cdc_types.specs.declared.accounts.Balances.{Balances}
 use Rattle.cdc_types.specs.declared.events.Entry.{Entry}
 use Rattle.cdc_types.specs.declared.transfers.Transfer.{Transfer}
+use Rattle.cdc_types.specs.Widths.{max_128}
 use Rattle.cdc_ledger.specs.History.{History}
 use Rattle.cdc_ledger.specs.Kinds.{holds, moves, posts, voids, expires}
 
@@ -20,12 +21,12 @@ abbrev pub resolved : History → Transfer → ℕ → Bool
 resolved h p t = some_by h t (resolves p)
 
 -- what the entry still holds back at the moment t
-abbrev pub held : History → ℕ → Entry → ℕ
-held h t e = if holds e.kind && not (resolved h e.transfer t) then e.transfer.amount else 0
+abbrev pub held_amount : History → ℕ → Entry → ℕ
+held_amount h t e = if holds e.kind && not (resolved h e.transfer t) then e.transfer.amount else 0
 
 -- what the entry moved for good
-abbrev pub moved : Entry → ℕ
-moved e = if moves e.kind then e.transfer.amount else 0
+abbrev pub moved_amount : Entry → ℕ
+moved_amount e = if moves e.kind then e.transfer.amount else 0
 
 -- the amount of an entry, where it stands up to the moment t and this side of it is the account
 abbrev pub share : (Entry → ℕ) → (Transfer → ℕ) → ℕ → ℕ → Entry → ℕ
@@ -42,12 +43,18 @@ credit_side x = x.credit_account_id
 -- the balances of an account at the moment t
 abbrev pub balances : History → ℕ → ℕ → Balances
 balances h account t = record {
-  debits_pending = sum_by (share (held h t) debit_side account t) h.entries;
-  debits_posted = sum_by (share moved debit_side account t) h.entries;
-  credits_pending = sum_by (share (held h t) credit_side account t) h.entries;
-  credits_posted = sum_by (share moved credit_side account t) h.entries;
+  debits_pending = sum_by (share (held_amount h t) debit_side account t) h.entries;
+  debits_posted = sum_by (share moved_amount debit_side account t) h.entries;
+  credits_pending = sum_by (share (held_amount h t) credit_side account t) h.entries;
+  credits_posted = sum_by (share moved_amount credit_side account t) h.entries;
 }
 
 -- the balances of every number as an account, as of the moment t
 abbrev pub as_of : History → ℕ → ℕ → Balances
 as_of h t = λ account. balances h account t
+
+-- the sums of each account fit 128 bits, on each side pending and posted together
+abbrev pub IsBounded : History → Type 0
+IsBounded h =
+    (id : ℕ) → ((balances h id h.last).debits_pending + (balances h id h.last).debits_posted ≤ max_128)
+    × ((balances h id h.last).credits_pending + (balances h id h.last).credits_posted ≤ max_128)

@@ -20,14 +20,14 @@ is_sooner p q =
     nat_lt (expires_at p) (expires_at q) || ((expires_at p == expires_at q) && nat_lt p.timestamp q.timestamp)
 
 -- p in its place among transfers in order
-abbrev pub placed : Transfer → List Transfer → List Transfer
-placed p [] = p ∷ []
-placed p (q ∷ qs) = if is_sooner q p then q ∷ placed p qs else p ∷ q ∷ qs
+abbrev pub insert_by_end : Transfer → List Transfer → List Transfer
+insert_by_end p [] = p ∷ []
+insert_by_end p (q ∷ qs) = if is_sooner q p then q ∷ insert_by_end p qs else p ∷ q ∷ qs
 
 -- the transfers in the order of their ends
 abbrev pub in_order_of_end : List Transfer → List Transfer
 in_order_of_end [] = []
-in_order_of_end (p ∷ ps) = placed p (in_order_of_end ps)
+in_order_of_end (p ∷ ps) = insert_by_end p (in_order_of_end ps)
 
 -- the pending transfers that are due at the moment now, in the order of their ends
 abbrev pub due : History → ℕ → List Transfer

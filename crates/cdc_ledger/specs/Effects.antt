@@ -47,8 +47,8 @@ abbrev pub part : ℕ → ℕ → ℕ → ℕ
 part side account amount = if side == account then amount else 0
 
 -- the balances of an account after an effect on the accounts of these two ids, of which it may be either
-abbrev pub changed : Effect → ℕ → ℕ → ℕ → Balances → Balances
-changed f debit credit account sums = record {
+abbrev pub balances_after : Effect → ℕ → ℕ → ℕ → Balances → Balances
+balances_after f debit credit account sums = record {
   debits_pending = sums.debits_pending + part debit account f.held - part debit account f.released;
   debits_posted = sums.debits_posted + part debit account f.moved;
   credits_pending = sums.credits_pending + part credit account f.held - part credit account f.released;
@@ -56,9 +56,9 @@ changed f debit credit account sums = record {
 }
 
 -- the balances of an account after the entry e
-abbrev pub changed_by : History → Entry → ℕ → Balances → Balances
-changed_by h e = changed (effect_of h e) e.transfer.debit_account_id e.transfer.credit_account_id
+abbrev pub balances_after_entry : History → Entry → ℕ → Balances → Balances
+balances_after_entry h e = balances_after (effect_of h e) e.transfer.debit_account_id e.transfer.credit_account_id
 
 -- the account after an effect
-abbrev pub account_changed : Effect → ℕ → ℕ → Account → Account
-account_changed f debit credit a = record a { balances = changed f debit credit a.id a.balances }
+abbrev pub account_after : Effect → ℕ → ℕ → Account → Account
+account_after f debit credit a = record a { balances = balances_after f debit credit a.id a.balances }

@@ -11,7 +11,7 @@ pub mod History
 pub mod Kinds
 pub mod Submit
 pub mod Verdict
--- what only private contracts and the laws cite, but for IsBounded of Sound
+-- what only private contracts and the laws cite
 pub mod Accounts
 pub mod Contents
 pub mod Effects

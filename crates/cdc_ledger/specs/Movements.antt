@@ -5,7 +5,7 @@ use Rattle.cdc_types.specs.declared.transfers.NewTransfer.{NewTransfer}
 use Rattle.cdc_types.specs.Features.{features}
 use Rattle.cdc_types.specs.Lines.{first_line}
 use Rattle.cdc_ledger.specs.declared.movements.Movement.{Movement}
-use Rattle.cdc_ledger.specs.Effects.{Effect, effect_by, settled_by, account_changed}
+use Rattle.cdc_ledger.specs.Effects.{Effect, effect_by, settled_by, account_after}
 use Rattle.cdc_ledger.specs.Events.{accounts_now}
 use Rattle.cdc_ledger.specs.Follows.{Follows}
 use Rattle.cdc_ledger.specs.History.{History}
@@ -45,8 +45,8 @@ pub record SideFits (f : Effect) (pending posted : ℕ) : Type 0 where
   pub moved : posted + f.moved < 2 ^ 128
 
 -- the account that is debited, and the one that is credited, after the effect
-abbrev pub debited : Effect → Account → Account
-debited f a = record a {
+abbrev pub debited_account : Effect → Account → Account
+debited_account f a = record a {
   balances = record a.balances {
     debits_pending = a.balances.debits_pending + f.held - f.released;
     debits_posted = a.balances.debits_posted + f.moved;
@@ -54,8 +54,8 @@ debited f a = record a {
 }
 
 -- the same on its credit side
-abbrev pub credited : Effect → Account → Account
-credited f a = record a {
+abbrev pub credited_account : Effect → Account → Account
+credited_account f a = record a {
   balances = record a.balances {
     credits_pending = a.balances.credits_pending + f.held - f.released;
     credits_posted = a.balances.credits_posted + f.moved;
@@ -73,6 +73,6 @@ abbrev pub account_ids : List Account → List ℕ
 account_ids accounts = map (λ a. a.id) accounts
 
 -- the accounts after the movement
-abbrev pub accounts_changed : Movement → List Account → List Account
-accounts_changed m =
-    map (account_changed (effect_of_movement m) m.entry.transfer.debit_account_id m.entry.transfer.credit_account_id)
+abbrev pub accounts_after : Movement → List Account → List Account
+accounts_after m =
+    map (account_after (effect_of_movement m) m.entry.transfer.debit_account_id m.entry.transfer.credit_account_id)

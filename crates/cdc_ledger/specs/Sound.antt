@@ -1,10 +1,9 @@
 -- What holds of every history that a ledger makes (for private contracts and the laws).
-use Rattle.std.specs.Prelude.{ℕ, ◌+◌, ◌≤◌, ◌<◌, ◌≡◌, ◌≢◌, true, IsSome, Some, List, [], ◌∷◌, map, filter}
+use Rattle.std.specs.Prelude.{ℕ, ◌≤◌, ◌<◌, ◌≡◌, ◌≢◌, true, IsSome, Some, List, [], ◌∷◌, map, filter}
 use Rattle.std.specs.List.{AllByRecursion}
 use Rattle.cdc_types.specs.declared.events.Entry.{Entry}
 use Rattle.cdc_types.specs.declared.events.EventKind.TheVariants.{TwoPhaseExpired}
-use Rattle.cdc_types.specs.Widths.{max_128}
-use Rattle.cdc_ledger.specs.Balances.{balances}
+use Rattle.cdc_ledger.specs.Balances.{IsBounded}
 use Rattle.cdc_ledger.specs.Filling.{stored, expires_at}
 use Rattle.cdc_ledger.specs.History.{History, opened}
 use Rattle.cdc_ledger.specs.Kinds.{holds, settles, settled_id, stores}
@@ -18,12 +17,6 @@ RiseFrom t (e ∷ es) = (t < e.timestamp) × RiseFrom e.timestamp es
 -- both accounts of the entry are there
 abbrev pub HasAccounts : History → Entry → Type 0
 HasAccounts h e = IsSome (opened h e.transfer.debit_account_id) × IsSome (opened h e.transfer.credit_account_id)
-
--- the sums of each account fit 128 bits, on each side pending and posted together
-abbrev pub IsBounded : History → Type 0
-IsBounded h =
-    (id : ℕ) → ((balances h id h.last).debits_pending + (balances h id h.last).debits_posted ≤ max_128)
-    × ((balances h id h.last).credits_pending + (balances h id h.last).credits_posted ≤ max_128)
 
 -- no number occurs twice
 abbrev pub AreApart : List ℕ → Type 0

@@ -54,22 +54,36 @@ known_transfer_lines (Some e) h r =
     (true, transfer.Exists) ∷
     []
 
--- the lines on the sums that a single-phase or a pending transfer would lead to, from the balances before it
-abbrev pub sum_lines : Balances → Balances → NewAccount → NewAccount → NewTransfer → ℕ → List (Bool × TransferResult)
-sum_lines debit credit debited credited r t =
+-- the lines on sums that don't fit, from the balances before a single-phase or a pending transfer
+abbrev pub overflow_lines : Balances → Balances → NewTransfer → List (Bool × TransferResult)
+overflow_lines debit credit r =
     let pending = is_pending_request r in
-    let debits = debit.debits_pending + debit.debits_posted + r.amount in
-    let credits = credit.credits_pending + credit.credits_posted + r.amount in
     (pending && nat_lt max_128 (debit.debits_pending + r.amount), transfer.OverflowsDebitsPending) ∷
     (pending && nat_lt max_128 (credit.credits_pending + r.amount), transfer.OverflowsCreditsPending) ∷
     (nat_lt max_128 (debit.debits_posted + r.amount), transfer.OverflowsDebitsPosted) ∷
     (nat_lt max_128 (credit.credits_posted + r.amount), transfer.OverflowsCreditsPosted) ∷
-    (nat_lt max_128 debits, transfer.OverflowsDebits) ∷
-    (nat_lt max_128 credits, transfer.OverflowsCredits) ∷
-    (not (r.timeout == 0) && nat_lt max_timestamp (expires_at (as_asked r t)), transfer.OverflowsTimeout) ∷
+    (nat_lt max_128 (debit.debits_pending + debit.debits_posted + r.amount), transfer.OverflowsDebits) ∷
+    (nat_lt max_128 (credit.credits_pending + credit.credits_posted + r.amount), transfer.OverflowsCredits) ∷
+    []
+
+-- the line on an end that is past the greatest timestamp
+abbrev pub timeout_lines : NewTransfer → ℕ → List (Bool × TransferResult)
+timeout_lines r t =
+    (not (r.timeout == 0) && nat_lt max_timestamp (expires_at (as_asked r t)), transfer.OverflowsTimeout) ∷ []
+
+-- the lines on the limits that the two accounts' flags set; what is pending counts as well
+abbrev pub limit_lines : Balances → Balances → NewAccount → NewAccount → ℕ → List (Bool × TransferResult)
+limit_lines debit credit debited credited amount =
+    let debits = debit.debits_pending + debit.debits_posted + amount in
+    let credits = credit.credits_pending + credit.credits_posted + amount in
     (has_flag debited.flags 2 && nat_lt debit.credits_posted debits, transfer.ExceedsCredits) ∷
     (has_flag credited.flags 4 && nat_lt credit.debits_posted credits, transfer.ExceedsDebits) ∷
     []
+
+-- the lines on the sums that a single-phase or a pending transfer would lead to, from the balances before it
+abbrev pub sum_lines : Balances → Balances → NewAccount → NewAccount → NewTransfer → ℕ → List (Bool × TransferResult)
+sum_lines debit credit debited credited r t =
+    overflow_lines debit credit r ++ timeout_lines r t ++ limit_lines debit credit debited credited r.amount
 
 -- the lines on a single-phase or a pending transfer and its two accounts
 abbrev pub plain_lines : Option Opened → Option Opened → History → NewTransfer → ℕ → List (Bool × TransferResult)
@@ -84,15 +98,9 @@ plain_lines (Some debited) (Some credited) h r t =
 abbrev pub is_other : ℕ → ℕ → Bool
 is_other given own = not (given == 0) && not (given == own)
 
--- the pending transfer has come to its end by the moment t, swept or not
-abbrev pub is_over : History → Transfer → ℕ → Bool
-is_over h p t =
-    some_by h t (λ e. expires e.kind e.transfer p) || (not (p.timeout == 0) && nat_le (expires_at p) t)
-
--- the lines on a post or a void and the entry of the pending transfer that it names
-abbrev pub settling_lines : Option Entry → History → NewTransfer → ℕ → List (Bool × TransferResult)
-settling_lines None h r t = (true, transfer.PendingTransferNotFound) ∷ []
-settling_lines (Some e) h r t =
+-- the lines on the fields of a post or a void, beside those of the entry of the pending transfer that it names
+abbrev pub field_lines : Entry → NewTransfer → List (Bool × TransferResult)
+field_lines e r =
     let p = e.transfer in
     let amount = settled_amount r p in
     (not (holds e.kind), transfer.PendingTransferNotPending) ∷
@@ -102,10 +110,25 @@ settling_lines (Some e) h r t =
     (is_other r.code p.code, transfer.PendingTransferHasDifferentCode) ∷
     (nat_lt p.amount amount, transfer.ExceedsPendingTransferAmount) ∷
     (is_void_request r && nat_lt amount p.amount, transfer.PendingTransferHasDifferentAmount) ∷
+    []
+
+-- the pending transfer has come to its end by the moment t, swept or not
+abbrev pub is_over : History → Transfer → ℕ → Bool
+is_over h p t =
+    some_by h t (λ e. expires e.kind e.transfer p) || (not (p.timeout == 0) && nat_le (expires_at p) t)
+
+-- the lines on a pending transfer that was settled already by the moment t
+abbrev pub end_lines : History → Transfer → ℕ → List (Bool × TransferResult)
+end_lines h p t =
     (some_by h t (λ x. posts x.kind x.transfer p), transfer.PendingTransferAlreadyPosted) ∷
     (some_by h t (λ x. voids x.kind x.transfer p), transfer.PendingTransferAlreadyVoided) ∷
     (is_over h p t, transfer.PendingTransferExpired) ∷
     []
+
+-- the lines on a post or a void and the entry of the pending transfer that it names
+abbrev pub settling_lines : Option Entry → History → NewTransfer → ℕ → List (Bool × TransferResult)
+settling_lines None h r t = (true, transfer.PendingTransferNotFound) ∷ []
+settling_lines (Some e) h r t = field_lines e r ++ end_lines h e.transfer t
 
 -- all lines on a transfer, in order
 abbrev pub transfer_lines : Features → History → NewTransfer → ℕ → List (Bool × TransferResult)

@@ -8,7 +8,7 @@ ghost use Rattle.cdc_ledger.specs.Balances as sums;
 ghost use Rattle.cdc_ledger.specs.Events.{account_now, accounts_now, events};
 ghost use Rattle.cdc_ledger.specs.Filling.{stored};
 ghost use Rattle.cdc_ledger.specs.History.{empty_history, opened};
-ghost use Rattle.cdc_ledger.specs.Sound.{IsBounded};
+ghost use Rattle.cdc_ledger.specs.Balances.{IsBounded};
 ghost use Rattle.cdc_ledger.specs.Submit.{IsLegal};
 ghost use Rattle.cdc_ledger.specs.Verdict.{max_timestamp};
 

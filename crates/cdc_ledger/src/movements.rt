@@ -3,7 +3,7 @@
 ghost use Rattle.std.specs.Prelude.{◌≡◌, ◌≢◌, All};
 ghost use Rattle.cdc_ledger.specs.Accounts.{event_from};
 ghost use Rattle.cdc_ledger.specs.Kinds as kinds;
-ghost use Rattle.cdc_ledger.specs.Movements.{IsPlaced, SideFits, Takes, account_ids, accounts_changed, credited, debited, effect_of_movement};
+ghost use Rattle.cdc_ledger.specs.Movements.{IsPlaced, SideFits, Takes, account_ids, accounts_after, credited_account, debited_account, effect_of_movement};
 ghost use Rattle.cdc_ledger.specs.Sound.{AreApart};
 
 use crate::accounts::shown_account;
@@ -25,7 +25,7 @@ impl Effect {
     /// Changes the balances of the account that is debited.
     fn debit(&self, account: &mut Account)
         requires { SideFits self.now account.old.balances.debits_pending account.old.balances.debits_posted }
-        ensures { account.new ≡ debited self.now account.old }
+        ensures { account.new ≡ debited_account self.now account.old }
     {
         let balances = &mut account.balances;
         balances.debits_pending = balances.debits_pending - self.released + self.held;
@@ -35,7 +35,7 @@ impl Effect {
     /// Changes the balances of the account that is credited.
     fn credit(&self, account: &mut Account)
         requires { SideFits self.now account.old.balances.credits_pending account.old.balances.credits_posted }
-        ensures { account.new ≡ credited self.now account.old }
+        ensures { account.new ≡ credited_account self.now account.old }
     {
         let balances = &mut account.balances;
         balances.credits_pending = balances.credits_pending - self.released + self.held;
@@ -88,7 +88,7 @@ impl Movement {
         requires fits { All
             (Takes (effect_of_movement self.now) self.now.entry.transfer.debit_account_id
             self.now.entry.transfer.credit_account_id) accounts.old }
-        ensures { accounts.new ≡ accounts_changed self.now accounts.old }
+        ensures { accounts.new ≡ accounts_after self.now accounts.old }
     {
         let effect = self.effect();
         effect.debit(&mut accounts[self.debit]);

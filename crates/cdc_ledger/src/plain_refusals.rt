@@ -5,8 +5,7 @@ ghost use Rattle.cdc_types.specs.Flags.{is_pending_request};
 ghost use Rattle.cdc_types.specs.Lines.{first_line};
 ghost use Rattle.cdc_types.specs.Widths.{max_128};
 ghost use Rattle.cdc_ledger.specs.Accounts.{HasBoundedSums, lines_between, opened_as};
-ghost use Rattle.cdc_ledger.specs.Verdict.{max_timestamp, sum_lines};
-ghost use Rattle.cdc_ledger.specs.Parts.{overflow_lines, timeout_lines, limit_lines};
+ghost use Rattle.cdc_ledger.specs.Verdict.{max_timestamp, overflow_lines, timeout_lines, limit_lines, sum_lines};
 
 use crate::transfers::{as_asked, expires_at};
 use cdc_types::{Account, AccountFlags, Balances, Limits, NewTransfer, TransferResult};
@@ -60,9 +59,14 @@ fn timeout_refusal(request: &NewTransfer, timestamp: u64) -> Option<TransferResu
 
 /// The first limit that an account's flags set and that the transfer passes; what is pending counts as well.
 fn limit_refusal(debited: &Account, credited: &Account, amount: u128) -> Option<TransferResult>
-    requires debit { debited.now.balances.debits_pending + debited.now.balances.debits_posted + amount ≤ max_128 }
-    requires credit { credited.now.balances.credits_pending + credited.now.balances.credits_posted + amount ≤ max_128 }
-    ensures { result ≡ first_line (limit_lines debited.now credited.now amount) }
+    requires debit { let b = debited.now.balances in
+        b.debits_pending + b.debits_posted + amount ≤ max_128 }
+    requires credit { let b = credited.now.balances in
+        b.credits_pending + b.credits_posted + amount ≤ max_128 }
+    ensures { result ≡ first_line (
+        limit_lines debited.now.balances credited.now.balances
+        (opened_as debited.now).request (opened_as credited.now).request amount
+        ) }
 {
     let (debit, credit) = (&debited.balances, &credited.balances);
     if debited.flags & AccountFlags::DEBITS_MUST_NOT_EXCEED_CREDITS != 0

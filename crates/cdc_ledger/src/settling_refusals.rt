@@ -5,7 +5,7 @@ ghost use Rattle.std.specs.List.{list_any};
 ghost use Rattle.cdc_types.specs.Lines.{first_line};
 ghost use Rattle.cdc_ledger.specs.Kinds as kinds;
 ghost use Rattle.cdc_ledger.specs.Filling as filling;
-ghost use Rattle.cdc_ledger.specs.Parts.{field_lines, end_lines};
+ghost use Rattle.cdc_ledger.specs.Parts.{end_lines_of};
 ghost use Rattle.cdc_ledger.specs.Verdict as lines;
 
 use crate::transfers::{expires_at, settled_amount};
@@ -20,7 +20,7 @@ fn is_other(given: u128, own: u128) -> bool
 
 /// The first refusal that the fields of a post or a void call for, against those of the transfer that it names.
 pub(crate) fn field_refusal(entry: &Entry, request: &NewTransfer) -> Option<TransferResult>
-    ensures { result ≡ first_line (field_lines entry.now request.now) }
+    ensures { result ≡ first_line (lines.field_lines entry.now request.now) }
 {
     let pending = &entry.transfer;
     let amount = settled_amount(request, pending);
@@ -101,7 +101,7 @@ pub(crate) fn end_refusal(
     timestamp: u64,
 ) -> Option<TransferResult>
     requires { pending.now.timeout ≢ 0 → filling.expires_at pending.now < 2 ^ 64 }
-    ensures { result ≡ first_line (end_lines entries.now pending.now timestamp) }
+    ensures { result ≡ first_line (end_lines_of entries.now pending.now timestamp) }
 {
     if is_posted(entries, pending) {
         Some(TransferResult::PendingTransferAlreadyPosted)

@@ -1,9 +1,9 @@
-//! The ledger's calls, by worked examples.
+//! What no clause says: that the ledger finds memory, also for much, and that it runs as the worked examples go.
 
 use crate::{BatchError, Ledger};
 use cdc_types::{
-    AccountResult, Balances, Batch, BatchResults, EventKind, Items, NewAccount, NewTransfer,
-    TransferResult,
+    AccountResult, Balances, Batch, BatchResults, EventKind, Items, Limits, NewAccount,
+    NewTransfer, TransferResult,
 };
 use std::alloc::Global;
 use std::process::Abort;
@@ -11,130 +11,86 @@ use std::test::Fail;
 
 const MAX: u128 = u128::MAX;
 
-fn account(id: u128, flags: u16) -> NewAccount {
-    NewAccount {
-        id,
-        user_data_128: 0,
-        user_data_64: 0,
-        user_data_32: 0,
-        ledger: 700,
-        code: 10,
-        flags,
-    }
-}
+// A request for an account.
+const ACCOUNT: NewAccount = NewAccount {
+    id: 1,
+    user_data_128: 0,
+    user_data_64: 0,
+    user_data_32: 0,
+    ledger: 700,
+    code: 10,
+    flags: 0,
+};
 
-fn transfer(id: u128, debit: u128, credit: u128, amount: u128) -> NewTransfer {
-    NewTransfer {
-        id,
-        debit_account_id: debit,
-        credit_account_id: credit,
-        amount,
-        pending_id: 0,
-        user_data_128: 0,
-        user_data_64: 0,
-        user_data_32: 0,
-        timeout: 0,
-        ledger: 700,
-        code: 1,
-        flags: 0,
-    }
-}
-
-// A pending transfer of this amount from account 1 to account 2.
-fn pending(id: u128, amount: u128, timeout: u32) -> NewTransfer {
-    NewTransfer {
-        timeout,
-        flags: 2,
-        ..transfer(id, 1, 2, amount)
-    }
-}
+// A request for a transfer of nothing from account 1 to account 2.
+const TRANSFER: NewTransfer = NewTransfer {
+    id: 1,
+    debit_account_id: 1,
+    credit_account_id: 2,
+    amount: 0,
+    pending_id: 0,
+    user_data_128: 0,
+    user_data_64: 0,
+    user_data_32: 0,
+    timeout: 0,
+    ledger: 700,
+    code: 1,
+    flags: 0,
+};
 
 // A post or a void, by its flags, that leaves all else to the pending transfer.
-fn settling(id: u128, pending_id: u128, amount: u128, flags: u16) -> NewTransfer {
-    NewTransfer {
-        pending_id,
-        ledger: 0,
-        code: 0,
-        flags,
-        ..transfer(id, 0, 0, amount)
-    }
-}
+const SETTLING: NewTransfer = NewTransfer {
+    id: 1,
+    debit_account_id: 0,
+    credit_account_id: 0,
+    amount: 0,
+    pending_id: 0,
+    user_data_128: 0,
+    user_data_64: 0,
+    user_data_32: 0,
+    timeout: 0,
+    ledger: 0,
+    code: 0,
+    flags: 4,
+};
 
-// A request with these fields alone.
-fn bare(id: u128, pending_id: u128, timeout: u32, ledger: u32, flags: u16) -> NewTransfer {
-    NewTransfer {
-        pending_id,
-        timeout,
-        ledger,
-        code: 0,
-        flags,
-        ..transfer(id, 0, 0, 0)
-    }
-}
+// A batch of one request at its moment: the flags, the id, the pending id, the amount and the timeout; 0 as the id stands
+// for a pulse. Then the answer: the result's number, or how many came to their end.
+type Step = (u64, u16, u128, u128, u128, u32, u64);
 
-fn balances(
-    debits_pending: u128,
-    debits_posted: u128,
-    credits_pending: u128,
-    credits_posted: u128,
-) -> Balances {
-    Balances {
-        debits_pending,
-        debits_posted,
-        credits_pending,
-        credits_posted,
-    }
-}
-
-// A batch of one request, or a pulse, and its answer: the result's number, or how many came to their end.
-#[derive(Clone, Copy)]
-struct Step {
-    now: u64,
-    request: Option<NewTransfer>,
-    answer: u64,
-}
-
-fn at(now: u64, request: NewTransfer, answer: u64) -> Step {
-    Step {
-        now,
-        request: Some(request),
-        answer,
-    }
-}
-
-fn pulse(now: u64, answer: u64) -> Step {
-    Step {
-        now,
-        request: None,
-        answer,
-    }
-}
-
-// An event's timestamp, its kind, the amount, and the debited account's four balances after it.
-type Told = (u64, EventKind, u128, Balances);
+// An event's timestamp, its kind, the amount, and the debited account's four balances after it: debits pending and
+// posted, credits pending and posted.
+type Told = (u64, EventKind, u128, [u128; 4]);
 
 // Accounts 1 and 2, opened at 1000 and 1001; the flags are account 1's.
 fn ledger_of_two(alloc: Global, flags: u16) -> Result<Ledger, Fail> {
     let mut ledger = Ledger::new(alloc);
-    let _results = ledger.create_accounts(alloc, 1000, &[account(1, flags), account(2, 0)])?;
+    let requests = [
+        NewAccount { flags, ..ACCOUNT },
+        NewAccount { id: 2, ..ACCOUNT },
+    ];
+    let _results = ledger.create_accounts(alloc, 1000, &requests)?;
     Ok(ledger)
 }
 
+// What the ledger answers to a step.
 fn answer(alloc: Global, ledger: &mut Ledger, step: &Step) -> Result<u64, Fail> {
-    let Some(request) = step.request else {
-        return Ok(ledger.pulse(step.now)?);
+    let (now, flags, id, pending_id, amount, timeout, _) = *step;
+    if id == 0 {
+        return Ok(ledger.pulse(now)?);
+    }
+    let base = if flags & 12 == 0 { TRANSFER } else { SETTLING };
+    let request = NewTransfer {
+        id,
+        pending_id,
+        amount,
+        timeout,
+        flags,
+        ..base
     };
-    let items = Items::from_vec(vec![in alloc; request]?);
-    let batch = Batch::Transfers {
-        now: step.now,
-        items,
-    };
-    match ledger.submit(alloc, &batch)? {
-        BatchResults::Transfers(results) => match results.as_slice() {
-            [only] => Ok(u64::from(only.number())),
-            _ => Err("not one result".into()),
-        },
-        _ => Err("no results of transfers".into()),
+    match ledger.create_transfers(alloc, now, &[request])?.as_slice() {
+        [only] => Ok(u64::from(only.number())),
+        _ => Err("not one result".into()),
     }
 }
 
@@ -148,18 +104,18 @@ fn row(
 ) -> Result<(), Fail> {
     let mut ledger = ledger_of_two(alloc, flags)?;
     for step in steps {
-        assert_eq!(rt; answer(alloc, &mut ledger, step)?, step.answer);
+        assert_eq!(rt; answer(alloc, &mut ledger, step)?, step.6);
     }
     assert_eq!(rt; ledger.log().len(), events.len());
     for (place, expected) in events.iter().enumerate() {
         let event = ledger.log().get(place).ok_or("an event is missing")?;
         let debit = event.debit_account;
-        let sums = balances(
+        let sums = [
             debit.debits_pending,
             debit.debits_posted,
             debit.credits_pending,
             debit.credits_posted,
-        );
+        ];
         assert_eq!(rt;
             (event.timestamp, event.kind, event.transfer.amount, sums),
             *expected
@@ -168,289 +124,139 @@ fn row(
     Ok(())
 }
 
-const SINGLE: EventKind = EventKind::SinglePhase;
-
-const PENDING: EventKind = EventKind::TwoPhasePending;
-
-const POSTED: EventKind = EventKind::TwoPhasePosted;
-
-const VOIDED: EventKind = EventKind::TwoPhaseVoided;
-
-const EXPIRED: EventKind = EventKind::TwoPhaseExpired;
-
+// A part is posted, and the rest is released; a void isn't voided again.
 #[test]
 fn pending_transfers_are_posted_and_voided(rt: HostRuntime) -> Result<(), Fail> {
-    let alloc = rt.alloc();
-    // two transfers
-    row(
-        &rt,
-        alloc,
-        0,
-        &[
-            at(2000, transfer(1, 1, 2, 5), 0),
-            at(2000, transfer(2, 1, 2, 7), 0),
-        ],
-        &[
-            (2000, SINGLE, 5, balances(0, 5, 0, 0)),
-            (2001, SINGLE, 7, balances(0, 12, 0, 0)),
-        ],
-    )?;
-    // a part is posted, and the rest is released
-    row(
-        &rt,
-        alloc,
-        0,
-        &[
-            at(2000, pending(10, 100, 0), 0),
-            at(3000, settling(11, 10, 40, 4), 0),
-        ],
-        &[
-            (2000, PENDING, 100, balances(100, 0, 0, 0)),
-            (3000, POSTED, 40, balances(0, 40, 0, 0)),
-        ],
-    )?;
-    // no more than the whole is posted, which the greatest number stands for
-    row(
-        &rt,
-        alloc,
-        0,
-        &[
-            at(2000, pending(10, 100, 0), 0),
-            at(3000, settling(12, 10, 101, 4), 24),
-            at(4000, settling(11, 10, MAX, 4), 0),
-        ],
-        &[
-            (2000, PENDING, 100, balances(100, 0, 0, 0)),
-            (4000, POSTED, 100, balances(0, 100, 0, 0)),
-        ],
-    )?;
-    // a void, and a second one
-    row(
-        &rt,
-        alloc,
-        0,
-        &[
-            at(2000, pending(10, 100, 0), 0),
-            at(3000, settling(11, 10, 0, 8), 0),
-            at(4000, settling(12, 10, 0, 8), 27),
-        ],
-        &[
-            (2000, PENDING, 100, balances(100, 0, 0, 0)),
-            (3000, VOIDED, 100, balances(0, 0, 0, 0)),
-        ],
-    )
+    let steps = [
+        (2000, 2, 10, 0, 100, 0, 0),
+        (3000, 4, 11, 10, 40, 0, 0),
+        (4000, 2, 20, 0, 50, 0, 0),
+        (5000, 8, 21, 20, 0, 0, 0),
+        (6000, 8, 22, 20, 0, 0, 27),
+    ];
+    let events = [
+        (2000, EventKind::TwoPhasePending, 100, [100, 0, 0, 0]),
+        (3000, EventKind::TwoPhasePosted, 40, [0, 40, 0, 0]),
+        (4000, EventKind::TwoPhasePending, 50, [50, 40, 0, 0]),
+        (5000, EventKind::TwoPhaseVoided, 50, [0, 40, 0, 0]),
+    ];
+    row(&rt, rt.alloc(), 0, &steps, &events)
 }
 
+// A post at the end of its pending transfer is too late; those that end first expire first.
 #[test]
 fn pending_transfers_come_to_their_end(rt: HostRuntime) -> Result<(), Fail> {
-    let alloc = rt.alloc();
-    // a post a nanosecond before the end
-    row(
-        &rt,
-        alloc,
-        0,
-        &[
-            at(2000, pending(10, 100, 1), 0),
-            at(1_000_001_999, settling(11, 10, MAX, 4), 0),
-        ],
-        &[
-            (2000, PENDING, 100, balances(100, 0, 0, 0)),
-            (1_000_001_999, POSTED, 100, balances(0, 100, 0, 0)),
-        ],
-    )?;
-    // a post at the end, and then the expiry
-    row(
-        &rt,
-        alloc,
-        0,
-        &[
-            at(2000, pending(10, 100, 1), 0),
-            at(1_000_002_000, settling(11, 10, MAX, 4), 28),
-            pulse(1_000_003_000, 1),
-        ],
-        &[
-            (2000, PENDING, 100, balances(100, 0, 0, 0)),
-            (1_000_003_000, EXPIRED, 100, balances(0, 0, 0, 0)),
-        ],
-    )?;
-    // those that end first expire first
-    row(
-        &rt,
-        alloc,
-        0,
-        &[
-            at(2000, pending(10, 1, 2), 0),
-            at(2000, pending(11, 2, 1), 0),
-            pulse(3_000_000_000, 2),
-        ],
-        &[
-            (2000, PENDING, 1, balances(1, 0, 0, 0)),
-            (2001, PENDING, 2, balances(3, 0, 0, 0)),
-            (3_000_000_000, EXPIRED, 2, balances(1, 0, 0, 0)),
-            (3_000_000_001, EXPIRED, 1, balances(0, 0, 0, 0)),
-        ],
-    )?;
-    // an end that is past the greatest timestamp
-    row(
-        &rt,
-        alloc,
-        0,
-        &[at(9_000_000_000_000_000_000, pending(1, 1, u32::MAX), 35)],
-        &[],
-    )
+    let steps = [
+        (2000, 2, 10, 0, 1, 2, 0),
+        (2000, 2, 11, 0, 2, 1, 0),
+        (1_000_002_001, 4, 12, 11, MAX, 0, 28),
+        (3_000_000_000, 0, 0, 0, 0, 0, 2),
+        (9_000_000_000_000_000_000, 2, 13, 0, 1, u32::MAX, 35),
+    ];
+    let events = [
+        (2000, EventKind::TwoPhasePending, 1, [1, 0, 0, 0]),
+        (2001, EventKind::TwoPhasePending, 2, [3, 0, 0, 0]),
+        (3_000_000_000, EventKind::TwoPhaseExpired, 2, [1, 0, 0, 0]),
+        (3_000_000_001, EventKind::TwoPhaseExpired, 1, [0, 0, 0, 0]),
+    ];
+    row(&rt, rt.alloc(), 0, &steps, &events)
 }
 
+// A limit on debits counts what is pending; what is asked for again exists.
 #[test]
-fn what_is_asked_for_again_exists(rt: HostRuntime) -> Result<(), Fail> {
-    let alloc = rt.alloc();
-    row(
-        &rt,
-        alloc,
-        0,
-        &[
-            at(2000, transfer(1, 1, 2, 100), 0),
-            at(2000, transfer(1, 1, 2, 100), 13),
-            at(2000, transfer(1, 1, 2, 101), 12),
-            at(3000, pending(10, 100, 0), 0),
-            at(3000, settling(11, 10, MAX, 4), 0),
-            at(3000, settling(11, 10, MAX, 4), 13),
-            at(3000, settling(11, 10, 100, 4), 13),
-            at(3000, settling(11, 10, 99, 4), 12),
-        ],
-        &[
-            (2000, SINGLE, 100, balances(0, 100, 0, 0)),
-            (3000, PENDING, 100, balances(100, 100, 0, 0)),
-            (3001, POSTED, 100, balances(0, 200, 0, 0)),
-        ],
-    )
+fn sums_keep_to_a_limit(rt: HostRuntime) -> Result<(), Fail> {
+    let steps = [(2000, 0, 2, 0, 1, 0, 36), (2000, 8, 3, 2, 0, 0, 18)];
+    row(&rt, rt.alloc(), 2, &steps, &[])
 }
 
+// Sums fit 128 bits, pending and posted together.
 #[test]
-fn sums_fit_and_keep_to_limits(rt: HostRuntime) -> Result<(), Fail> {
-    let alloc = rt.alloc();
-    row(
-        &rt,
-        alloc,
-        0,
-        &[
-            at(2000, transfer(1, 1, 2, MAX), 0),
-            at(2000, transfer(2, 1, 2, 1), 31),
-        ],
-        &[(2000, SINGLE, MAX, balances(0, MAX, 0, 0))],
-    )?;
-    row(
-        &rt,
-        alloc,
-        0,
-        &[
-            at(2000, pending(1, MAX, 0), 0),
-            at(2000, transfer(2, 1, 2, 1), 33),
-        ],
-        &[(2000, PENDING, MAX, balances(MAX, 0, 0, 0))],
-    )?;
-    // a limit on debits, which counts what is pending
-    row(
-        &rt,
-        alloc,
-        2,
-        &[
-            at(2000, transfer(1, 2, 1, 100), 0),
-            at(2000, transfer(2, 1, 2, 101), 36),
-            at(2000, pending(3, 100, 0), 0),
-            at(2000, transfer(4, 1, 2, 1), 36),
-            at(5, settling(5, 3, 1, 4), 0),
-            at(5, transfer(6, 1, 2, 99), 0),
-        ],
-        &[
-            (2000, SINGLE, 100, balances(0, 100, 0, 0)),
-            (2002, PENDING, 100, balances(100, 0, 0, 100)),
-            (2004, POSTED, 1, balances(0, 1, 0, 100)),
-            (2005, SINGLE, 99, balances(0, 100, 0, 100)),
-        ],
-    )
+fn sums_fit(rt: HostRuntime) -> Result<(), Fail> {
+    let steps = [
+        (2000, 2, 1, 0, MAX, 0, 0),
+        (2000, 2, 1, 0, MAX, 0, 13),
+        (2000, 2, 1, 0, 1, 0, 12),
+        (2000, 0, 2, 0, 1, 0, 33),
+    ];
+    let events = [(2000, EventKind::TwoPhasePending, MAX, [MAX, 0, 0, 0])];
+    row(&rt, rt.alloc(), 0, &steps, &events)
 }
 
-#[test]
-fn requests_are_refused_by_the_first_line(rt: HostRuntime) -> Result<(), Fail> {
-    let other_ledger = NewTransfer {
-        ledger: 701,
-        ..transfer(1, 1, 2, 1)
+// The two accounts with a transfer of 5 and a pending one of 7 between them.
+fn ledger_of_transfers(alloc: Global) -> Result<Ledger, Fail> {
+    let mut ledger = ledger_of_two(alloc, 0)?;
+    let single = NewTransfer {
+        amount: 5,
+        ..TRANSFER
     };
-    row(
-        &rt,
-        rt.alloc(),
-        0,
-        &[
-            at(2000, bare(0, 0, 0, 0, 0), 2),
-            at(2000, bare(MAX, 0, 0, 0, 0), 3),
-            at(2000, bare(1, 0, 0, 0, 6), 4),
-            at(2000, bare(1, 9, 0, 0, 0), 5),
-            at(2000, bare(1, 0, 0, 0, 4), 6),
-            at(2000, bare(1, 1, 0, 0, 4), 7),
-            at(2000, bare(1, 0, 1, 0, 0), 8),
-            at(2000, bare(1, 0, 0, 0, 0), 9),
-            at(2000, bare(1, 0, 0, 700, 0), 10),
-            at(2000, transfer(1, 1, 1, 1), 11),
-            at(2000, transfer(1, 3, 2, 1), 14),
-            at(2000, transfer(1, 1, 3, 1), 15),
-            at(2000, other_ledger, 17),
-            at(2000, bare(1, 0, 0, 0, 16), 1),
-            at(2000, bare(1, 9, 0, 0, 4), 18),
-        ],
-        &[],
-    )
+    let pending = NewTransfer {
+        id: 2,
+        amount: 7,
+        flags: 2,
+        ..TRANSFER
+    };
+    let _results = ledger.create_transfers(alloc, 2000, &[single, pending])?;
+    Ok(ledger)
 }
 
 #[test]
 fn readers_find_what_was_stored(rt: HostRuntime) -> Result<(), Fail> {
-    let mut ledger = ledger_of_two(rt.alloc(), 0)?;
-    let requests = [transfer(1, 1, 2, 5), pending(2, 7, 0)];
-    let results = ledger.create_transfers(rt.alloc(), 2000, &requests)?;
-    let expected = [TransferResult::Accepted, TransferResult::Accepted];
-    assert_eq!(rt; results.as_slice(), expected.as_slice());
+    let ledger = ledger_of_transfers(rt.alloc())?;
+    let balances = Balances {
+        debits_pending: 7,
+        debits_posted: 5,
+        credits_pending: 0,
+        credits_posted: 0,
+    };
+    assert_eq!(rt; ledger.balances(1), Some(balances));
     assert_eq!(rt;
-        ledger.balances(1).ok_or("no account 1")?,
-        balances(7, 5, 0, 0)
+        ledger.account(2).map(|account| account.timestamp),
+        Some(1001)
     );
     assert_eq!(rt;
-        ledger.account(2).ok_or("no account 2")?.balances,
-        balances(0, 0, 7, 5)
+        ledger.transfer(2).map(|transfer| transfer.timestamp),
+        Some(2001)
     );
-    assert_eq!(rt;
-        (
-            ledger.accounts().len(),
-            ledger.entries().len(),
-            ledger.log().len()
-        ),
-        (2, 2, 2)
-    );
-    assert_eq!(rt; ledger.transfer(2).ok_or("no transfer 2")?.timestamp, 2001);
-    assert!(rt; ledger.transfer(3).is_none());
-    assert_eq!(rt; ledger.last(), 2001);
     Ok(())
+}
+
+#[test]
+fn readers_show_the_whole_ledger(rt: HostRuntime) -> Result<(), Fail> {
+    let ledger = ledger_of_transfers(rt.alloc())?;
+    assert_eq!(rt; ledger.accounts().len(), 2);
+    assert_eq!(rt; ledger.entries().len(), 2);
+    assert_eq!(rt; (ledger.log().len(), ledger.last()), (2, 2001));
+    Ok(())
+}
+
+// A batch of a thousand transfers, pending for a second, with the ids from this one on.
+fn take_thousand(alloc: Global, ledger: &mut Ledger, first: u32) -> Result<bool, Fail> {
+    let mut requests = Vec::with_capacity(alloc, 1000)?;
+    for place in 0..1000u32 {
+        requests.push(NewTransfer {
+            id: u128::from(first.saturating_add(place)),
+            amount: 1,
+            timeout: 1,
+            flags: 2,
+            ..TRANSFER
+        })?;
+    }
+    let results = ledger.create_transfers(alloc, 2000, requests.as_slice())?;
+    Ok(
+        results
+            .iter()
+            .all(|answer| *answer == TransferResult::Accepted),
+    )
 }
 
 // More than a thousand pending transfers, of which a pulse brings all to their end.
 #[test]
 fn a_pulse_is_of_any_size(rt: HostRuntime) -> Result<(), Fail> {
     let mut ledger = ledger_of_two(rt.alloc(), 0)?;
-    for batch in 0..2u32 {
-        let mut requests = Vec::with_capacity(rt.alloc(), 1000)?;
-        for place in 0..1000u32 {
-            requests.push(pending(u128::from(1 + 1000 * batch + place), 1, 1))?;
-        }
-        let results = ledger.create_transfers(rt.alloc(), 2000, requests.as_slice())?;
-        assert!(rt;
-            results
-                .iter()
-                .all(|answer| *answer == TransferResult::Accepted)
-        );
+    for first in [1, 1001] {
+        assert!(rt; take_thousand(rt.alloc(), &mut ledger, first)?);
     }
     assert_eq!(rt; ledger.pulse(2_000_000_000)?, 2000);
-    assert_eq!(rt;
-        ledger.balances(1).ok_or("no account 1")?,
-        balances(0, 0, 0, 0)
-    );
     assert_eq!(rt; ledger.log().len(), 4000);
     Ok(())
 }
@@ -459,9 +265,12 @@ fn a_pulse_is_of_any_size(rt: HostRuntime) -> Result<(), Fail> {
 #[test]
 fn a_batch_of_a_thousand_accounts(rt: HostRuntime) -> Result<(), Fail> {
     let mut ledger = Ledger::new(rt.alloc());
-    let mut requests = Vec::with_capacity(rt.alloc(), 1000)?;
+    let mut requests = Vec::with_capacity(rt.alloc(), Limits::BATCH_ITEMS)?;
     for id in 1..=1000u32 {
-        requests.push(account(u128::from(id), 0))?;
+        requests.push(NewAccount {
+            id: u128::from(id),
+            ..ACCOUNT
+        })?;
     }
     let batch = Batch::Accounts {
         now: 1000,
@@ -481,23 +290,31 @@ fn a_batch_of_a_thousand_accounts(rt: HostRuntime) -> Result<(), Fail> {
 }
 
 #[test]
-fn batches_are_refused_whole(rt: HostRuntime) -> Result<(), Fail> {
+fn a_batch_of_too_many_is_refused(rt: HostRuntime) -> Result<(), Fail> {
     let mut ledger = Ledger::new(rt.alloc());
-    let many = vec![in rt.alloc(); account(1, 0); 1001]?;
-    let large = ledger.create_accounts(rt.alloc(), 1, many.as_slice());
-    assert!(rt; matches!(large, Err(BatchError::BatchTooLarge)));
-    let end = 9_223_372_036_854_775_807;
-    let two = ledger.create_accounts(rt.alloc(), end, &[account(1, 0), account(2, 0)]);
+    let many = vec![in rt.alloc(); ACCOUNT; 1001]?;
+    let answer = ledger.create_accounts(rt.alloc(), 1, many.as_slice());
+    assert!(rt; matches!(answer, Err(BatchError::BatchTooLarge)));
+    Ok(())
+}
+
+#[test]
+fn the_last_timestamp_is_given_out_once(rt: HostRuntime) -> Result<(), Fail> {
+    let mut ledger = Ledger::new(rt.alloc());
+    let two = ledger.create_accounts(rt.alloc(), Limits::TIMESTAMP, &[ACCOUNT, ACCOUNT]);
     assert!(rt; matches!(two, Err(BatchError::TimestampsExhausted)));
-    let one = ledger.create_accounts(rt.alloc(), end, &[account(1, 0)])?;
+    let one = ledger.create_accounts(rt.alloc(), Limits::TIMESTAMP, &[ACCOUNT])?;
     assert_eq!(rt; one.as_slice(), [AccountResult::Accepted].as_slice());
     assert_eq!(rt; ledger.pulse(5)?, 0);
-    let late = ledger.create_accounts(rt.alloc(), 5, &[account(2, 0)]);
-    assert!(rt; matches!(late, Err(BatchError::TimestampsExhausted)));
+    Ok(())
+}
+
+#[test]
+fn a_closed_ledger_takes_no_batch(rt: HostRuntime) {
+    let mut ledger = Ledger::new(rt.alloc());
     ledger.close();
     assert!(rt; ledger.closed());
     assert!(rt; matches!(ledger.pulse(5), Err(BatchError::LedgerClosed)));
-    Ok(())
 }
 
 #[test]
@@ -508,7 +325,6 @@ fn refusals_have_numbers_and_names(rt: HostRuntime) {
         (BatchError::TimestampsExhausted, 3, "timestamps_exhausted"),
         (BatchError::OutOfMemory, 4, "out_of_memory"),
     ] {
-        assert_eq!(rt; error.number(), number);
-        assert_eq!(rt; error.name(), name);
+        assert_eq!(rt; (error.number(), error.name()), (number, name));
     }
 }

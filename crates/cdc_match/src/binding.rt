@@ -31,7 +31,8 @@ impl Model for Binding {
 
 // The pairs that words say.
 fn pairs_of(alloc: Global, words: &[&str]) -> Result<Vec<Pair>, BindError>
-    ensures pairs { FindsPairsUnlessMemory result (spec.pairs_of (map (λ word. word.now) words.now)) }
+    ensures pairs { FindsPairsUnlessMemory result
+        (spec.pairs_of (map (λ word. word.now) words.now)) }
     ensures memory { result ≡ Err BindError.OutOfMemory
         → spec.BeginsWithPair (map (λ word. word.now) words.now) }
 {
@@ -54,7 +55,8 @@ impl Binding {
     ///
     /// The first fault from the left is answered, and `OutOfMemory` where there was no memory for the pairs before it.
     pub fn parse(alloc: Global, words: &[&str]) -> Result<Binding, BindError>
-        ensures binding { GivesUnlessMemory result (spec.arguments_of (map (λ word. word.now) words.now)) }
+        ensures binding { GivesUnlessMemory result
+            (spec.arguments_of (map (λ word. word.now) words.now)) }
         ensures memory { result ≡ Err BindError.OutOfMemory
             → spec.NeedsMemory (map (λ word. word.now) words.now) }
     {

@@ -1,6 +1,6 @@
 use crate::{
     DecodeError, Delivery, Field, FieldName, Item, Message, Packet, Part, decode, encode,
-    headers_of, kind_named, kind_text, properties_of, replay_laws,
+    properties_of, replay_laws,
 };
 use cdc_types::{Event, EventAccount, EventKind, EventTransfer};
 use std::alloc::{AllocError, Global};
@@ -65,19 +65,33 @@ fn first_event(kind: EventKind) -> Event {
     }
 }
 
+// `text`, of a body of the first kind, with the one text in the place of the other, is read as this.
+fn read_changed(
+    alloc: Global,
+    text: &str,
+    from: &str,
+    to: &str,
+) -> Result<Result<Event, DecodeError>, AllocError> {
+    let text = text.replace(alloc, from, to)?;
+    Ok(decode(alloc, text.as_bytes()))
+}
+
+// The body of an event of this kind is `BODY` with the kind's name.
+fn is_written(alloc: Global, kind: EventKind, name: &str) -> Result<bool, AllocError> {
+    let text = encode(alloc, &first_event(kind))?;
+    let expected = BODY.replace(alloc, "single_phase", name)?;
+    Ok(text.as_str() == expected.as_str())
+}
+
 #[test]
 fn each_kind_is_written_and_read(rt: HostRuntime) -> Result<(), Fail> {
     let alloc = rt.alloc();
     for (kind, name) in KINDS {
-        let event = first_event(kind);
-        let text = encode(alloc, &event)?;
-        let expected = BODY.replace(alloc, "single_phase", name)?;
-        assert!(rt; text.as_str() == expected.as_str());
-        assert_eq!(rt; decode(alloc, text.as_bytes()), Ok(event));
-        let ordered = IN_ORDER.replace(alloc, "single_phase", name)?;
-        assert_eq!(rt; decode(alloc, ordered.as_bytes()), Ok(event));
-        assert!(rt; kind_text(kind) == name);
-        assert_eq!(rt; kind_named(name), Some(kind));
+        assert!(rt; is_written(alloc, kind, name)?);
+        for text in [BODY, IN_ORDER] {
+            let read = read_changed(alloc, text, "single_phase", name)?;
+            assert_eq!(rt; read, Ok(first_event(kind)));
+        }
     }
     Ok(())
 }
@@ -93,9 +107,8 @@ fn writers_may_differ(rt: HostRuntime) -> Result<(), Fail> {
         ("{\"timestamp\"", "\n{ \"x\" : [1], \"timestamp\""),
     ];
     for (from, to) in changes {
-        let text = IN_ORDER.replace(alloc, from, to)?;
-        let event = first_event(EventKind::SinglePhase);
-        assert_eq!(rt; decode(alloc, text.as_bytes()), Ok(event), "{to}");
+        let read = read_changed(alloc, IN_ORDER, from, to)?;
+        assert_eq!(rt; read, Ok(first_event(EventKind::SinglePhase)), "{to}");
     }
     Ok(())
 }
@@ -177,14 +190,22 @@ fn spoilt_bodies_are_refused(rt: HostRuntime) -> Result<(), Fail> {
         ),
     ];
     for (from, to, error) in changes {
-        let text = IN_ORDER.replace(alloc, from, to)?;
-        assert_eq!(rt; decode(alloc, text.as_bytes()), Err(error), "{to}");
+        let read = read_changed(alloc, IN_ORDER, from, to)?;
+        assert_eq!(rt; read, Err(error), "{to}");
     }
-    assert_eq!(rt; decode(alloc, b"[]"), Err(DecodeError::NotAnObject));
-    assert_eq!(rt;
-        decode(alloc, b"{\"timestamp\":\"\xff\"}"),
-        Err(DecodeError::NotJson)
-    );
+    Ok(())
+}
+
+#[test]
+fn other_texts_are_no_body(rt: HostRuntime) -> Result<(), Fail> {
+    let alloc = rt.alloc();
+    let texts: [(&[u8], DecodeError); 2] = [
+        (b"[]", DecodeError::NotAnObject),
+        (b"{\"timestamp\":\"\xff\"}", DecodeError::NotJson),
+    ];
+    for (text, error) in texts {
+        assert_eq!(rt; decode(alloc, text), Err(error));
+    }
     for end in 0..BODY.len() {
         assert_eq!(rt;
             decode(alloc, &BODY.as_bytes()[..end]),
@@ -359,27 +380,23 @@ fn each_spoilt_field_is_named(rt: HostRuntime) -> Result<(), Fail> {
 // ---- the parts of a message
 
 #[test]
-fn parts_belong_to_one_event(rt: HostRuntime) -> Result<(), Fail> {
-    let event = Event {
-        timestamp: 1_999_999_999,
-        ..first_event(EventKind::TwoPhaseExpired)
-    };
+fn a_message_and_its_copy_have_the_body(rt: HostRuntime) -> Result<(), Fail> {
+    let event = first_event(EventKind::TwoPhaseExpired);
     let message = Message::of(rt.alloc(), &event)?.try_copy(rt.alloc())?;
     assert_eq!(rt; decode(rt.alloc(), message.body().as_bytes()), Ok(event));
-    let headers = message.headers();
-    assert_eq!(rt; headers, headers_of(&event));
-    assert_eq!(rt; headers.kind, EventKind::TwoPhaseExpired);
-    assert_eq!(rt; (headers.ledger, headers.transfer_code), (700, 1));
-    assert_eq!(rt;
-        (headers.debit_account_code, headers.credit_account_code),
-        (10, 10)
-    );
-    let properties = message.properties();
-    assert_eq!(rt; properties, properties_of(&event));
+    Ok(())
+}
+
+// Outside values of the properties: what a clause says of them, it says by other definitions.
+#[test]
+fn properties_of_a_second(rt: HostRuntime) {
+    let properties = properties_of(&Event {
+        timestamp: 1_999_999_999,
+        ..first_event(EventKind::TwoPhaseExpired)
+    });
     assert_eq!(rt; properties.app_id, "tigerbeetle");
     assert_eq!(rt; properties.content_type, "application/json");
     assert_eq!(rt; (properties.delivery_mode, properties.timestamp), (2, 1));
-    Ok(())
 }
 
 // The event with the longest body: every number is the greatest of its width.
@@ -426,38 +443,42 @@ fn event_of(alloc: Global, item: &Item) -> Result<Option<Event>, DecodeError> {
     }
 }
 
+// The item of an event, or the end mark.
+fn item(alloc: Global, event: Option<Event>) -> Result<Item, AllocError> {
+    match event {
+        Some(event) => Ok(Item::Event(Message::of(alloc, &event)?)),
+        None => Ok(Item::EndMark),
+    }
+}
+
+// The session, the tag and the item of a copy of a publish; no tag is 0.
+fn copied_packet(alloc: Global, item: Item) -> Result<(u64, u64, Item), AllocError> {
+    let packet = Packet::Publish {
+        session: 3,
+        tag: 9,
+        item,
+    };
+    match packet.try_copy(alloc)? {
+        Packet::Publish { session, tag, item } => Ok((session, tag, item)),
+        Packet::Connect { session } => Ok((session, 0, Item::EndMark)),
+    }
+}
+
 #[test]
 fn items_deliveries_and_packets_are_copied(rt: HostRuntime) -> Result<(), Fail> {
-    let alloc = rt.alloc();
     replay_laws();
-    let events = [
+    for event in [
         Some(first_event(EventKind::SinglePhase)),
         Some(longest_event()),
         None,
-    ];
-    for event in events {
-        let item = match event {
-            Some(event) => Item::Event(Message::of(alloc, &event)?),
-            None => Item::EndMark,
-        };
-        let delivery = Delivery { position: 7, item }.try_copy(alloc)?;
+    ] {
+        let item = item(rt.alloc(), event)?;
+        let delivery = Delivery { position: 7, item }.try_copy(rt.alloc())?;
         assert_eq!(rt; delivery.position, 7);
-        assert_eq!(rt; event_of(alloc, &delivery.item)?, event);
-        let packet = Packet::Publish {
-            session: 3,
-            tag: 9,
-            item: delivery.item.try_copy(alloc)?,
-        };
-        match packet.try_copy(alloc)? {
-            Packet::Publish { session, tag, item } => {
-                assert_eq!(rt; (session, tag), (3, 9));
-                assert_eq!(rt; event_of(alloc, &item)?, event);
-            }
-            Packet::Connect { session } => assert_eq!(rt; session, 0, "a publish became a connect"),
-        }
+        let (session, tag, item) = copied_packet(rt.alloc(), delivery.item)?;
+        assert_eq!(rt; (session, tag), (3, 9));
+        assert_eq!(rt; event_of(rt.alloc(), &item)?, event);
     }
-    let connect = Packet::Connect { session: 3 }.try_copy(alloc)?;
-    assert!(rt; matches!(&connect, Packet::Connect { session: 3 }));
     Ok(())
 }
 

@@ -5,8 +5,8 @@ use Rattle.cdc_progress.specs.Records.{Saved}
 use Rattle.cdc_progress.specs.declared.errors.StoreError.{StoreError}
 use Rattle.cdc_progress.specs.declared.errors.StoreError.TheVariants.{ReadFault, WriteFault, BadRecord, OutOfMemory}
 
--- what calls make of a store: whether it is honest; what it holds, before and after; and how often a read or a write had
--- failed before, and has failed after
+-- what calls make of a store: whether it is honest; what it holds, before and after; and how often a read or a write
+-- had failed before, and has failed after
 pub record StoreChange : Type 0 where
   pub honest : Bool
   pub before : Option Saved

@@ -1,4 +1,5 @@
-use crate::{FileStore, MemoryStore, Progress, ProgressStore, StoreError, parse, print};
+use crate::{FileStore, Progress, ProgressStore, StoreError, parse, print};
+use std::alloc::{AllocError, Global};
 use std::test::Fail;
 use std::{fs, process};
 
@@ -32,45 +33,19 @@ const NO_RECORDS: [&str; 14] = [
     " tb-cdc 1 3 2000\n",
 ];
 
+// The progress of a row, whose timestamp is never above the greatest one.
+fn progress(session: u64, timestamp: u64) -> Progress {
+    Progress::new(session, timestamp.min(Progress::MAX_TIMESTAMP))
+}
+
 #[test]
 fn records_are_printed_and_read_back(rt: HostRuntime) -> Result<(), Fail> {
     for (session, timestamp, text) in RECORDS {
-        assert!(rt; timestamp <= Progress::MAX_TIMESTAMP);
-        let progress = Progress::new(session, timestamp);
+        let progress = progress(session, timestamp);
         assert_eq!(rt; print(rt.alloc(), progress)?.as_str(), text);
         assert_eq!(rt; parse(text.as_bytes()), Some(progress));
     }
     Ok(())
-}
-
-#[test]
-fn other_bytes_are_no_record(rt: HostRuntime) {
-    for text in NO_RECORDS {
-        assert_eq!(rt; parse(text.as_bytes()), None, "{text}");
-    }
-}
-
-#[test]
-fn a_planned_fault_comes_once(rt: HostRuntime) {
-    let mut store = MemoryStore::with_faults(Some(Progress::new(1, 2000)), 2, true);
-    assert_eq!(rt; store.load(), Ok(Some(Progress::new(1, 2000))));
-    assert_eq!(rt;
-        store.save(Progress::new(2, 2000)),
-        Err(StoreError::WriteFault)
-    );
-    assert_eq!(rt; store.failures(), 1);
-    assert_eq!(rt; store.load(), Ok(Some(Progress::new(2, 2000))));
-    assert_eq!(rt; store.save(Progress::new(3, 2000)), Ok(()));
-    assert_eq!(rt; store.failures(), 1);
-}
-
-#[test]
-fn a_new_store_holds_nothing_and_never_fails(rt: HostRuntime) {
-    let mut store = MemoryStore::new();
-    assert_eq!(rt; store.load(), Ok(None));
-    assert_eq!(rt; store.save(Progress::new(1, 0)), Ok(()));
-    assert_eq!(rt; store.load(), Ok(Some(Progress::new(1, 0))));
-    assert_eq!(rt; store.failures(), 0);
 }
 
 // Where the tests of files put theirs: a folder of this process.
@@ -80,78 +55,114 @@ fn scratch(rt: &HostRuntime) -> Result<String, Fail> {
     Ok(folder)
 }
 
+// What a store in this file answers, made anew for each call.
+fn save_at(rt: &HostRuntime, path: &str, progress: Progress) -> Result<(), StoreError> {
+    FileStore::at(rt, path).save(progress)
+}
+
+fn load_at(rt: &HostRuntime, path: &str) -> Result<Option<Progress>, StoreError> {
+    FileStore::at(rt, path).load()
+}
+
+// The text of a file.
+fn text_at(rt: &HostRuntime, path: &str) -> Result<String, Fail> {
+    Ok(fs::read_to_string(rt, path)?)
+}
+
 #[test]
 fn a_file_gives_back_what_was_saved(rt: HostRuntime) -> Result<(), Fail> {
     let folder = scratch(&rt)?;
     let path = format!(in rt.alloc(); "{folder}/kept")?;
-    let beside = format!(in rt.alloc(); "{folder}/kept.new")?;
-    let mut store = FileStore::at(&rt, path.as_str());
-    assert_eq!(rt; store.load(), Ok(None));
-    // A file that a broken save has left beside it is written anew.
-    fs::write(
-        &rt,
-        beside.as_str(),
-        "half of a record that is longer than any record",
-    )?;
+    assert_eq!(rt; load_at(&rt, path.as_str()), Ok(None));
     for (session, timestamp, text) in RECORDS {
-        assert!(rt; timestamp <= Progress::MAX_TIMESTAMP);
-        let progress = Progress::new(session, timestamp);
-        assert_eq!(rt; store.save(progress), Ok(()));
-        assert_eq!(rt; fs::read_to_string(&rt, path.as_str())?.as_str(), text);
-        assert!(rt; !fs::exists(&rt, beside.as_str())?);
-        assert_eq!(rt;
-            FileStore::at(&rt, path.as_str()).load(),
-            Ok(Some(progress))
-        );
+        let progress = progress(session, timestamp);
+        assert_eq!(rt; save_at(&rt, path.as_str(), progress), Ok(()));
+        assert_eq!(rt; text_at(&rt, path.as_str())?.as_str(), text);
+        assert_eq!(rt; load_at(&rt, path.as_str()), Ok(Some(progress)));
     }
-    assert_eq!(rt; store.failures(), 0);
     fs::remove_dir_all(&rt, folder.as_str())?;
     Ok(())
+}
+
+// A file that a broken save has left beside the store's is written anew.
+#[test]
+fn a_save_goes_by_way_of_a_new_file(rt: HostRuntime) -> Result<(), Fail> {
+    let folder = scratch(&rt)?;
+    let path = format!(in rt.alloc(); "{folder}/saved")?;
+    let beside = format!(in rt.alloc(); "{folder}/saved.new")?;
+    let stale = "half of a record that is longer than any record";
+    fs::write(&rt, beside.as_str(), stale)?;
+    assert_eq!(rt; save_at(&rt, path.as_str(), Progress::new(3, 2000)), Ok(()));
+    assert_eq!(rt; text_at(&rt, path.as_str())?.as_str(), "tb-cdc 1 3 2000\n");
+    assert!(rt; !fs::exists(&rt, beside.as_str())?);
+    fs::remove_dir_all(&rt, folder.as_str())?;
+    Ok(())
+}
+
+// A record with more behind it, so many bytes in all.
+fn long_record(alloc: Global, length: usize) -> Result<String, AllocError> {
+    let mut long = String::from_str(alloc, "tb-cdc 1 3 2000\n")?;
+    for _ in 16..length {
+        long.push_str("0")?;
+    }
+    Ok(long)
+}
+
+// What a store answers to a file of this text.
+fn load_of(
+    rt: &HostRuntime,
+    path: &str,
+    text: &str,
+) -> Result<Result<Option<Progress>, StoreError>, Fail> {
+    fs::write(rt, path, text)?;
+    Ok(load_at(rt, path))
 }
 
 #[test]
 fn a_damaged_file_is_no_record(rt: HostRuntime) -> Result<(), Fail> {
     let folder = scratch(&rt)?;
     let path = format!(in rt.alloc(); "{folder}/damaged")?;
-    let mut store = FileStore::at(&rt, path.as_str());
     for text in NO_RECORDS {
-        fs::write(&rt, path.as_str(), text)?;
-        assert_eq!(rt; store.load(), Err(StoreError::BadRecord), "{text}");
+        let answer = load_of(&rt, path.as_str(), text)?;
+        assert_eq!(rt; answer, Err(StoreError::BadRecord), "{text}");
     }
-    // A record with more behind it, 129 bytes in all and more than a thousand.
     for length in [129, 1000] {
-        let mut long = String::new(rt.alloc());
-        long.push_str("tb-cdc 1 3 2000\n")?;
-        for _ in 16..length {
-            long.push_str("0")?;
-        }
-        fs::write(&rt, path.as_str(), long.as_str())?;
-        assert_eq!(rt; store.load(), Err(StoreError::BadRecord));
+        let long = long_record(rt.alloc(), length)?;
+        let answer = load_of(&rt, path.as_str(), long.as_str())?;
+        assert_eq!(rt; answer, Err(StoreError::BadRecord));
     }
-    assert_eq!(rt; store.failures(), 0);
     fs::remove_dir_all(&rt, folder.as_str())?;
     Ok(())
 }
 
+// What a store answers to a load and then to a save, and how many failures it has counted.
+fn load_and_save(
+    rt: &HostRuntime,
+    path: &str,
+) -> (
+    Result<Option<Progress>, StoreError>,
+    Result<(), StoreError>,
+    u64,
+) {
+    let mut store = FileStore::at(rt, path);
+    let loaded = store.load();
+    let saved = store.save(Progress::new(1, 0));
+    (loaded, saved, store.failures())
+}
+
+// A folder can be opened, but neither read nor written over.
 #[test]
 fn a_file_that_cannot_be_reached_is_a_fault(rt: HostRuntime) -> Result<(), Fail> {
     let folder = scratch(&rt)?;
     let nowhere = format!(in rt.alloc(); "{folder}/no-folder/kept")?;
-    let mut store = FileStore::at(&rt, nowhere.as_str());
-    assert_eq!(rt; store.load(), Ok(None));
     assert_eq!(rt;
-        store.save(Progress::new(1, 0)),
-        Err(StoreError::WriteFault)
+        load_and_save(&rt, nowhere.as_str()),
+        (Ok(None), Err(StoreError::WriteFault), 1)
     );
-    assert_eq!(rt; store.failures(), 1);
-    // A folder can be opened, but neither read nor written over.
-    let mut folder_store = FileStore::at(&rt, folder.as_str());
-    assert_eq!(rt; folder_store.load(), Err(StoreError::ReadFault));
     assert_eq!(rt;
-        folder_store.save(Progress::new(1, 0)),
-        Err(StoreError::WriteFault)
+        load_and_save(&rt, folder.as_str()),
+        (Err(StoreError::ReadFault), Err(StoreError::WriteFault), 2)
     );
-    assert_eq!(rt; folder_store.failures(), 2);
     let beside = format!(in rt.alloc(); "{folder}.new")?;
     fs::remove_file(&rt, beside.as_str())?;
     fs::remove_dir_all(&rt, folder.as_str())?;

@@ -89,111 +89,168 @@ fn send(session: &mut Session, alloc: Global) -> Result<Sent, AllocError> {
     }
 }
 
-#[test]
-fn a_start_that_cannot_save_leaves_no_session(rt: HostRuntime) -> Result<(), Fail> {
-    let mut store = MemoryStore::with_faults(Some(Progress::new(1, 2000)), 2, true);
-    assert_eq!(rt;
-        Session::start(rt.alloc(), &mut store, 1).err(),
-        Some(StartError::Store(StoreError::WriteFault))
-    );
-    assert_eq!(rt; store.failures(), 1);
-    assert_eq!(rt; store.load(), Ok(Some(Progress::new(2, 2000))));
-    let session = Session::start(rt.alloc(), &mut store, 1)?;
-    assert_eq!(rt; session.number(), 3);
-    assert_eq!(rt; session.base(), 2000);
-    assert_eq!(rt; store.load(), Ok(Some(Progress::new(3, 2000))));
-    Ok(())
+// What a store holds: a session and a timestamp.
+type Held = Option<(u64, u32)>;
+
+fn progress(held: Held) -> Option<Progress> {
+    match held {
+        Some((session, timestamp)) => Some(Progress::new(session, u64::from(timestamp))),
+        None => None,
+    }
+}
+
+// The number and the base of a session that starts over this store.
+fn start(alloc: Global, store: &mut MemoryStore) -> Result<(u64, u64), StartError> {
+    let session = Session::start(alloc, store, Limits::WINDOW_TODAY)?;
+    Ok((session.number(), session.base()))
 }
 
 #[test]
-fn no_session_starts_where_the_store_refuses(rt: HostRuntime) {
-    let mut unread = MemoryStore::with_faults(Some(Progress::new(1, 2000)), 1, true);
-    assert_eq!(rt;
-        Session::start(rt.alloc(), &mut unread, 1).err(),
-        Some(StartError::Store(StoreError::ReadFault))
-    );
-    assert_eq!(rt; unread.load(), Ok(Some(Progress::new(1, 2000))));
-    let mut last = MemoryStore::with_faults(Some(Progress::new(u64::MAX, 2000)), 0, false);
-    assert_eq!(rt;
-        Session::start(rt.alloc(), &mut last, 1).err(),
-        Some(StartError::SessionsExhausted)
-    );
-    assert_eq!(rt; last.load(), Ok(Some(Progress::new(u64::MAX, 2000))));
+fn a_session_starts_where_its_number_is_saved(rt: HostRuntime) {
+    let read_fault = Err(StartError::Store(StoreError::ReadFault));
+    let write_fault = Err(StartError::Store(StoreError::WriteFault));
+    let rows: [(Held, u32, Result<(u64, u64), StartError>, Held); 5] = [
+        (None, 0, Ok((1, 0)), Some((1, 0))),
+        (Some((2, 2000)), 0, Ok((3, 2000)), Some((3, 2000))),
+        (Some((1, 2000)), 1, read_fault, Some((1, 2000))),
+        (Some((1, 2000)), 2, write_fault, Some((2, 2000))),
+        (
+            Some((u64::MAX, 2000)),
+            0,
+            Err(StartError::SessionsExhausted),
+            Some((u64::MAX, 2000)),
+        ),
+    ];
+    for (held, fails_at, started, held_then) in rows {
+        let mut store = MemoryStore::with_faults(progress(held), u64::from(fails_at), true);
+        assert_eq!(rt; start(rt.alloc(), &mut store), started);
+        assert_eq!(rt; store.load(), Ok(progress(held_then)));
+    }
 }
+
+// What a session is asked.
+#[derive(Clone, Copy)]
+enum Call {
+    Wants,
+    // The event of this timestamp and ledger, and whether no other one follows.
+    Offer(u64, u32, bool),
+    OfferNone(bool),
+    HasPacket,
+    Send,
+    Confirm(u64, u64),
+    Confirmed,
+    Done,
+    Save,
+}
+
+// What it answers; after a save, what the store then holds.
+#[derive(Clone, Copy, Debug, PartialEq, Eq)]
+enum Answer {
+    Poll(Option<Poll>),
+    Says(bool),
+    Sent(Sent),
+    Moment(u64),
+    Holds(Result<Option<Progress>, StoreError>),
+}
+
+fn save(session: &Session, store: &mut MemoryStore) -> Result<Option<Progress>, StoreError> {
+    session.save(store)?;
+    store.load()
+}
+
+fn ask(
+    alloc: Global,
+    session: &mut Session,
+    store: &mut MemoryStore,
+    call: Call,
+) -> Result<Answer, AllocError> {
+    Ok(match call {
+        Call::Wants => Answer::Poll(session.wants()),
+        Call::Offer(timestamp, ledger, complete) => {
+            Answer::Says(offer_event(session, event(timestamp, ledger), complete))
+        }
+        Call::OfferNone(complete) => Answer::Says(offer_none(session, complete)),
+        Call::HasPacket => Answer::Says(session.has_packet()),
+        Call::Send => Answer::Sent(send(session, alloc)?),
+        Call::Confirm(number, tag) => Answer::Says(session.confirm(number, tag)),
+        Call::Confirmed => Answer::Moment(session.confirmed()),
+        Call::Done => Answer::Says(session.done()),
+        Call::Save => Answer::Holds(save(session, store)),
+    })
+}
+
+const YES: Answer = Answer::Says(true);
+
+const NO: Answer = Answer::Says(false);
+
+const NOTHING: Answer = Answer::Sent(Sent::Nothing);
+
+// Of a session over an empty store, from its connect to its end mark.
+const COURSE: [(Call, Answer); 32] = [
+    (Call::Send, Answer::Sent(Sent::Connect(1))),
+    (Call::Send, NOTHING),
+    (Call::Wants, Answer::Poll(Some(Poll { after: 0, limit: 1 }))),
+    (Call::Offer(3000, 700, false), YES),
+    (Call::Wants, Answer::Poll(None)),
+    (Call::Confirm(1, 1), NO),
+    (Call::HasPacket, YES),
+    (Call::Send, Answer::Sent(Sent::Event(1, 1, 700))),
+    (Call::Send, NOTHING),
+    (Call::Wants, Answer::Poll(None)),
+    (Call::Confirm(2, 1), NO),
+    (Call::Confirm(1, 2), NO),
+    (Call::Confirm(1, 0), NO),
+    (Call::Confirmed, Answer::Moment(0)),
+    (Call::Confirm(1, 1), YES),
+    (Call::Confirm(1, 1), NO),
+    (Call::Confirmed, Answer::Moment(3000)),
+    (Call::HasPacket, NO),
+    (Call::Offer(Limits::TIMESTAMP, 800, true), YES),
+    (Call::Send, Answer::Sent(Sent::Event(1, 2, 800))),
+    (Call::Send, NOTHING),
+    (Call::Confirm(1, 2), YES),
+    (Call::OfferNone(true), NO),
+    (Call::Send, Answer::Sent(Sent::EndMark(1, 3))),
+    (Call::Send, NOTHING),
+    (Call::Done, NO),
+    (Call::Confirm(1, 3), YES),
+    (Call::Done, YES),
+    (Call::HasPacket, NO),
+    (Call::Confirmed, Answer::Moment(Limits::TIMESTAMP)),
+    (Call::OfferNone(true), NO),
+    (Call::Send, NOTHING),
+];
 
 #[test]
 fn a_course_from_its_connect_to_its_end_mark(rt: HostRuntime) -> Result<(), Fail> {
-    let alloc = rt.alloc();
-    let mut store = MemoryStore::with_faults(Some(Progress::new(6, 2000)), 0, false);
-    let mut session = Session::start(alloc, &mut store, 1)?;
-    assert_eq!(rt; send(&mut session, alloc)?, Sent::Connect(7));
-    assert_eq!(rt; send(&mut session, alloc)?, Sent::Nothing);
-    assert_eq!(rt;
-        session.wants(),
-        Some(Poll {
-            after: 2000,
-            limit: 1
-        })
-    );
-    assert!(rt; offer_event(&mut session, event(3000, 700), false));
-    assert_eq!(rt; session.wants(), None);
-    assert!(rt; !session.confirm(7, 1));
-    assert_eq!(rt; send(&mut session, alloc)?, Sent::Event(7, 1, 700));
-    assert_eq!(rt; send(&mut session, alloc)?, Sent::Nothing);
-    assert_eq!(rt; session.wants(), None);
-    assert!(rt; !session.confirm(6, 1));
-    assert!(rt; !session.confirm(7, 2));
-    assert!(rt; !session.confirm(7, 0));
-    assert_eq!(rt; session.confirmed(), 2000);
-    assert!(rt; session.confirm(7, 1));
-    assert!(rt; !session.confirm(7, 1));
-    assert_eq!(rt; session.confirmed(), 3000);
-    session.save(&mut store)?;
-    assert_eq!(rt; store.load(), Ok(Some(Progress::new(7, 3000))));
-    assert!(rt; offer_event(&mut session, event(3001, 800), false));
-    assert_eq!(rt; send(&mut session, alloc)?, Sent::Event(7, 2, 800));
-    assert!(rt; session.confirm(7, 2));
-    assert!(rt; offer_none(&mut session, true));
-    assert!(rt; !offer_none(&mut session, true));
-    assert_eq!(rt; send(&mut session, alloc)?, Sent::EndMark(7, 3));
-    assert_eq!(rt; send(&mut session, alloc)?, Sent::Nothing);
-    assert!(rt; !session.done());
-    assert!(rt; session.confirm(7, 3));
-    assert!(rt; session.done());
-    assert_eq!(rt; session.confirmed(), 3001);
-    Ok(())
-}
-
-#[test]
-fn an_event_may_be_the_last_one(rt: HostRuntime) -> Result<(), Fail> {
-    let alloc = rt.alloc();
     let mut store = MemoryStore::new();
-    let mut session = Session::start(alloc, &mut store, 1)?;
-    assert!(rt; offer_event(&mut session, event(Limits::TIMESTAMP, 700), true));
-    assert_eq!(rt; send(&mut session, alloc)?, Sent::Connect(1));
-    assert_eq!(rt; send(&mut session, alloc)?, Sent::Event(1, 1, 700));
-    assert_eq!(rt; send(&mut session, alloc)?, Sent::Nothing);
-    assert!(rt; session.confirm(1, 1));
-    assert_eq!(rt; send(&mut session, alloc)?, Sent::EndMark(1, 2));
-    assert_eq!(rt; session.confirmed(), Limits::TIMESTAMP);
+    let mut session = Session::start(rt.alloc(), &mut store, Limits::WINDOW_TODAY)?;
+    for (place, (call, answer)) in COURSE.iter().enumerate() {
+        let given = ask(rt.alloc(), &mut session, &mut store, *call)?;
+        assert_eq!(rt; given, *answer, "call {place}");
+    }
     Ok(())
 }
 
 #[test]
 fn a_session_of_a_thousand_events(rt: HostRuntime) -> Result<(), Fail> {
-    let alloc = rt.alloc();
     let mut store = MemoryStore::new();
-    let mut session = Session::start(alloc, &mut store, 1)?;
-    assert_eq!(rt; send(&mut session, alloc)?, Sent::Connect(1));
+    let mut session = Session::start(rt.alloc(), &mut store, Limits::WINDOW_TODAY)?;
+    assert_eq!(rt; send(&mut session, rt.alloc())?, Sent::Connect(1));
     for tag in 1..=1_000 {
-        assert!(rt; !session.has_packet());
-        assert!(rt; offer_event(&mut session, event(tag, 700), false));
-        assert!(rt; session.has_packet());
-        assert_eq!(rt; send(&mut session, alloc)?, Sent::Event(1, tag, 700));
-        assert!(rt; session.confirm(1, tag));
+        for (call, answer) in [
+            (Call::Offer(tag, 700, false), YES),
+            (Call::Send, Answer::Sent(Sent::Event(1, tag, 700))),
+            (Call::Confirm(1, tag), YES),
+        ] {
+            assert_eq!(rt; ask(rt.alloc(), &mut session, &mut store, call)?, answer);
+        }
     }
-    session.save(&mut store)?;
-    assert_eq!(rt; store.load(), Ok(Some(Progress::new(1, 1_000))));
+    let saved = Answer::Holds(Ok(progress(Some((1, 1_000)))));
+    assert_eq!(rt;
+        ask(rt.alloc(), &mut session, &mut store, Call::Save)?,
+        saved
+    );
     Ok(())
 }
 

@@ -5,6 +5,7 @@ use Rattle.std.specs.List.{list_any}
 use Rattle.std.specs.Str.{bytes_eq}
 use Rattle.cdc_types.specs.declared.accounts.NewAccount.{NewAccount}
 use Rattle.cdc_types.specs.declared.transfers.NewTransfer.{NewTransfer}
+use Rattle.cdc_types.specs.Widths.{max_16, max_32, max_64, max_128}
 use Rattle.cdc_match.specs.Parts.{parted}
 use Rattle.cdc_script.specs.declared.faults.FaultKind.{FaultKind}
 use Rattle.cdc_script.specs.declared.faults.FaultKind.TheVariants.{BadText, WrongCount, UnknownKey, KeyTwice}
@@ -48,13 +49,13 @@ keys_of item.Transfer = transfer_keys
 
 -- the greatest number of a field
 abbrev pub greatest_of : Key → ℕ
-greatest_of key.UserData64 = 18446744073709551615
-greatest_of key.UserData32 = 4294967295
-greatest_of key.Timeout = 4294967295
-greatest_of key.Ledger = 4294967295
-greatest_of key.Code = 65535
-greatest_of key.Flags = 65535
-greatest_of _ = 340282366920938463463374607431768211455
+greatest_of key.UserData64 = max_64
+greatest_of key.UserData32 = max_32
+greatest_of key.Timeout = max_32
+greatest_of key.Ledger = max_32
+greatest_of key.Code = max_16
+greatest_of key.Flags = max_16
+greatest_of _ = max_128
 
 -- the fields with this one given
 abbrev pub with_field : NewTransfer → Key → ℕ → NewTransfer

@@ -5,6 +5,7 @@ use Rattle.std.specs.Str.Lines.{lines}
 use Rattle.cdc_types.specs.declared.accounts.NewAccount.{NewAccount}
 use Rattle.cdc_types.specs.declared.transfers.NewTransfer.{NewTransfer}
 use Rattle.cdc_types.specs.declared.batches.Batch.TheVariants as batch
+use Rattle.cdc_types.specs.declared.bounds.TheConstants.Limits.{SCRIPT_BYTES}
 use Rattle.cdc_match.specs.Arguments.{Arguments}
 use Rattle.cdc_script.specs.declared.faults.FaultKind.{FaultKind}
 use Rattle.cdc_script.specs.declared.faults.FaultKind.TheVariants.{NoSubscriber, TooLong}
@@ -17,9 +18,9 @@ use Rattle.cdc_script.specs.declared.statements.Statement.TheVariants as says
 use Rattle.cdc_script.specs.Statements.{line_says, after}
 use Rattle.cdc_script.specs.Faults.{◌>>=◌}
 
--- the bytes of a script, at most
+-- the bytes of a script or a step file, at most
 abbrev pub max_bytes : ℕ
-max_bytes = 1048576
+max_bytes = SCRIPT_BYTES
 
 -- what stands above the first line
 abbrev pub at_top : Context

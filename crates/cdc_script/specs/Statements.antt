@@ -2,7 +2,9 @@
 use Rattle.std.specs.Prelude.{ℕ, ◌+◌, ◌==◌, ◌||◌, nat_le, nat_lt, List, [], ◌∷◌, Option, Some, None, Result, Ok, Err, codes, unwrap_or, if◌then◌else◌}
 use Rattle.std.specs.List.{list_all, take_while}
 use Rattle.std.specs.Str.{bytes_eq}
+use Rattle.cdc_types.specs.declared.bounds.TheConstants.Limits.{CLIENTS, SUBSCRIBERS}
 use Rattle.cdc_types.specs.Lines.{first_line}
+use Rattle.cdc_types.specs.Widths.{max_64}
 use Rattle.cdc_match.specs.declared.errors.BindError.{BindError}
 use Rattle.cdc_match.specs.Parsing.{arguments_of}
 use Rattle.cdc_script.specs.declared.faults.FaultKind.{FaultKind}
@@ -17,14 +19,6 @@ use Rattle.cdc_script.specs.Numbers.{number_of}
 use Rattle.cdc_script.specs.Faults.{◌>>=◌}
 use Rattle.cdc_script.specs.Words.{is_printable, spoken}
 
--- how many subscriber lines a script may have
-abbrev pub max_subscribers : ℕ
-max_subscribers = 8
-
--- the greatest number of a client
-abbrev pub max_client : ℕ
-max_client = 2
-
 -- before anything else is asked of a word, its bytes are looked at
 abbrev pub checked : {A : Type 0} → List ℕ → Result A FaultKind → Result A FaultKind
 checked word meaning = if is_printable word then meaning else Err BadText
@@ -37,7 +31,7 @@ ended fault said (word ∷ rest) = checked word (Err fault)
 -- a number of 64 bits, and the words after it
 abbrev pub number_word : List (List ℕ) → Result (ℕ × List (List ℕ)) FaultKind
 number_word [] = Err WrongCount
-number_word (word ∷ rest) = checked word (number_of 18446744073709551615 word >>= λ n. Ok (n, rest))
+number_word (word ∷ rest) = checked word (number_of max_64 word >>= λ n. Ok (n, rest))
 
 -- whatever is wrong with a binding, one fault stands for it
 abbrev pub readable : {A : Type 0} → Result A BindError → Result A FaultKind
@@ -57,14 +51,14 @@ binding_line rest =
 
 -- a subscriber; where there are as many as there may be, no binding is looked at
 abbrev pub subscriber_line : ℕ → List (List ℕ) → Result Statement FaultKind
-subscriber_line subscribers rest = if nat_le max_subscribers subscribers then Err TooManySubscribers
+subscriber_line subscribers rest = if nat_le SUBSCRIBERS subscribers then Err TooManySubscribers
     else binding_line rest
 
 -- the client of the batches that follow
 abbrev pub client_line : List (List ℕ) → Result Statement FaultKind
 client_line rest = do
   number ← number_word rest
-  if (number.0 == 0) || nat_lt max_client number.0 then Err BadClient
+  if (number.0 == 0) || nat_lt CLIENTS number.0 then Err BadClient
       else (ended WrongCount number.0 number.1 >>= λ n. Ok (says.Client n))
 
 -- a number of 64 bits alone

@@ -3,6 +3,8 @@ use Rattle.std.specs.Prelude.{ℕ, ◌+◌, nat_lt, List, [], ◌∷◌, length,
 use Rattle.std.specs.List.{cons_option}
 use Rattle.std.specs.Str.{bytes_eq}
 use Rattle.std.specs.Str.Lines.{lines}
+use Rattle.cdc_types.specs.declared.steps.Step.{Step}
+use Rattle.cdc_types.specs.declared.steps.Step.TheVariants as step
 use Rattle.cdc_types.specs.Lines.{first_line}
 use Rattle.cdc_script.specs.declared.faults.FaultKind.{FaultKind}
 use Rattle.cdc_script.specs.declared.faults.FaultKind.TheVariants.{UnknownWord, WrongCount, TooLong}
@@ -10,23 +12,43 @@ use Rattle.cdc_script.specs.declared.faults.ScriptFault.{ScriptFault}
 use Rattle.cdc_script.specs.declared.step_files.Act.{Act}
 use Rattle.cdc_script.specs.declared.step_files.Act.TheVariants as act
 use Rattle.cdc_script.specs.Scripts.{in_line, max_bytes, whole_fault}
-use Rattle.cdc_script.specs.Statements.{checked, ended, lone_number}
+use Rattle.cdc_script.specs.Statements.{checked, ended, lone_number, number_word}
 use Rattle.cdc_script.specs.Faults.{◌>>=◌}
 use Rattle.cdc_script.specs.Words.{spoken}
+
+-- a step that no number follows
+abbrev pub lone_step : Step → List (List ℕ) → Result Act FaultKind
+lone_step said rest = ended WrongCount (act.Step said) rest
+
+-- a step that one number follows
+abbrev pub numbered_step : (ℕ → Step) → List (List ℕ) → Result Act FaultKind
+numbered_step said rest = lone_number rest >>= λ number. Ok (act.Step (said number))
+
+-- an acknowledgement, which the numbers of a subscriber and of the acknowledgement follow
+abbrev pub ack_said : List (List ℕ) → Result Act FaultKind
+ack_said rest = do
+  subscriber ← number_word rest
+  number ← lone_number subscriber.1
+  Ok (act.Step (step.Ack subscriber.0 number))
 
 -- the first word decides what the words after it mean
 abbrev pub act_said : List ℕ → List (List ℕ) → Result Act FaultKind
 act_said first rest = checked first (unwrap_or (first_line (
     (bytes_eq first (codes "batch"), ended WrongCount act.Batch rest) ∷
-    (bytes_eq first (codes "close_ledger"), ended WrongCount act.CloseLedger rest) ∷
-    (bytes_eq first (codes "start"), ended WrongCount act.Start rest) ∷
-    (bytes_eq first (codes "poll"), ended WrongCount act.Poll rest) ∷
-    (bytes_eq first (codes "publish"), ended WrongCount act.Publish rest) ∷
-    (bytes_eq first (codes "save"), ended WrongCount act.Save rest) ∷
-    (bytes_eq first (codes "arrive"), (lone_number rest >>= λ k. Ok (act.Arrive k))) ∷
-    (bytes_eq first (codes "answer"), (lone_number rest >>= λ k. Ok (act.Answer k))) ∷
-    (bytes_eq first (codes "send"), (lone_number rest >>= λ i. Ok (act.Send i))) ∷
-    (bytes_eq first (codes "take"), (lone_number rest >>= λ i. Ok (act.Take i))) ∷
+    (bytes_eq first (codes "close_ledger"), lone_step step.CloseLedger rest) ∷
+    (bytes_eq first (codes "start"), lone_step step.Start rest) ∷
+    (bytes_eq first (codes "crash"), lone_step step.Crash rest) ∷
+    (bytes_eq first (codes "poll"), lone_step step.Poll rest) ∷
+    (bytes_eq first (codes "publish"), lone_step step.Publish rest) ∷
+    (bytes_eq first (codes "save"), lone_step step.Save rest) ∷
+    (bytes_eq first (codes "arrive"), numbered_step step.Arrive rest) ∷
+    (bytes_eq first (codes "answer"), numbered_step step.Answer rest) ∷
+    (bytes_eq first (codes "send"), numbered_step step.Send rest) ∷
+    (bytes_eq first (codes "rewind"), numbered_step step.Rewind rest) ∷
+    (bytes_eq first (codes "break"), numbered_step step.Break rest) ∷
+    (bytes_eq first (codes "take"), numbered_step step.Take rest) ∷
+    (bytes_eq first (codes "close"), numbered_step step.Close rest) ∷
+    (bytes_eq first (codes "ack"), ack_said rest) ∷
     [])) (Err UnknownWord))
 
 -- what words name: nothing where there are none

@@ -86,10 +86,7 @@ impl ItemKind {
     fn key_named(self, name: &str) -> Option<Key>
         ensures { result ≡ key_named self name.now }
     {
-        self.keys()
-            .iter()
-            .copied()
-            .find(|key| key.name() == name)
+        self.keys().iter().copied().find(|key| key.name() == name)
     }
 }
 
@@ -208,7 +205,7 @@ fn read_field(word: &[u8], kind: ItemKind) -> Result<(Key, u128), FaultKind>
     let text = printable_text(word).ok_or(FaultKind::BadText)?;
     let (name, value) = parted_at_equals(text).ok_or(FaultKind::UnknownKey)?;
     let key = kind.key_named(name).ok_or(FaultKind::UnknownKey)?;
-    let number = read_number(value, key.greatest())?;
+    let number = read_number(value.as_bytes(), key.greatest())?;
     Ok((key, number))
 }
 

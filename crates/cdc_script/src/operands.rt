@@ -6,11 +6,11 @@ ghost use Rattle.cdc_script.specs.Statements.{ended, lone_number, number_word};
 ghost use Rattle.cdc_script.specs.Words.{words as words_of};
 
 use crate::faults::FaultKind;
-use crate::words::{is_printable_word, next_word, printable_text};
+use crate::words::{is_printable_word, next_word};
 use cdc_message::{decimal_up_to, is_decimal};
 
 /// The number that a word writes in decimal, at most `greatest`. Leading zeros may stand before it.
-pub fn read_number(word: &str, greatest: u128) -> Result<u128, FaultKind>
+pub fn read_number(word: &[u8], greatest: u128) -> Result<u128, FaultKind>
     ensures { result ≡ number_of greatest word.now }
 {
     if !is_decimal(word) {
@@ -34,13 +34,15 @@ pub fn read_word_number(words: &[u8]) -> Result<(u64, &[u8]), FaultKind>
         (λ fault. number_word (words_of words.now) ≡ Err fault) }
 {
     let (word, rest) = next_word(words).ok_or(FaultKind::WrongCount)?;
-    let text = printable_text(word).ok_or(FaultKind::BadText)?;
-    let number = read_number(text, u128::from(u64::MAX))?;
+    if !is_printable_word(word) {
+        return Err(FaultKind::BadText);
+    }
+    let number = read_number(word, u128::from(u64::MAX))?;
     Ok((number as u64, rest))
 }
 
 /// What was said, where the line ends; else the fault of the word that follows.
-pub fn at_end<T: Copy>(words: &[u8], fault: FaultKind, said: T) -> Result<T, FaultKind>
+pub fn at_end<T: Drop>(words: &[u8], fault: FaultKind, said: T) -> Result<T, FaultKind>
     ensures ended { result ≡ ended fault said (words_of words.now) }
     ensures said { IfOk result (λ x. x ≡ said) }
 {

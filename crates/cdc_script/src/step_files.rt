@@ -1,42 +1,26 @@
-//! Step files: what is done of a simulation, one action in a line.
+//! Step files: what is done of a simulation, one batch or step in a line.
 
 ghost use Rattle.std.specs.Prelude.{◌≡◌, ◌≤◌, ◌++◌, ◌∷◌, [], length, Ok, MatchResult, OnOk};
 ghost use Rattle.std.specs.Str.Lines.{lines};
 ghost use Rattle.cdc_script.specs.Reading.{IsFault};
 ghost use Rattle.cdc_script.specs.Scripts.{max_bytes};
-ghost use Rattle.cdc_script.specs.StepFiles.{act_said, acts_from, acts_of, line_names};
+ghost use Rattle.cdc_script.specs.StepFiles.{ack_said, act_said, acts_from, acts_of, line_names};
 ghost use Rattle.cdc_script.specs.Words.{words as words_of};
 
 use crate::faults::{FaultKind, ScriptError};
-use crate::operands::{at_end, read_lone_number};
+use crate::operands::{at_end, read_lone_number, read_word_number};
 use crate::reading::fault_at;
 use crate::words::{first_word, is_printable_word, is_word, next_line};
-use cdc_types::Limits;
+use cdc_types::{Limits, Step};
 use std::alloc::{AllocError, Global};
 
-/// One action of a simulation.
-#[derive(Clone, Copy)]
+/// What a line of a step file asks for.
+#[derive(Drop)]
 pub enum Act {
     /// The next batch of the script goes to the ledger.
     Batch,
-    /// The ledger closes.
-    CloseLedger,
-    /// The connector starts a session.
-    Start,
-    /// The session is offered events of the ledger's log.
-    Poll,
-    /// The session sends its next packet.
-    Publish,
-    /// The packet of this number comes to the broker.
-    Arrive(u64),
-    /// The confirm of this number comes to the session.
-    Answer(u64),
-    /// The session saves its progress.
-    Save,
-    /// The broker hands out the next entry of the queue of this number.
-    Send(u64),
-    /// The subscriber of this number takes the first delivery that is on its way to it.
-    Take(u64),
+    /// A step of the world.
+    Step(Step),
 }
 
 /// What a line names; nothing where it is blank or a comment.
@@ -58,26 +42,45 @@ fn act_of_words(first: &[u8], rest: &[u8]) -> Result<Act, FaultKind>
     } else if is_word(first, "batch") {
         at_end(rest, FaultKind::WrongCount, Act::Batch)
     } else if is_word(first, "close_ledger") {
-        at_end(rest, FaultKind::WrongCount, Act::CloseLedger)
+        at_end(rest, FaultKind::WrongCount, Act::Step(Step::CloseLedger))
     } else if is_word(first, "start") {
-        at_end(rest, FaultKind::WrongCount, Act::Start)
+        at_end(rest, FaultKind::WrongCount, Act::Step(Step::Start))
+    } else if is_word(first, "crash") {
+        at_end(rest, FaultKind::WrongCount, Act::Step(Step::Crash))
     } else if is_word(first, "poll") {
-        at_end(rest, FaultKind::WrongCount, Act::Poll)
+        at_end(rest, FaultKind::WrongCount, Act::Step(Step::Poll))
     } else if is_word(first, "publish") {
-        at_end(rest, FaultKind::WrongCount, Act::Publish)
+        at_end(rest, FaultKind::WrongCount, Act::Step(Step::Publish))
     } else if is_word(first, "save") {
-        at_end(rest, FaultKind::WrongCount, Act::Save)
+        at_end(rest, FaultKind::WrongCount, Act::Step(Step::Save))
     } else if is_word(first, "arrive") {
-        Ok(Act::Arrive(read_lone_number(rest)?))
+        Ok(Act::Step(Step::Arrive(read_lone_number(rest)?)))
     } else if is_word(first, "answer") {
-        Ok(Act::Answer(read_lone_number(rest)?))
+        Ok(Act::Step(Step::Answer(read_lone_number(rest)?)))
     } else if is_word(first, "send") {
-        Ok(Act::Send(read_lone_number(rest)?))
+        Ok(Act::Step(Step::Send(read_lone_number(rest)?)))
+    } else if is_word(first, "rewind") {
+        Ok(Act::Step(Step::Rewind(read_lone_number(rest)?)))
+    } else if is_word(first, "break") {
+        Ok(Act::Step(Step::Break(read_lone_number(rest)?)))
     } else if is_word(first, "take") {
-        Ok(Act::Take(read_lone_number(rest)?))
+        Ok(Act::Step(Step::Take(read_lone_number(rest)?)))
+    } else if is_word(first, "close") {
+        Ok(Act::Step(Step::Close(read_lone_number(rest)?)))
+    } else if is_word(first, "ack") {
+        read_ack(rest)
     } else {
         Err(FaultKind::UnknownWord)
     }
+}
+
+/// An acknowledgement: the number of a subscriber, and that of the acknowledgement.
+fn read_ack(words: &[u8]) -> Result<Act, FaultKind>
+    ensures { result ≡ ack_said (words_of words.now) }
+{
+    let (subscriber, rest) = read_word_number(words)?;
+    let number = read_lone_number(rest)?;
+    Ok(Act::Step(Step::Ack(subscriber, number)))
 }
 
 /// What the lines of a text name.

@@ -181,7 +181,8 @@ impl Subscriber {
     /// Hears an event, and applies it where it is later than the last one applied.
     fn hear(&mut self, event: &Event) -> Result<Taking, TakeError>
         requires { settled_answer self.old ≡ None }
-        ensures answer { GivesOrLacksMemory true (Ok (event_answer self.old.last event.now)) result }
+        ensures answer { GivesOrLacksMemory true
+            (Ok (event_answer self.old.last event.now)) result }
         ensures stands { (heard : Heard) → self.old ≡ kept_of heard
             → OnOk result (self.new ≡ kept_of (next heard (Item.Event event.now))) }
         ensures err { OnErr result (self.new ≡ self.old) }

@@ -7,44 +7,40 @@ use crate::{
 use std::test::Fail;
 
 // An account that is taken, to be spoilt one field at a time.
-fn account() -> NewAccount {
-    NewAccount {
-        id: 1,
-        user_data_128: 0,
-        user_data_64: 0,
-        user_data_32: 0,
-        ledger: 700,
-        code: 10,
-        flags: 0,
-    }
-}
+const ACCOUNT: NewAccount = NewAccount {
+    id: 1,
+    user_data_128: 0,
+    user_data_64: 0,
+    user_data_32: 0,
+    ledger: 700,
+    code: 10,
+    flags: 0,
+};
 
 // A transfer that is taken, to be spoilt one field at a time.
-fn transfer() -> NewTransfer {
-    NewTransfer {
-        id: 1,
-        debit_account_id: 1,
-        credit_account_id: 2,
-        amount: 100,
-        pending_id: 0,
-        user_data_128: 0,
-        user_data_64: 0,
-        user_data_32: 0,
-        timeout: 0,
-        ledger: 700,
-        code: 1,
-        flags: 0,
-    }
-}
+const TRANSFER: NewTransfer = NewTransfer {
+    id: 1,
+    debit_account_id: 1,
+    credit_account_id: 2,
+    amount: 100,
+    pending_id: 0,
+    user_data_128: 0,
+    user_data_64: 0,
+    user_data_32: 0,
+    timeout: 0,
+    ledger: 700,
+    code: 1,
+    flags: 0,
+};
 
 #[test]
 fn accounts_are_refused_by_the_first_line(rt: HostRuntime) {
     let rows = [
-        (account(), 0, "ok"),
+        (ACCOUNT, 0, "ok"),
         (
             NewAccount {
                 flags: 1,
-                ..account()
+                ..ACCOUNT
             },
             1,
             "reserved_flag",
@@ -53,16 +49,16 @@ fn accounts_are_refused_by_the_first_line(rt: HostRuntime) {
             NewAccount {
                 flags: 16,
                 id: 0,
-                ..account()
+                ..ACCOUNT
             },
             1,
             "reserved_flag",
         ),
-        (NewAccount { id: 0, ..account() }, 2, "id_must_not_be_zero"),
+        (NewAccount { id: 0, ..ACCOUNT }, 2, "id_must_not_be_zero"),
         (
             NewAccount {
                 id: u128::MAX,
-                ..account()
+                ..ACCOUNT
             },
             3,
             "id_must_not_be_int_max",
@@ -70,7 +66,7 @@ fn accounts_are_refused_by_the_first_line(rt: HostRuntime) {
         (
             NewAccount {
                 flags: 6,
-                ..account()
+                ..ACCOUNT
             },
             4,
             "flags_are_mutually_exclusive",
@@ -79,16 +75,13 @@ fn accounts_are_refused_by_the_first_line(rt: HostRuntime) {
             NewAccount {
                 ledger: 0,
                 code: 0,
-                ..account()
+                ..ACCOUNT
             },
             5,
             "ledger_must_not_be_zero",
         ),
         (
-            NewAccount {
-                code: 0,
-                ..account()
-            },
+            NewAccount { code: 0, ..ACCOUNT },
             6,
             "code_must_not_be_zero",
         ),
@@ -102,11 +95,11 @@ fn accounts_are_refused_by_the_first_line(rt: HostRuntime) {
 #[test]
 fn transfers_are_refused_by_the_first_line(rt: HostRuntime) {
     let rows = [
-        (transfer(), 0, "ok"),
+        (TRANSFER, 0, "ok"),
         (
             NewTransfer {
                 flags: 1,
-                ..transfer()
+                ..TRANSFER
             },
             1,
             "reserved_flag",
@@ -115,23 +108,16 @@ fn transfers_are_refused_by_the_first_line(rt: HostRuntime) {
             NewTransfer {
                 flags: 2,
                 timeout: u32::MAX,
-                ..transfer()
+                ..TRANSFER
             },
             0,
             "ok",
         ),
-        (
-            NewTransfer {
-                id: 0,
-                ..transfer()
-            },
-            2,
-            "id_must_not_be_zero",
-        ),
+        (NewTransfer { id: 0, ..TRANSFER }, 2, "id_must_not_be_zero"),
         (
             NewTransfer {
                 id: u128::MAX,
-                ..transfer()
+                ..TRANSFER
             },
             3,
             "id_must_not_be_int_max",
@@ -139,7 +125,7 @@ fn transfers_are_refused_by_the_first_line(rt: HostRuntime) {
         (
             NewTransfer {
                 flags: 6,
-                ..transfer()
+                ..TRANSFER
             },
             4,
             "flags_are_mutually_exclusive",
@@ -147,7 +133,7 @@ fn transfers_are_refused_by_the_first_line(rt: HostRuntime) {
         (
             NewTransfer {
                 flags: 4,
-                ..transfer()
+                ..TRANSFER
             },
             6,
             "pending_id_must_not_be_zero",
@@ -156,7 +142,7 @@ fn transfers_are_refused_by_the_first_line(rt: HostRuntime) {
             NewTransfer {
                 flags: 8,
                 pending_id: 1,
-                ..transfer()
+                ..TRANSFER
             },
             7,
             "pending_id_must_be_different",
@@ -164,7 +150,7 @@ fn transfers_are_refused_by_the_first_line(rt: HostRuntime) {
         (
             NewTransfer {
                 pending_id: 9,
-                ..transfer()
+                ..TRANSFER
             },
             5,
             "pending_id_must_be_zero",
@@ -172,7 +158,7 @@ fn transfers_are_refused_by_the_first_line(rt: HostRuntime) {
         (
             NewTransfer {
                 timeout: 1,
-                ..transfer()
+                ..TRANSFER
             },
             8,
             "timeout_reserved_for_pending_transfer",
@@ -180,7 +166,7 @@ fn transfers_are_refused_by_the_first_line(rt: HostRuntime) {
         (
             NewTransfer {
                 ledger: 0,
-                ..transfer()
+                ..TRANSFER
             },
             9,
             "ledger_must_not_be_zero",
@@ -188,7 +174,7 @@ fn transfers_are_refused_by_the_first_line(rt: HostRuntime) {
         (
             NewTransfer {
                 code: 0,
-                ..transfer()
+                ..TRANSFER
             },
             10,
             "code_must_not_be_zero",
@@ -196,7 +182,7 @@ fn transfers_are_refused_by_the_first_line(rt: HostRuntime) {
         (
             NewTransfer {
                 credit_account_id: 1,
-                ..transfer()
+                ..TRANSFER
             },
             11,
             "accounts_must_be_different",
@@ -216,10 +202,7 @@ fn the_kinds_of_a_transfer_are_read_off_its_flags(rt: HostRuntime) {
         (4, (false, true, false, false)),
         (8, (false, false, true, false)),
     ] {
-        let request = NewTransfer {
-            flags,
-            ..transfer()
-        };
+        let request = NewTransfer { flags, ..TRANSFER };
         assert_eq!(rt;
             (
                 request.is_pending(),
@@ -233,8 +216,8 @@ fn the_kinds_of_a_transfer_are_read_off_its_flags(rt: HostRuntime) {
 }
 
 #[test]
-fn batches_and_results_are_copied(rt: HostRuntime) -> Result<(), Fail> {
-    let items = vec![in rt.alloc(); account(); Limits::BATCH_ITEMS]?;
+fn batches_are_copied(rt: HostRuntime) -> Result<(), Fail> {
+    let items = vec![in rt.alloc(); ACCOUNT; Limits::BATCH_ITEMS]?;
     let batch = Batch::Accounts {
         now: 7,
         items: Items::from_vec(items),
@@ -242,10 +225,14 @@ fn batches_and_results_are_copied(rt: HostRuntime) -> Result<(), Fail> {
     let Batch::Accounts { now, items } = batch.try_copy(rt.alloc())? else {
         return Err(Fail::from("another kind of batch"));
     };
-    assert_eq!(rt; now, 7);
     let items = items.into_vec();
-    assert_eq!(rt; items.len(), 1_000);
-    assert!(rt; items.iter().all(|item| *item == account()));
+    assert_eq!(rt; (now, items.len()), (7, 1_000));
+    assert!(rt; items.iter().all(|item| *item == ACCOUNT));
+    Ok(())
+}
+
+#[test]
+fn results_are_copied(rt: HostRuntime) -> Result<(), Fail> {
     let results = vec![in rt.alloc(); TransferResult::Exists; Limits::BATCH_ITEMS]?;
     let results = BatchResults::Transfers(Items::from_vec(results));
     let BatchResults::Transfers(items) = results.try_copy(rt.alloc())? else {

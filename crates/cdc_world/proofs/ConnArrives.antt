@@ -6,7 +6,15 @@ use Rattle.std.proofs.lemmas.Bool.{and_parts, cases_Bool, cases_lt, eqb-true}
 use Rattle.std.proofs.lemmas.List.Elements.{Contains-append_left, Contains-push, Contains-push_cases, filter_map-append}
 use Rattle.std.proofs.lemmas.List.Sums.{fold-append}
 use Rattle.std.proofs.lemmas.Option.{cond_some, same_Some}
-use Rattle.cdc_broker.specs.Broker.{max_64, tag_after}
+use Rattle.cdc_broker.specs.Packets.{current_session, expected_after, expected_tag, is_tag, is_taken, items_of, max_64, packet_item, session_after, tag_after}
+use Rattle.cdc_laws.specs.Line.{line, line_after}
+use Rattle.cdc_world.specs.Connector.{HasTakenUpTo, IsCurrent, IsOfLine, IsOrderly, IsTakenAt, IsTakenBy, held_number, held_timestamp}
+use Rattle.cdc_world.specs.Next.{with_arrival}
+use Rattle.cdc_world.specs.Worlds.{WorldState, numbered, taken_items}
+use Rattle.cdc_laws.proofs.Lines.{line_splits, split_events}
+use Rattle.cdc_laws.proofs.Places.{Contains_slice_get, each_from, each_has, slice_get-before, slice_get-behind}
+use Rattle.cdc_laws.proofs.Replays.{IsReplay-found, from_places}
+use Rattle.cdc_world.proofs.Places.{numbered_from, numbered_parts}
 use Rattle.cdc_ledger.specs.Events.{events}
 use Rattle.cdc_ledger.specs.History.{History}
 use Rattle.cdc_log.specs.Log.{events_after}
@@ -20,14 +28,6 @@ use Rattle.cdc_message.specs.declared.packets.Packet.TheVariants.{Connect, Publi
 use Rattle.cdc_message.specs.Replays.{IsReplay}
 use Rattle.cdc_publisher.specs.Courses.{Course}
 use Rattle.cdc_types.specs.declared.events.Event.{Event}
-use Rattle.cdc_world.specs.Connector.{HasTakenUpTo, IsCurrent, IsOfLine, IsOrderly, IsTakenAt, IsTakenBy, held_number, held_timestamp, line_after}
-use Rattle.cdc_world.specs.Line.{line}
-use Rattle.cdc_world.specs.Next.{taking_in}
-use Rattle.cdc_world.specs.Packets.{current_session, expected_after, expected_tag, is_tag, is_taken, items_of, packet_item, session_after}
-use Rattle.cdc_world.specs.Worlds.{WorldState, numbered, taken_items}
-use Rattle.cdc_world.proofs.ConnLines.{line_splits, split_events}
-use Rattle.cdc_world.proofs.ConnPlaces.{Contains_slice_get, each_from, each_has, numbered_from, numbered_parts, slice_get-before, slice_get-behind}
-use Rattle.cdc_world.proofs.ConnReplays.{IsReplay-in_turn}
 
 -- ---- where more was taken
 
@@ -125,7 +125,7 @@ IsReplay-taken all f front rest tag item replay whole has there earlier =
           same_Some taken.0 y (sym taken.1 ∙ numbered_from rest k y (omega arith) at) in
           subst (Contains all) same taken.2
     ] in
-    IsReplay-in_turn all f item place replay here before
+    IsReplay-found all f item place replay here (from_places (Contains all) place f before)
 
 -- every event up to a moment was taken
 pub front_taken : (h : History) (all : List Item) (t : ℕ) (front back : List Event) → events h ≡ front ++ back
@@ -141,7 +141,7 @@ front_taken h all t front back whole low has =
 module _ (base_of : ℕ → ℕ) (w : WorldState) (is : IsOrderly base_of w) where
   -- a session connects
   arrived_connect : (session : ℕ) → session ≤ held_number w.held
-      → IsOrderly base_of (taking_in w (Connect session) true)
+      → IsOrderly base_of (with_arrival w (Connect session) true)
   arrived_connect session low =
       let same : items_of (w.accepted ++ Connect session ∷ []) ≡ taken_items w =
       items_of-push w.accepted (Connect session) ∙ append-nil (taken_items w) in
@@ -215,7 +215,7 @@ module _ (base_of : ℕ → ℕ) (w : WorldState) (is : IsOrderly base_of w) whe
   arrived_publish : (session tag : ℕ) (item : Item) → session ≤ held_number w.held
       → session ≡ current_session w.accepted
       → expected_tag w.accepted ≡ Some tag → IsOfLine w.history base_of (Publish session tag item)
-      → IsOrderly base_of (taking_in w (Publish session tag item) true)
+      → IsOrderly base_of (with_arrival w (Publish session tag item) true)
   arrived_publish session tag item low same expected of_line =
       let packet : Packet = Publish session tag item in
       let after : List Item = items_of (w.accepted ++ packet ∷ []) in
@@ -269,7 +269,7 @@ module _ (base_of : ℕ → ℕ) (w : WorldState) (is : IsOrderly base_of w) whe
 
   -- either packet keeps the order, since it was sent: its number is held and its item is of the line
   arrived_taken : (packet : Packet) → Contains w.packets packet → is_taken w.accepted packet ≡ true
-      → IsOrderly base_of (taking_in w packet true)
+      → IsOrderly base_of (with_arrival w packet true)
   arrived_taken (Connect session) there takes = arrived_connect session (is.packet_numbers (Connect session) there)
   arrived_taken (Publish session tag item) there takes =
       let parts = and_parts (session == current_session w.accepted) (is_tag (expected_tag w.accepted) tag) takes in
@@ -279,7 +279,7 @@ module _ (base_of : ℕ → ℕ) (w : WorldState) (is : IsOrderly base_of w) whe
 
   -- a packet that comes, taken or passed over
   pub IsOrderly-arrived : (packet : Packet) → Contains w.packets packet
-      → IsOrderly base_of (taking_in w packet (is_taken w.accepted packet))
+      → IsOrderly base_of (with_arrival w packet (is_taken w.accepted packet))
   IsOrderly-arrived packet there =
       elim (cases_Bool (is_taken w.accepted packet)) [
         | inl takes ↦ rw takes (arrived_taken packet there takes)

@@ -9,15 +9,15 @@ use Rattle.cdc_message.specs.declared.packets.Packet.{Packet}
 use Rattle.cdc_message.specs.declared.packets.Packet.TheVariants.{Connect, Publish}
 use Rattle.cdc_progress.specs.Records.{Saved}
 use Rattle.cdc_publisher.specs.Courses.{Course}
-use Rattle.cdc_world.specs.Connector.{HasTakenUpTo, IsCurrent, IsOfLine, IsOrderly, IsTakenAt, IsTakenBy, held_number, line_after, session_of}
-use Rattle.cdc_world.specs.Packets.{current_session}
+use Rattle.cdc_broker.specs.Packets.{current_session}
+use Rattle.cdc_laws.specs.Line.{line_after}
+use Rattle.cdc_world.specs.Connector.{HasTakenUpTo, IsCurrent, IsOfLine, IsOrderly, IsTakenAt, IsTakenBy, held_number, session_of}
 use Rattle.cdc_world.specs.Worlds.{Subscription, WorldState, numbered, taken_items}
 
--- the subscribers, and how many packets and confirms have come
-pub IsOrderly-others : (base_of : ℕ → ℕ) (w : WorldState) (arrivals answers : ℕ) (subscriptions : List Subscription)
-    → IsOrderly base_of w
-    → IsOrderly base_of (record w { arrivals = arrivals; answers = answers; subscriptions = subscriptions })
-IsOrderly-others base_of w arrivals answers subscriptions is = record {
+-- the subscribers
+pub IsOrderly-subscriptions : (base_of : ℕ → ℕ) (w : WorldState) (subscriptions : List Subscription)
+    → IsOrderly base_of w → IsOrderly base_of (record w { subscriptions = subscriptions })
+IsOrderly-subscriptions base_of w subscriptions is = record {
   sound = is.sound;
   bases = is.bases;
   held_past = is.held_past;

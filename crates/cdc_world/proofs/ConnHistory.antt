@@ -14,12 +14,13 @@ use Rattle.cdc_message.specs.declared.packets.Packet.TheVariants.{Connect, Publi
 use Rattle.cdc_message.specs.Replays.{IsReplay}
 use Rattle.cdc_message.proofs.ReplayLaws.{IsReplay-longer}
 use Rattle.cdc_publisher.specs.Courses.{Course}
-use Rattle.cdc_world.specs.Connector.{HasTakenUpTo, IsCurrent, IsOfLine, IsOrderly, IsTakenAt, IsTakenBy, KeepsTo, held_number, held_timestamp, line_after}
-use Rattle.cdc_world.specs.Line.{line}
-use Rattle.cdc_world.specs.Packets.{current_session}
+use Rattle.cdc_broker.specs.Packets.{current_session}
+use Rattle.cdc_laws.specs.Line.{line, line_after}
+use Rattle.cdc_world.specs.Connector.{HasTakenUpTo, IsCurrent, IsOfLine, IsOrderly, IsTakenAt, IsTakenBy, KeepsTo, held_number, held_timestamp}
 use Rattle.cdc_world.specs.Worlds.{WorldState, numbered, taken_items}
-use Rattle.cdc_world.proofs.ConnLines.{GoesOn, events_after-goes_on, line-goes_on, line_after-goes_on}
-use Rattle.cdc_world.proofs.ConnPlaces.{each_has, numbered-append}
+use Rattle.cdc_laws.proofs.Lines.{GoesOn, events_after-goes_on, line-goes_on, line_after-goes_on}
+use Rattle.cdc_laws.proofs.Places.{each_has}
+use Rattle.cdc_world.proofs.Places.{numbered-append}
 
 module _ (h g : History) (on : GoesOn h g) where
   -- an item stays under its number

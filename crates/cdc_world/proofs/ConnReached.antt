@@ -18,23 +18,24 @@ use Rattle.cdc_progress.specs.Records.{Saved}
 use Rattle.cdc_publisher.specs.Courses.{Course, begun, next_packet, progress_of, wanted}
 use Rattle.cdc_types.specs.declared.batches.Batch.{Batch}
 use Rattle.cdc_types.specs.declared.batches.BatchResults.{BatchResults}
+use Rattle.cdc_broker.specs.Packets.{is_taken}
+use Rattle.cdc_laws.specs.Line.{line}
 use Rattle.cdc_world.specs.Connector.{IsOrderly, held_timestamp}
+use Rattle.cdc_world.specs.Next.{AfterFailure, IsAtStart, IsReached, IsTried, Leads, Next, Outcome, first_flight, next, next_delivery, saves, with_batch, with_session, with_start, ◌>>=◌}
+use Rattle.cdc_world.specs.Worlds.{Subscription, WorldState, new_world, numbered, taken_items}
+use Rattle.cdc_laws.proofs.GoingOn.{GoesOn-closed, GoesOn-submit}
+use Rattle.cdc_laws.proofs.Places.{none_there}
+use Rattle.cdc_world.proofs.ConnArrives.{IsOrderly-arrived}
+use Rattle.cdc_world.proofs.ConnChanges.{IsOrderly-subscriptions, IsOrderly-session}
+use Rattle.cdc_world.proofs.ConnHistory.{IsOrderly-history}
+use Rattle.cdc_world.proofs.ConnSessions.{IsOrderly-begun, IsOrderly-confirmed, IsOrderly-polled, IsOrderly-saved, IsOrderly-sending, IsOrderly-started}
+use Rattle.cdc_world.proofs.Places.{Contains_numbered}
 use Rattle.cdc_world.specs.declared.steps.Did.{Did}
 use Rattle.cdc_world.specs.declared.steps.Did.TheVariants.{Submitted, Done}
 use Rattle.cdc_types.specs.declared.steps.Step.{Step}
 use Rattle.cdc_types.specs.declared.steps.Step.TheVariants.{Submit, CloseLedger, Start, Crash, Poll as PollStep, Publish as PublishStep, Arrive, Answer, Save, Send, Rewind, Break, Take, Ack, Close}
 use Rattle.cdc_world.specs.declared.steps.StepError.{StepError}
 use Rattle.cdc_world.specs.declared.steps.StepError.TheVariants.{NotEnabled, Refused, Store, SessionsExhausted, OutOfMemory}
-use Rattle.cdc_world.specs.Line.{line}
-use Rattle.cdc_world.specs.Next.{AfterFailure, IsAtStart, IsReachedBy, IsTried, LeadsBy, NextBy, Offered, Outcome, confirmed, first_flight, may_come, next_by, next_delivery, saves, started, starting, submitted, taking_in, where_so, ◌>>=◌}
-use Rattle.cdc_world.specs.Packets.{is_taken}
-use Rattle.cdc_world.specs.Worlds.{Subscription, WorldState, new_world, numbered, taken_items}
-use Rattle.cdc_world.proofs.ConnArrives.{IsOrderly-arrived}
-use Rattle.cdc_world.proofs.ConnChanges.{IsOrderly-others, IsOrderly-session}
-use Rattle.cdc_world.proofs.ConnHistory.{IsOrderly-history}
-use Rattle.cdc_world.proofs.ConnPlaces.{Contains_numbered, none_there}
-use Rattle.cdc_world.proofs.ConnSessions.{IsOrderly-begun, IsOrderly-confirmed, IsOrderly-polled, IsOrderly-saved, IsOrderly-sending, IsOrderly-started}
-use Rattle.cdc_world.proofs.ConnSubmits.{GoesOn-closed, GoesOn-submit}
 
 -- a world in which all is in order, whatever bases the sessions began with
 abbrev pub HasOrder : WorldState → Type 0
@@ -60,17 +61,12 @@ there_is : {A : Type 0} (o : Option A) {rest : A → Outcome} {answer : Did × W
 there_is None {rest} {answer} is = absurd (no_answer NotEnabled answer is)
 there_is (Some x) is = (x, refl, is)
 
--- an offered step acts on what is there in any case, be it a session, a packet or a confirm
-so_it_is : {A : Type 0} (test : Bool) (o : Option A) (x : A) → where_so test o ≡ Some x → o ≡ Some x
-so_it_is true o x is = is
-so_it_is false o x is = absurd (none-some x is)
-
 -- ---- the steps
 
 -- a batch that the ledger takes keeps the order: its events are later than all that was told
 HasOrder-submitted : (w w' : WorldState) (batch : Batch) (did : Did)
     (answer : Result (BatchResults × History) BatchError)
-    → HasOrder w → submit w.history batch ≡ answer → submitted w answer ≡ Ok (did, w') → HasOrder w'
+    → HasOrder w → submit w.history batch ≡ answer → with_batch w answer ≡ Ok (did, w') → HasOrder w'
 HasOrder-submitted w w' batch did (Ok answered) order answers is =
     let sound : IsSound answered.1 = IsSound-submit w.history batch answered order.1.sound answers in
     subst HasOrder (world_is (Submitted answered.0) did (record w { history = answered.1 }) w' is) (
@@ -90,14 +86,14 @@ HasOrder-closed w order = (
 
 -- a session that starts keeps it: its number is new, and it begins after the held timestamp
 HasOrder-started : (w w' : WorldState) (did : Did) (saved : Option Saved) → HasOrder w → w.session ≡ None
-    → begun w.held ≡ saved → started w saved ≡ Ok (did, w') → HasOrder w'
+    → begun w.held ≡ saved → with_session w saved ≡ Ok (did, w') → HasOrder w'
 HasOrder-started w w' did (Some saved) order none new is =
     subst HasOrder (world_is Done did _ w' is) (_, IsOrderly-started order.0 w saved order.1 none new)
 HasOrder-started w w' did None order none new is = absurd (no_answer SessionsExhausted (did, w') is)
 
 -- the same of the step, which starts a session only where the connector is down
 HasOrder-starting : (w w' : WorldState) (did : Did) (session : Option Course) → HasOrder w → w.session ≡ session
-    → starting w session ≡ Ok (did, w') → HasOrder w'
+    → with_start w session ≡ Ok (did, w') → HasOrder w'
 HasOrder-starting w w' did None order none is = HasOrder-started w w' did (begun w.held) order none refl is
 HasOrder-starting w w' did (Some course) order some is = absurd (no_answer NotEnabled (did, w') is)
 
@@ -105,7 +101,7 @@ HasOrder-starting w w' did (Some course) order some is = absurd (no_answer NotEn
 HasOrder-subscriptions : (w : WorldState) (subscriptions : List Subscription) → HasOrder w
     → HasOrder (record w { subscriptions = subscriptions })
 HasOrder-subscriptions w subscriptions order =
-    (order.0, IsOrderly-others order.0 w w.arrivals w.answers subscriptions order.1)
+    (order.0, IsOrderly-subscriptions order.0 w subscriptions order.1)
 
 -- a crash keeps it: the session is lost, while all that was sent, taken and held stays
 HasOrder-crashed : (w : WorldState) → HasOrder w → HasOrder (record w { session = None })
@@ -113,76 +109,67 @@ HasOrder-crashed w order =
     (order.0, IsOrderly-session order.0 w None order.1 (λ course there. absurd (none-some course there)))
 
 -- so each step that is done keeps the order
-HasOrder-done : (offers : Offered) (w w' : WorldState) (step : Step) (did : Did) → HasOrder w
-    → next_by offers w step ≡ Ok (did, w') → HasOrder w'
-HasOrder-done offers w w' (Submit batch) did order is =
+HasOrder-done : (w w' : WorldState) (step : Step) (did : Did) → HasOrder w
+    → next w step ≡ Ok (did, w') → HasOrder w'
+HasOrder-done w w' (Submit batch) did order is =
     HasOrder-submitted w w' batch did (submit w.history batch) order refl is
-HasOrder-done offers w w' CloseLedger did order is =
+HasOrder-done w w' CloseLedger did order is =
     subst HasOrder (world_is Done did _ w' is) (HasOrder-closed w order)
-HasOrder-done offers w w' Start did order is = HasOrder-starting w w' did w.session order refl is
-HasOrder-done offers w w' Crash did order is =
-    let course = there_is (where_so offers.crash w.session) is in
+HasOrder-done w w' Start did order is = HasOrder-starting w w' did w.session order refl is
+HasOrder-done w w' Crash did order is =
+    let course = there_is w.session is in
     subst HasOrder (world_is Done did _ w' course.2) (HasOrder-crashed w order)
-HasOrder-done offers w w' PollStep did order is =
+HasOrder-done w w' PollStep did order is =
     let course = there_is w.session is in
     let poll = there_is (wanted course.0) course.2 in
     subst HasOrder (world_is Done did _ w' poll.2)
     (order.0, IsOrderly-polled order.0 w course.0 poll.0 order.1 course.1 poll.1)
-HasOrder-done offers w w' PublishStep did order is =
+HasOrder-done w w' PublishStep did order is =
     let course = there_is w.session is in
     let packet = there_is (next_packet course.0) course.2 in
     subst HasOrder (world_is Done did _ w' packet.2)
     (order.0, IsOrderly-sending order.0 w course.0 packet.0 order.1 course.1 packet.1)
-HasOrder-done offers w w' (Arrive k) did order is =
-    let packet = there_is (where_so (may_come offers w.arrivals k) (numbered w.packets k)) is in
-    let there : numbered w.packets k ≡ Some packet.0 =
-    so_it_is (may_come offers w.arrivals k) (numbered w.packets k) packet.0 packet.1 in
-    let after : WorldState = taking_in w packet.0 (is_taken w.accepted packet.0) in
-    let arrived : IsOrderly order.0 after =
-    IsOrderly-arrived order.0 w order.1 packet.0 (Contains_numbered w.packets k packet.0 there) in
+HasOrder-done w w' (Arrive k) did order is =
+    let packet = there_is (numbered w.packets k) is in
     subst HasOrder (world_is _ did _ w' packet.2)
-    (order.0, IsOrderly-others order.0 after (w.arrivals + 1) after.answers after.subscriptions arrived)
-HasOrder-done offers w w' (Answer k) did order is =
+    (order.0, IsOrderly-arrived order.0 w order.1 packet.0 (Contains_numbered w.packets k packet.0 packet.1))
+HasOrder-done w w' (Answer k) did order is =
     let course = there_is w.session is in
-    let confirm = there_is (where_so (may_come offers w.answers k) (numbered w.confirms k)) course.2 in
-    let there : numbered w.confirms k ≡ Some confirm.0 =
-    so_it_is (may_come offers w.answers k) (numbered w.confirms k) confirm.0 confirm.1 in
-    let after : WorldState =
-    record w { session = Some (confirmed course.0 confirm.0.session confirm.0.answer) } in
-    let answered : IsOrderly order.0 after =
-    IsOrderly-confirmed order.0 w course.0 confirm.0 order.1 course.1
-    (Contains_numbered w.confirms k confirm.0 there) in
-    subst HasOrder (world_is _ did _ w' confirm.2)
-    (order.0, IsOrderly-others order.0 after after.arrivals (w.answers + 1) after.subscriptions answered)
-HasOrder-done offers w w' Save did order is =
+    let confirm = there_is (numbered w.confirms k) course.2 in
+    subst HasOrder (world_is _ did _ w' confirm.2) (
+      order.0,
+      IsOrderly-confirmed order.0 w course.0 confirm.0 order.1 course.1
+          (Contains_numbered w.confirms k confirm.0 confirm.1),
+    )
+HasOrder-done w w' Save did order is =
     let course = there_is w.session is in
     subst HasOrder (world_is Done did _ w' course.2) (order.0, IsOrderly-saved order.0 w course.0 order.1 course.1)
-HasOrder-done offers w w' (Send i) did order is =
+HasOrder-done w w' (Send i) did order is =
     let s = there_is (numbered w.subscriptions i) is in
     let delivery = there_is (next_delivery w s.0) s.2 in
     subst HasOrder (world_is _ did _ w' delivery.2) (HasOrder-subscriptions w _ order)
-HasOrder-done offers w w' (Rewind i) did order is =
-    let s = there_is (where_so offers.rewind (numbered w.subscriptions i)) is in
+HasOrder-done w w' (Rewind i) did order is =
+    let s = there_is (numbered w.subscriptions i) is in
     subst HasOrder (world_is _ did _ w' s.2) (HasOrder-subscriptions w _ order)
-HasOrder-done offers w w' (Break i) did order is =
-    let s = there_is (where_so offers.break_off (numbered w.subscriptions i)) is in
+HasOrder-done w w' (Break i) did order is =
+    let s = there_is (numbered w.subscriptions i) is in
     subst HasOrder (world_is _ did _ w' s.2) (HasOrder-subscriptions w _ order)
-HasOrder-done offers w w' (Take i) did order is =
+HasOrder-done w w' (Take i) did order is =
     let s = there_is (numbered w.subscriptions i) is in
     let first = there_is (first_flight s.0.flight) s.2 in
     subst HasOrder (world_is _ did _ w' first.2) (HasOrder-subscriptions w _ order)
-HasOrder-done offers w w' (Ack i k) did order is =
-    let s = there_is (where_so offers.ack (numbered w.subscriptions i)) is in
+HasOrder-done w w' (Ack i k) did order is =
+    let s = there_is (numbered w.subscriptions i) is in
     let position = there_is (numbered s.0.acks k) s.2 in
     subst HasOrder (world_is _ did _ w' position.2) (HasOrder-subscriptions w _ order)
-HasOrder-done offers w w' (Close i) did order is =
-    let s = there_is (where_so offers.close (numbered w.subscriptions i)) is in
+HasOrder-done w w' (Close i) did order is =
+    let s = there_is (numbered w.subscriptions i) is in
     subst HasOrder (world_is _ did _ w' s.2) (HasOrder-subscriptions w _ order)
 
 -- ---- a store that fails
 
 -- a start that is tried comes where the connector is down
-tried_down : (w : WorldState) (session : Option Course) → IsTried (starting w session) → session ≡ None
+tried_down : (w : WorldState) (session : Option Course) → IsTried (with_start w session) → session ≡ None
 tried_down w None tried = refl
 tried_down w (Some course) tried = absurd tried
 
@@ -193,61 +180,61 @@ saved_of None saved is = absurd (none-some saved is)
 saved_of (Some course) saved is = (course, refl, same_Some (progress_of course) saved is)
 
 -- the record was written all the same
-HasOrder-written : (offers : Offered) (w : WorldState) (step : Step) (saved : Saved) → HasOrder w
-    → IsTried (next_by offers w step) → saves w step ≡ Some saved → HasOrder (record w { held = Some saved })
-HasOrder-written offers w Start saved order tried is =
+HasOrder-written : (w : WorldState) (step : Step) (saved : Saved) → HasOrder w
+    → IsTried (next w step) → saves w step ≡ Some saved → HasOrder (record w { held = Some saved })
+HasOrder-written w Start saved order tried is =
     (_, IsOrderly-begun order.0 w saved order.1 (tried_down w w.session tried) is)
-HasOrder-written offers w Save saved order tried is =
+HasOrder-written w Save saved order tried is =
     let of = saved_of w.session saved is in
     subst (λ (s : Saved). HasOrder (record w { held = Some s })) of.2
     (order.0, IsOrderly-saved order.0 w of.0 order.1 of.1)
-HasOrder-written offers w (Submit batch) saved order tried is = absurd (none-some saved is)
-HasOrder-written offers w CloseLedger saved order tried is = absurd (none-some saved is)
-HasOrder-written offers w Crash saved order tried is = absurd (none-some saved is)
-HasOrder-written offers w PollStep saved order tried is = absurd (none-some saved is)
-HasOrder-written offers w PublishStep saved order tried is = absurd (none-some saved is)
-HasOrder-written offers w (Arrive k) saved order tried is = absurd (none-some saved is)
-HasOrder-written offers w (Answer k) saved order tried is = absurd (none-some saved is)
-HasOrder-written offers w (Send i) saved order tried is = absurd (none-some saved is)
-HasOrder-written offers w (Rewind i) saved order tried is = absurd (none-some saved is)
-HasOrder-written offers w (Break i) saved order tried is = absurd (none-some saved is)
-HasOrder-written offers w (Take i) saved order tried is = absurd (none-some saved is)
-HasOrder-written offers w (Ack i k) saved order tried is = absurd (none-some saved is)
-HasOrder-written offers w (Close i) saved order tried is = absurd (none-some saved is)
+HasOrder-written w (Submit batch) saved order tried is = absurd (none-some saved is)
+HasOrder-written w CloseLedger saved order tried is = absurd (none-some saved is)
+HasOrder-written w Crash saved order tried is = absurd (none-some saved is)
+HasOrder-written w PollStep saved order tried is = absurd (none-some saved is)
+HasOrder-written w PublishStep saved order tried is = absurd (none-some saved is)
+HasOrder-written w (Arrive k) saved order tried is = absurd (none-some saved is)
+HasOrder-written w (Answer k) saved order tried is = absurd (none-some saved is)
+HasOrder-written w (Send i) saved order tried is = absurd (none-some saved is)
+HasOrder-written w (Rewind i) saved order tried is = absurd (none-some saved is)
+HasOrder-written w (Break i) saved order tried is = absurd (none-some saved is)
+HasOrder-written w (Take i) saved order tried is = absurd (none-some saved is)
+HasOrder-written w (Ack i k) saved order tried is = absurd (none-some saved is)
+HasOrder-written w (Close i) saved order tried is = absurd (none-some saved is)
 
 -- a step that leaves the world as it was keeps it, as each refused one does but for a failed store
 HasOrder-same : (w w' : WorldState) → HasOrder w → w' ≡ w → HasOrder w'
 HasOrder-same w w' order same = subst HasOrder (sym same) order
 
 -- a failed store keeps it too, whether or not it has the new record in the end
-HasOrder-failed : (offers : Offered) (w w' : WorldState) (step : Step) (why : StoreError) → HasOrder w
-    → IsTried (next_by offers w step) → AfterFailure w step why w' → HasOrder w'
-HasOrder-failed offers w w' step store.ReadFault order tried after = HasOrder-same w w' order after.1
-HasOrder-failed offers w w' step store.WriteFault order tried (saved, is, inl same) = HasOrder-same w w' order same
-HasOrder-failed offers w w' step store.WriteFault order tried (saved, is, inr after) =
-    subst HasOrder (sym after) (HasOrder-written offers w step saved order tried is)
-HasOrder-failed offers w w' step store.BadRecord order tried after = absurd after
-HasOrder-failed offers w w' step store.OutOfMemory order tried after = absurd after
+HasOrder-failed : (w w' : WorldState) (step : Step) (why : StoreError) → HasOrder w
+    → IsTried (next w step) → AfterFailure w step why w' → HasOrder w'
+HasOrder-failed w w' step store.ReadFault order tried after = HasOrder-same w w' order after.1
+HasOrder-failed w w' step store.WriteFault order tried (saved, is, inl same) = HasOrder-same w w' order same
+HasOrder-failed w w' step store.WriteFault order tried (saved, is, inr after) =
+    subst HasOrder (sym after) (HasOrder-written w step saved order tried is)
+HasOrder-failed w w' step store.BadRecord order tried after = absurd after
+HasOrder-failed w w' step store.OutOfMemory order tried after = absurd after
 
 -- ---- all steps
 
--- any step of those that were ever offered, whatever the answer
-pub HasOrder-next : (offers : Offered) (w w' : WorldState) (step : Step) (answer : Result Did StepError) → HasOrder w
-    → NextBy offers w step answer w' → HasOrder w'
-HasOrder-next offers w w' step (Ok did) order next = HasOrder-done offers w w' step did order next
-HasOrder-next offers w w' step (Err NotEnabled) order next = HasOrder-same w w' order next.1
-HasOrder-next offers w w' step (Err (Refused why)) order next = HasOrder-same w w' order next.1
-HasOrder-next offers w w' step (Err SessionsExhausted) order next = HasOrder-same w w' order next.1
-HasOrder-next offers w w' step (Err OutOfMemory) order next = HasOrder-same w w' order next.1.1
-HasOrder-next offers w w' step (Err (Store why)) order next =
-    HasOrder-failed offers w w' step why order next.1.0 next.1.1
+-- any step, whatever the answer
+pub HasOrder-next : (w w' : WorldState) (step : Step) (answer : Result Did StepError) → HasOrder w
+    → Next w step answer w' → HasOrder w'
+HasOrder-next w w' step (Ok did) order next = HasOrder-done w w' step did order next
+HasOrder-next w w' step (Err NotEnabled) order next = HasOrder-same w w' order next.1
+HasOrder-next w w' step (Err (Refused why)) order next = HasOrder-same w w' order next.1
+HasOrder-next w w' step (Err SessionsExhausted) order next = HasOrder-same w w' order next.1
+HasOrder-next w w' step (Err OutOfMemory) order next = HasOrder-same w w' order next.1.1
+HasOrder-next w w' step (Err (Store why)) order next =
+    HasOrder-failed w w' step why order next.1.0 next.1.1
 
 -- so do steps in a row
-pub HasOrder-leads : (offers : Offered) (w w' : WorldState) (steps : List Step) → HasOrder w
-    → LeadsBy offers w steps w' → HasOrder w'
-HasOrder-leads offers w w' [] order leads = HasOrder-same w w' order leads
-HasOrder-leads offers w w' (step ∷ steps) order (answer, between, next, leads) =
-    HasOrder-leads offers between w' steps (HasOrder-next offers w between step answer order next) leads
+pub HasOrder-leads : (w w' : WorldState) (steps : List Step) → HasOrder w
+    → Leads w steps w' → HasOrder w'
+HasOrder-leads w w' [] order leads = HasOrder-same w w' order leads
+HasOrder-leads w w' (step ∷ steps) order (answer, between, next, leads) =
+    HasOrder-leads between w' steps (HasOrder-next w between step answer order next) leads
 
 -- a store at the start holds no moment past the last timestamp of a new ledger, which is 0
 none_yet : (held : Option Saved) → IsAtStart held → held_timestamp held ≤ 0
@@ -276,17 +263,17 @@ HasOrder-new bindings window held start = (
   },
 )
 
--- every world that steps lead to, with all of them offered or some
-pub HasOrder-reached_by : (offers : Offered) (w : WorldState) → IsReachedBy offers w → HasOrder w
-HasOrder-reached_by offers w reached =
-    HasOrder-leads offers (new_world reached.bindings reached.window reached.held) w reached.steps
+-- every world that steps lead to
+pub HasOrder-reached_by : (w : WorldState) → IsReached w → HasOrder w
+HasOrder-reached_by w reached =
+    HasOrder-leads (new_world reached.bindings reached.window reached.held) w reached.steps
     (HasOrder-new reached.bindings reached.window reached.held reached.at_start) reached.leads
 
 -- what the broker took is a replay of the ledger's line
-pub IsReplay-reached_by : (offers : Offered) (w : WorldState) → IsReachedBy offers w
+pub IsReplay-reached : (w : WorldState) → IsReached w
     → IsReplay (taken_items w) (line w.history)
-IsReplay-reached_by offers w reached = (HasOrder-reached_by offers w reached).1.replay
+IsReplay-reached w reached = (HasOrder-reached_by w reached).1.replay
 
 -- and the ledger's history is sound
-pub IsSound-reached_by : (offers : Offered) (w : WorldState) → IsReachedBy offers w → IsSound w.history
-IsSound-reached_by offers w reached = (HasOrder-reached_by offers w reached).1.sound
+pub IsSound-reached : (w : WorldState) → IsReached w → IsSound w.history
+IsSound-reached w reached = (HasOrder-reached_by w reached).1.sound

@@ -26,14 +26,16 @@ use Rattle.cdc_progress.specs.Records.{Saved}
 use Rattle.cdc_publisher.specs.Courses.{Course, all_sent, begun, confirmed_from, confirmed_timestamp, is_confirmed, is_sent, last_session, may_end, new_course, next_packet, numbers_from, progress_of, publish_packet, tags_sent, takes_confirm, unconfirmed, wanted, with_confirm, with_offer, with_sent}
 use Rattle.cdc_publisher.specs.declared.session.Poll.{Poll}
 use Rattle.cdc_types.specs.declared.events.Event.{Event}
-use Rattle.cdc_world.specs.Connector.{HasTakenUpTo, IsCurrent, IsOfLine, IsOrderly, IsTakenAt, IsTakenBy, KeepsTo, held_number, held_timestamp, line_after, session_of}
-use Rattle.cdc_world.specs.Next.{confirmed, none_follow, polled, sending}
+use Rattle.cdc_laws.specs.Line.{line_after}
+use Rattle.cdc_world.specs.Connector.{HasTakenUpTo, IsCurrent, IsOfLine, IsOrderly, IsTakenAt, IsTakenBy, KeepsTo, held_number, held_timestamp, session_of}
+use Rattle.cdc_world.specs.Next.{after_answer, none_follow, with_packet, with_poll}
 use Rattle.cdc_world.specs.Worlds.{WorldState, numbered, taken_items}
+use Rattle.cdc_laws.proofs.Lines.{events_past, split_events}
+use Rattle.cdc_laws.proofs.Places.{each_has, slice_get-append, slice_get-behind}
+use Rattle.cdc_laws.proofs.Splits.{SplitsAt, SplitsAt-later, SplitsAt-next, events_after-split, front_has}
 use Rattle.cdc_world.proofs.ConnArrives.{front_taken}
 use Rattle.cdc_world.proofs.ConnChanges.{IsOrderly-base, IsOrderly-held, IsOrderly-sent, IsOrderly-session, with_base, with_base-new}
-use Rattle.cdc_world.proofs.ConnLines.{events_past, split_events}
-use Rattle.cdc_world.proofs.ConnPlaces.{each_has, numbered_from, slice_get-append, slice_get-behind}
-use Rattle.cdc_world.proofs.ConnSplits.{SplitsAt, SplitsAt-later, SplitsAt-next, events_after-split, front_has}
+use Rattle.cdc_world.proofs.Places.{numbered_from}
 
 -- ---- what stands under a number of the line after a moment
 
@@ -178,7 +180,7 @@ KeepsTo-offer h taken course poll sound keeps after =
 
 -- so connector and broker stay in order when a session is offered the events that it wants
 pub IsOrderly-polled : (base_of : ℕ → ℕ) (w : WorldState) (course : Course) (poll : Poll) → IsOrderly base_of w
-    → w.session ≡ Some course → wanted course ≡ Some poll → IsOrderly base_of (polled w course poll)
+    → w.session ≡ Some course → wanted course ≡ Some poll → IsOrderly base_of (with_poll w course poll)
 IsOrderly-polled base_of w course poll is there wants =
     let asked =
     cond_some (all_sent course && nat_lt (length (unconfirmed course)) course.window && not course.complete)
@@ -259,7 +261,7 @@ packet_fits base_of number h taken course packet current is =
 
 -- so connector and broker stay in order when a session sends a packet, whenever that may come
 pub IsOrderly-sending : (base_of : ℕ → ℕ) (w : WorldState) (course : Course) (packet : Packet) → IsOrderly base_of w
-    → w.session ≡ Some course → next_packet course ≡ Some packet → IsOrderly base_of (sending w course packet)
+    → w.session ≡ Some course → next_packet course ≡ Some packet → IsOrderly base_of (with_packet w course packet)
 IsOrderly-sending base_of w course packet is there next =
     let current = is.session course there in
     let fit : IsFit w.history base_of course packet =
@@ -325,7 +327,7 @@ record IsNext (h : History) (taken : List Item) (course next : Course) : Type 0 
 IsNext-confirmed : (base_of : ℕ → ℕ) (number : ℕ) (h : History) (taken : List Item) (course : Course) (session : ℕ)
     (answer : Answer)
     → IsCurrent base_of number h taken course → IsTakenBy taken (line_after h (base_of session)) answer
-    → IsNext h taken course (confirmed course session answer)
+    → IsNext h taken course (after_answer course session answer)
 IsNext-confirmed base_of number h taken course session (Confirmed tag) current has =
     with_confirm_cases (IsNext h taken course) session tag course
     (record { number = refl; base = refl; keeps = current.keeps })
@@ -346,12 +348,12 @@ IsNext-confirmed base_of number h taken course session Broken current has =
 -- so connector and broker stay in order when a confirm comes to the session
 pub IsOrderly-confirmed : (base_of : ℕ → ℕ) (w : WorldState) (course : Course) (confirm : Confirm)
     → IsOrderly base_of w → w.session ≡ Some course → Contains w.confirms confirm
-    → IsOrderly base_of (record w { session = Some (confirmed course confirm.session confirm.answer) })
+    → IsOrderly base_of (record w { session = Some (after_answer course confirm.session confirm.answer) })
 IsOrderly-confirmed base_of w course confirm is there among =
-    let next : IsNext w.history (taken_items w) course (confirmed course confirm.session confirm.answer) =
+    let next : IsNext w.history (taken_items w) course (after_answer course confirm.session confirm.answer) =
     IsNext-confirmed base_of (held_number w.held) w.history (taken_items w) course confirm.session confirm.answer
     (is.session course there) (is.confirms confirm among) in
-    IsOrderly-course base_of w course (confirmed course confirm.session confirm.answer) is there next.number next.base
+    IsOrderly-course base_of w course (after_answer course confirm.session confirm.answer) is there next.number next.base
     next.keeps
 
 -- ---- it saves its progress

@@ -1,7 +1,6 @@
 -- What is kept after each step of the connector, and the state that it stands for.
-use Rattle.std.proofs.Common.{◌≡◌, ℕ, ◌+◌, ◌==◌, Bool, true, false, List, [], ◌∷◌, ◌++◌, Option, Some, None, Ok, Err, refl, sym, ap, ap₂, ◌∙◌, subst, take, inl, inr}
-use Rattle.std.specs.Prelude.{◌⊎◌, is_some, option_map, if◌then◌else◌}
-use Rattle.std.specs.List.{slice_get}
+use Rattle.std.proofs.Common.{◌≡◌, ℕ, Bool, true, false, List, [], ◌∷◌, ◌++◌, Option, Some, None, Ok, Err, refl, sym, ap, ap₂, ◌∙◌, subst, take, inl, inr}
+use Rattle.std.specs.Prelude.{◌⊎◌, is_some, option_map}
 use Rattle.cdc_ledger.specs.Events.{events}
 use Rattle.cdc_ledger.specs.History.{History}
 use Rattle.cdc_log.specs.Log.{events_after}
@@ -18,14 +17,18 @@ use Rattle.cdc_publisher.specs.Starts.{HasStarted, MayRefuseStart}
 use Rattle.cdc_publisher.specs.declared.errors.StartError.{StartError}
 use Rattle.cdc_publisher.specs.declared.errors.StartError.TheVariants as start
 use Rattle.cdc_publisher.specs.declared.session.Poll.{Poll}
+use Rattle.cdc_types.specs.declared.steps.Step.{Step}
+use Rattle.cdc_types.specs.declared.steps.Step.TheVariants.{Start, Crash, Poll as PollStep, Publish as PublishStep, Answer, Save}
 use Rattle.cdc_world.specs.declared.steps.Did.TheVariants.{Counted, Done}
-use Rattle.cdc_types.specs.declared.steps.Step.TheVariants.{Start, Poll as PollStep, Publish as PublishStep, Answer, Save}
-use Rattle.cdc_world.specs.Next.{IsTried, ◌>>=◌, answered, confirmed, counts, done, next_by, none_follow, offered, polled, sending, started, starting}
+use Rattle.cdc_world.specs.declared.steps.StepError.TheVariants.{NotEnabled}
+use Rattle.cdc_world.specs.Moves.{Moves}
+use Rattle.cdc_world.specs.Next.{IsTried, Outcome, ◌>>=◌, after_answer, counts, next, none_follow, success, with_answer, with_crash, with_packet, with_poll, with_progress, with_session, with_start}
+use Rattle.cdc_world.specs.Parts.{ActorParts, Parts}
 use Rattle.cdc_world.specs.Refusals.{start_refusal, store_refusal}
-use Rattle.cdc_world.specs.Stands.{Moves, Parts, SessionStands, Stands}
-use Rattle.cdc_world.specs.Turns.{Offers, OffersAt, Sends, SendsAt}
+use Rattle.cdc_world.specs.Stands.{ActorsStand, SessionStands, Stands}
+use Rattle.cdc_world.specs.Turns.{ActorsMove, Offers, OffersAt, Sends, SendsAt}
 use Rattle.cdc_world.specs.Worlds.{WorldState, numbered}
-use Rattle.cdc_world.proofs.Places.{numbered_next}
+use Rattle.cdc_world.proofs.Stepping.{tried, unable}
 
 -- the course of a session that is there
 pub record IsCourse (kept : Kept) (session : Option Course) : Type 0 where
@@ -39,18 +42,20 @@ course_found kept None stands = absurd stands
 course_found kept (Some course) stands = record { course = course; is = refl; stands = stands }
 
 -- so a step finds the course that the kept session stands for
-course_of : (p : Parts) (w : WorldState) (kept : Kept) → Stands p w → p.session ≡ Some kept → IsCourse kept w.session
-course_of p w kept st is =
-    course_found kept w.session (subst (λ (s : Option Kept). SessionStands s w.session) is st.session)
+course_of : (a : ActorParts) (w : WorldState) (kept : Kept) → ActorsStand a w → a.session ≡ Some kept
+    → IsCourse kept w.session
+course_of a w kept st is =
+    course_found kept w.session (subst (λ (s : Option Kept). SessionStands s w.session) is st.connector.session)
 
 -- no session, no course
 no_course_found : (session : Option Course) → SessionStands None session → session ≡ None
 no_course_found None stands = refl
 no_course_found (Some course) stands = absurd stands
 
--- so a start finds that the connector is down where no session is kept
-no_course : (p : Parts) (w : WorldState) → Stands p w → p.session ≡ None → w.session ≡ None
-no_course p w st is = no_course_found w.session (subst (λ (s : Option Kept). SessionStands s w.session) is st.session)
+-- so a step finds that the connector is down where no session is kept
+no_course : (a : ActorParts) (w : WorldState) → ActorsStand a w → a.session ≡ None → w.session ≡ None
+no_course a w st is =
+    no_course_found w.session (subst (λ (s : Option Kept). SessionStands s w.session) is st.connector.session)
 
 -- nothing that isn't something
 pub none_of : {A : Type 0} (o : Option A) → is_some o ≡ false → o ≡ None
@@ -66,34 +71,37 @@ offered_found h kept kept' course None offers = cc (offers.0)
 offered_found h kept kept' course (Some poll) offers = (poll, (refl, offers))
 
 -- the session is offered events
-pub poll_done : (p : Parts) (kept kept' : Kept) → p.session ≡ Some kept → Offers p.history kept (Ok tt) kept'
-    → Moves p PollStep (Ok Done) (record p { session = Some kept' })
-poll_done p kept kept' is offers honest w st =
-    let at = course_of p w kept st is in
-    let found = offered_found p.history kept kept' at.course (wanted at.course) (offers at.course at.stands) in
-    let poll = found.0 in (
-      polled w at.course poll,
-      (
-        record {
-          history = st.history;
-          held = st.held;
-          window = st.window;
-          session = subst (λ (h : History). StandsFor kept' (with_offer (take poll.limit (events_after poll.after
-              (events h)))
-              (none_follow h poll) at.course)) st.history found.1.1;
-          packets = st.packets;
-          confirms = st.confirms;
-          connection = st.connection;
-          expected = st.expected;
-          queues = st.queues;
-          arrivals = st.arrivals;
-          answers = st.answers;
-          seats = st.seats;
-        },
-        ap (λ (s : Option Course). s >>= (λ course. wanted course >>= (λ poll. done (polled w course poll)))) at.is
-            ∙ ap (λ (f : Option Poll). f >>= (λ poll. done (polled w at.course poll))) found.1.0,
+pub poll_done : (a : ActorParts) (kept kept' : Kept) → a.session ≡ Some kept → Offers a.history kept (Ok tt) kept'
+    → ActorsMove a PollStep (Ok Done) (record a { session = Some kept' })
+poll_done a kept kept' is offers = (
+  tt,
+  λ w st.
+      let at = course_of a w kept st is in
+      let found = offered_found a.history kept kept' at.course (wanted at.course) (offers at.course at.stands) in
+      let poll = found.0 in (
+        with_poll w at.course poll,
+        (
+          record {
+            history = st.history;
+            connector = record {
+              window = st.connector.window;
+              session = subst (λ (h : History). StandsFor kept' (with_offer (take poll.limit (events_after poll.after
+                  (events h)))
+                  (none_follow h poll) at.course)) st.history found.1.1;
+              packets = st.connector.packets;
+            };
+            broker = st.broker;
+            subscribers = st.subscribers;
+          },
+          (
+            ap (λ (s : Option Course). s >>= (λ course. wanted course >>= (λ poll. success
+                (with_poll w course poll)))) at.is
+                ∙ ap (λ (f : Option Poll). f >>= (λ poll. success (with_poll w at.course poll))) found.1.0,
+            refl,
+          ),
+        ),
       ),
-    )
+)
 
 -- the packet that a session sent
 sent_found : (kept kept' : Kept) (packets packets' : List Packet) (course : Course) (found : Option Packet)
@@ -104,109 +112,153 @@ sent_found kept kept' packets packets' course None sends = cc (sends.0)
 sent_found kept kept' packets packets' course (Some packet) sends = (packet, (refl, sends))
 
 -- the session sends a packet
-pub publish_done : (p : Parts) (kept kept' : Kept) (packets' : List Packet) → p.session ≡ Some kept
-    → Sends kept p.packets (Ok tt) kept' packets'
-    → Moves p PublishStep (Ok Done) (record p { session = Some kept'; packets = packets' })
-publish_done p kept kept' packets' is sends honest w st =
-    let at = course_of p w kept st is in
-    let found = sent_found kept kept' p.packets packets' at.course (next_packet at.course)
-    (sends at.course at.stands) in
-    let packet = found.0 in (
-      sending w at.course packet,
-      (
-        record {
-          history = st.history;
-          held = st.held;
-          window = st.window;
-          session = found.1.1.0;
-          packets = found.1.1.1 ∙ ap (λ (ps : List Packet). ps ++ packet ∷ []) st.packets;
-          confirms = st.confirms;
-          connection = st.connection;
-          expected = st.expected;
-          queues = st.queues;
-          arrivals = st.arrivals;
-          answers = st.answers;
-          seats = st.seats;
-        },
-        ap (λ (s : Option Course). s >>= (λ course. next_packet course >>= (λ packet. done
-            (sending w course packet)))) at.is
-            ∙ ap (λ (f : Option Packet). f >>= (λ packet. done (sending w at.course packet))) found.1.0,
+pub publish_done : (a : ActorParts) (kept kept' : Kept) (packets' : List Packet) → a.session ≡ Some kept
+    → Sends kept a.packets (Ok tt) kept' packets'
+    → ActorsMove a PublishStep (Ok Done) (record a { session = Some kept'; packets = packets' })
+publish_done a kept kept' packets' is sends = (
+  tt,
+  λ w st.
+      let at = course_of a w kept st is in
+      let found = sent_found kept kept' a.packets packets' at.course (next_packet at.course)
+      (sends at.course at.stands) in
+      let packet = found.0 in (
+        with_packet w at.course packet,
+        (
+          record {
+            history = st.history;
+            connector = record {
+              window = st.connector.window;
+              session = found.1.1.0;
+              packets = found.1.1.1 ∙ ap (λ (ps : List Packet). ps ++ packet ∷ []) st.connector.packets;
+            };
+            broker = st.broker;
+            subscribers = st.subscribers;
+          },
+          (
+            ap (λ (s : Option Course). s >>= (λ course. next_packet course >>= (λ packet. success
+                (with_packet w course packet)))) at.is
+                ∙ ap (λ (f : Option Packet). f >>= (λ packet. success (with_packet w at.course packet))) found.1.0,
+            refl,
+          ),
+        ),
       ),
-    )
+)
 
--- a confirm comes to the session
-pub answer_done : (p : Parts) (kept kept' : Kept) (k : ℕ) (confirm : Confirm) (counted : Bool) → p.session ≡ Some kept
-    → slice_get p.confirms p.answers ≡ Some confirm → (k == p.answers + 1) ≡ true
-    → ((course : Course) → StandsFor kept course → counted ≡ counts course confirm.session confirm.answer)
-    → ((course : Course) → StandsFor kept course → StandsFor kept' (confirmed course confirm.session confirm.answer))
-    → Moves p (Answer k) (Ok (Counted counted)) (record p { session = Some kept'; answers = p.answers + 1 })
-answer_done p kept kept' k confirm counted is here next answer stands honest w st =
-    let at = course_of p w kept st is in
-    let comes : (k == w.answers + 1) ≡ true = subst (λ (n : ℕ). (k == n + 1) ≡ true) st.answers next in
-    let there : numbered w.confirms k ≡ Some confirm =
-    numbered_next w.confirms w.answers k comes
-    ∙ (ap₂ (λ (cs : List Confirm) (n : ℕ). slice_get cs n) (sym st.confirms) (sym st.answers) ∙ here) in (
-      record w { session = Some (confirmed at.course confirm.session confirm.answer); answers = w.answers + 1 },
-      (
-        record {
-          history = st.history;
-          held = st.held;
-          window = st.window;
-          session = stands at.course at.stands;
-          packets = st.packets;
-          confirms = st.confirms;
-          connection = st.connection;
-          expected = st.expected;
-          queues = st.queues;
-          arrivals = st.arrivals;
-          answers = ap (λ (n : ℕ). n + 1) st.answers;
-          seats = st.seats;
-        },
-        ap (λ (s : Option Course). s >>= (λ course.
-            (if k == w.answers + 1 then numbered w.confirms k else None) >>= answered w course)) at.is
-            ∙ (ap₂ (λ (b : Bool) (f : Option Confirm). (if b then f else None) >>= answered w at.course) comes there
-            ∙ ap (λ (b : Bool). Ok (
-              Counted b,
-              record w {
-                session = Some (confirmed at.course confirm.session confirm.answer);
-                answers = w.answers + 1;
-              },
-            )) (sym (answer at.course at.stands))),
+-- something, where there is something
+some_of : {A : Type 0} (o : Option A) → is_some o ≡ true → (x : A) × (o ≡ Some x)
+some_of None is = cc
+some_of (Some x) is = (x, refl)
+
+-- the session is lost
+pub crash_done : (a : ActorParts) → is_some a.session ≡ true
+    → ActorsMove a Crash (Ok Done) (record a { session = None })
+crash_done a up = (
+  tt,
+  λ w st.
+      let kept = some_of a.session up in
+      let at = course_of a w kept.0 st kept.1 in (
+        with_crash w,
+        (
+          record {
+            history = st.history;
+            connector =
+                record { window = st.connector.window; session = tt; packets = st.connector.packets };
+            broker = st.broker;
+            subscribers = st.subscribers;
+          },
+          (ap (λ (s : Option Course). s >>= (λ course. success (with_crash w))) at.is, refl),
+        ),
       ),
-    )
+)
+
+-- a confirm that is there comes to the session
+answers_next : (a : ActorParts) (w : WorldState) (k : ℕ) (course : Course) (found : Option Confirm) → ActorsStand a w
+    → w.session ≡ Some course → numbered a.confirms k ≡ found
+    → next w (Answer k) ≡ (found >>= with_answer w course)
+answers_next a w k course found st is there =
+    ap (λ (s : Option Course). s >>= (λ course. numbered w.confirms k >>= with_answer w course)) is
+    ∙ ap (λ (f : Option Confirm). f >>= with_answer w course)
+    (ap (λ b. numbered b.confirms k) (sym st.broker) ∙ there)
+
+-- whether it counts, the session says
+pub answer_done : (a : ActorParts) (kept kept' : Kept) (k : ℕ) (confirm : Confirm) (counted : Bool)
+    → a.session ≡ Some kept → numbered a.confirms k ≡ Some confirm
+    → ((course : Course) → StandsFor kept course → counted ≡ counts course confirm.session confirm.answer)
+    → ((course : Course) → StandsFor kept course → StandsFor kept' (after_answer course confirm.session confirm.answer))
+    → ActorsMove a (Answer k) (Ok (Counted counted)) (record a { session = Some kept' })
+answer_done a kept kept' k confirm counted is there answer stands = (
+  tt,
+  λ w st.
+      let at = course_of a w kept st is in
+      let after : WorldState =
+      record w { session = Some (after_answer at.course confirm.session confirm.answer) } in (
+        after,
+        (
+          record {
+            history = st.history;
+            connector = record {
+              window = st.connector.window;
+              session = stands at.course at.stands;
+              packets = st.connector.packets;
+            };
+            broker = st.broker;
+            subscribers = st.subscribers;
+          },
+          (
+            answers_next a w k at.course (Some confirm) st at.is there
+                ∙ ap (λ (b : Bool). Ok (Counted b, after)) (sym (answer at.course at.stands)),
+            refl,
+          ),
+        ),
+      ),
+)
+
+-- there is no confirm of this number
+pub answer_none : (a : ActorParts) (kept : Kept) (k : ℕ) → a.session ≡ Some kept → numbered a.confirms k ≡ None
+    → ActorsMove a (Answer k) (Err NotEnabled) a
+answer_none a kept k is none =
+    unable a (Answer k)
+    (λ w st. let at = course_of a w kept st is in answers_next a w k at.course None st at.is none)
+
+-- a step of a session isn't enabled where the connector is down
+pub down : (a : ActorParts) (step : Step) (rest : WorldState → Course → Outcome)
+    → ((w : WorldState) → next w step ≡ (w.session >>= rest w)) → a.session ≡ None
+    → ActorsMove a step (Err NotEnabled) a
+down a step rest is none =
+    unable a step (λ w st. is w ∙ ap (λ (s : Option Course). s >>= rest w) (no_course a w st none))
+
+-- ---- with the store
+
+-- what is kept of the actors doesn't hang on what the store holds
+actors_held : (a : ActorParts) (w : WorldState) (held : Option Saved) → ActorsStand a w
+    → ActorsStand a (record w { held = held })
+actors_held a w held st =
+    record { history = st.history; connector = st.connector; broker = st.broker; subscribers = st.subscribers }
 
 -- what is kept where the store holds something else
 with_held : (p : Parts) (w : WorldState) (held : Option Saved) (honest : Bool) (failed' : ℕ) (held' : Option Saved)
     → Stands p w → held ≡ held'
     → Stands (record p { held = held; honest = honest; failed = failed' }) (record w { held = held' })
-with_held p w held honest failed' held' st same = record {
-  history = st.history;
-  held = same;
-  window = st.window;
-  session = st.session;
-  packets = st.packets;
-  confirms = st.confirms;
-  connection = st.connection;
-  expected = st.expected;
-  queues = st.queues;
-  arrivals = st.arrivals;
-  answers = st.answers;
-  seats = st.seats;
-}
+with_held p w held honest failed' held' st same =
+    record { actors = actors_held p.actors w held' st.actors; held = same }
+
+-- so a store that failed once more, or didn't, changes nothing of it
+pub Stands-counted : (p : Parts) (w : WorldState) (failed' : ℕ) → Stands p w → Stands (record p { failed = failed' }) w
+Stands-counted p w failed' st = record { actors = st.actors; held = st.held }
 
 -- a save is done where there is a session, and its progress is held then
 saves_next : (w : WorldState) (course : Course) → w.session ≡ Some course
-    → next_by offered w Save ≡ done (record w { held = Some (progress_of course) })
-saves_next w course is =
-    ap (λ (s : Option Course). s >>= (λ course. done (record w { held = Some (progress_of course) }))) is
+    → next w Save ≡ success (with_progress w course)
+saves_next w course is = ap (λ (s : Option Course). s >>= (λ course. success (with_progress w course))) is
 
 -- the session saves
-pub save_done : (p : Parts) (kept : Kept) (held : Option Saved) (honest : Bool) (failed' : ℕ) → p.session ≡ Some kept
+pub save_done : (p : Parts) (kept : Kept) (held : Option Saved) (honest : Bool) (failed' : ℕ)
+    → p.actors.session ≡ Some kept
     → ((course : Course) → StandsFor kept course → held ≡ Some (progress_of course))
     → Moves p Save (Ok Done) (record p { held = held; honest = honest; failed = failed' })
 save_done p kept held honest' failed' is saved honest w st =
-    let at = course_of p w kept st is in (
-      record w { held = Some (progress_of at.course) },
+    let at = course_of p.actors w kept st.actors is in (
+      with_progress w at.course,
       (
         with_held p w held honest' failed' (Some (progress_of at.course)) st (saved at.course at.stands),
         saves_next w at.course at.is,
@@ -214,19 +266,19 @@ save_done p kept held honest' failed' is saved honest w st =
     )
 
 -- where a session runs, nothing but the store or memory can keep it from saving its progress
-save_tried : (w : WorldState) (course : Course) → w.session ≡ Some course → IsTried (next_by offered w Save)
+save_tried : (w : WorldState) (course : Course) → w.session ≡ Some course → IsTried (next w Save)
 save_tried w course is = subst IsTried (sym (saves_next w course is)) tt
 
 -- a save that fails
 pub save_failed : (p : Parts) (kept : Kept) (held : Option Saved) (honest : Bool) (why : StoreError)
-    (failed failed' : ℕ) → p.session ≡ Some kept
+    (failed failed' : ℕ) → p.actors.session ≡ Some kept
     → ((course : Course) → StandsFor kept course → (held ≡ p.held) ⊎ (held ≡ Some (progress_of course)))
     → (why ≡ store.OutOfMemory → held ≡ p.held) → MayRefuseSave failed failed' why
     → Moves p Save (Err (store_refusal why)) (record p { held = held; honest = honest; failed = failed' })
 save_failed p kept held honest' store.ReadFault failed failed' is either lacking may honest w st = absurd may
 save_failed p kept held honest' store.BadRecord failed failed' is either lacking may honest w st = absurd may
 save_failed p kept held honest' store.OutOfMemory failed failed' is either lacking may honest w st =
-    let at = course_of p w kept st is in (
+    let at = course_of p.actors w kept st.actors is in (
       w,
       (
         with_held p w held honest' failed' w.held st (lacking refl ∙ st.held),
@@ -234,7 +286,7 @@ save_failed p kept held honest' store.OutOfMemory failed failed' is either lacki
       ),
     )
 save_failed p kept held honest' store.WriteFault failed failed' is either lacking may honest w st =
-    let at = course_of p w kept st is in
+    let at = course_of p.actors w kept st.actors is in
     elim (either at.course at.stands) [
       | inl same ↦ (
         w,
@@ -266,55 +318,59 @@ save_failed p kept held honest' store.WriteFault failed failed' is either lackin
 
 -- a session starts, where there is a number for it
 starts_next : (w : WorldState) (saved : Option Saved) → w.session ≡ None → begun w.held ≡ saved
-    → next_by offered w Start ≡ started w saved
-starts_next w saved down begins = ap (starting w) down ∙ ap (started w) begins
+    → next w Start ≡ with_session w saved
+starts_next w saved down begins = ap (with_start w) down ∙ ap (with_session w) begins
 
 -- a session that is about to start is refused only where there is no further number for it
-started_tried : (w : WorldState) (saved : Option Saved) → IsTried (started w saved)
+started_tried : (w : WorldState) (saved : Option Saved) → IsTried (with_session w saved)
 started_tried w None = tt
 started_tried w (Some saved) = tt
 
 -- so where the connector is down a start may fail for the store's sake or for want of memory
-start_tried : (w : WorldState) → w.session ≡ None → IsTried (next_by offered w Start)
+start_tried : (w : WorldState) → w.session ≡ None → IsTried (next w Start)
 start_tried w down =
     subst IsTried (sym (starts_next w (begun w.held) down refl)) (started_tried w (begun w.held))
 
 -- a session starts over an honest store: it stands for a new course under the record that is now held
-pub start_done : (p : Parts) (kept : Kept) (held : Option Saved) (honest : Bool) (failed' : ℕ) → p.session ≡ None
+pub start_done : (p : Parts) (actors' : ActorParts) (kept : Kept) (held : Option Saved) (honest : Bool)
+    (failed' window : ℕ) → p.actors.session ≡ None → actors' ≡ record p.actors { session = Some kept }
+    → window ≡ p.actors.window
     → HasStarted (record {
           honest = p.honest;
           before = p.held;
           after = held;
           failed_before = p.failed;
           failed_after = failed';
-        }) p.window kept
-    → Moves p Start (Ok Done) (record p { held = held; honest = honest; failed = failed'; session = Some kept })
-start_done p kept held honest' failed' down has honest w st =
+        }) window kept
+    → Moves p Start (Ok Done) (record { actors = actors'; held = held; honest = honest; failed = failed' })
+start_done p actors' kept held honest' failed' window down new waits has honest w st =
     let begins : begun w.held ≡ Some has.saved = ap begun (sym st.held) ∙ ap begun (sym (has.given (honest refl)))
-    ∙ has.begins in (
-      record w { held = Some has.saved; session = Some (new_course has.saved w.window) },
+    ∙ has.begins in
+    let after : WorldState = record w { held = Some has.saved; session = Some (new_course has.saved w.window) } in (
+      after,
       (
         record {
-          history = st.history;
+          actors = subst (λ (a : ActorParts). ActorsStand a after) (sym new)
+              (record {
+                history = st.actors.history;
+                connector = record {
+                  window = st.actors.connector.window;
+                  session = subst (λ (n : ℕ). StandsFor kept (new_course has.saved n))
+                      (waits ∙ st.actors.connector.window) has.stands;
+                  packets = st.actors.connector.packets;
+                };
+                broker = st.actors.broker;
+                subscribers = st.actors.subscribers;
+              });
           held = has.held;
-          window = st.window;
-          session = subst (λ (n : ℕ). StandsFor kept (new_course has.saved n)) st.window has.stands;
-          packets = st.packets;
-          confirms = st.confirms;
-          connection = st.connection;
-          expected = st.expected;
-          queues = st.queues;
-          arrivals = st.arrivals;
-          answers = st.answers;
-          seats = st.seats;
         },
-        starts_next w (Some has.saved) (no_course p w st down) begins,
+        starts_next w (Some has.saved) (no_course p.actors w st.actors down) begins,
       ),
     )
 
 -- a session doesn't start
 pub start_failed : (p : Parts) (held : Option Saved) (honest : Bool) (why : StartError) (failed failed' : ℕ)
-    → p.session ≡ None
+    → p.actors.session ≡ None
     → MayRefuseStart (record {
           honest = p.honest;
           before = p.held;
@@ -327,7 +383,7 @@ start_failed p held honest' (start.Store store.ReadFault) failed failed' down ma
   w,
   (
     with_held p w held honest' failed' w.held st (may.0 ∙ st.held),
-    (refl, (start_tried w (no_course p w st down), (refl, refl))),
+    (refl, (start_tried w (no_course p.actors w st.actors down), (refl, refl))),
   ),
 )
 start_failed p held honest' (start.Store store.BadRecord) failed failed' down may honest w st =
@@ -337,7 +393,7 @@ start_failed p held honest' (start.Store store.WriteFault) failed failed' down m
     let half = may.0 in
     let begins : begun w.held ≡ Some half.saved = ap begun (sym st.held) ∙ ap begun (sym (half.given (honest refl)))
     ∙ half.begins in
-    let tried = start_tried w (no_course p w st down) in
+    let tried = start_tried w (no_course p.actors w st.actors down) in
     elim half.held [
       | inl same ↦ (
         w,
@@ -359,13 +415,13 @@ start_failed p held honest' start.SessionsExhausted failed failed' down may hone
       w,
       (
         with_held p w held honest' failed' w.held st same,
-        (starts_next w None (no_course p w st down) (ap begun (sym same) ∙ may.1.0), refl),
+        (starts_next w None (no_course p.actors w st.actors down) (ap begun (sym same) ∙ may.1.0), refl),
       ),
     )
 start_failed p held honest' start.OutOfMemory failed failed' down may honest w st = (
   w,
   (
     with_held p w held honest' failed' w.held st (may.1 (honest refl) ∙ st.held),
-    (refl, (start_tried w (no_course p w st down), refl)),
+    (refl, (start_tried w (no_course p.actors w st.actors down), refl)),
   ),
 )

@@ -14,8 +14,7 @@ use Rattle.cdc_types.specs.declared.steps.Step.{Step}
 use Rattle.cdc_types.specs.declared.steps.Step.TheVariants.{Submit, CloseLedger, Start, Crash, Poll, Publish, Arrive, Answer, Save, Send, Rewind, Break, Take, Ack, Close}
 use Rattle.cdc_world.specs.declared.steps.StepError.{StepError}
 use Rattle.cdc_world.specs.declared.steps.StepError.TheVariants.{NotEnabled, Refused, SessionsExhausted}
-use Rattle.cdc_world.specs.Next.{offered, all_offered}
-use Rattle.cdc_world.specs.Runs.{Run, plays}
+use Rattle.cdc_world.specs.Runs.{Run, run_of}
 use Rattle.cdc_world.specs.Worlds.{WorldState, new_world}
 
 -- one subscriber, of every event, and a session that waits for one event at a time
@@ -83,7 +82,7 @@ empty_and_closed =
     CloseLedger ∷ Start ∷ Publish ∷ Arrive 1 ∷ told 2 1 ++ Send 1 ∷ Take 1 ∷ []
 
 -- the subscriber has ended with an empty book, and the first session is held with moment 0
-tells_end : shown (plays offered start empty_and_closed) ≡ (
+tells_end : shown (run_of start empty_and_closed) ≡ (
   (10, None),
   Some (record { session = 1; timestamp = 0 }),
   record { book = []; last = 0; applied = 0; ended = true; closed = false } ∷ [],
@@ -91,7 +90,7 @@ tells_end : shown (plays offered start empty_and_closed) ≡ (
 tells_end = refl
 
 -- an empty ledger that is open has nothing to tell, not even its end
-tells_no_end : shown (plays offered start (Start ∷ Publish ∷ Arrive 1 ∷ sent)) ≡ (
+tells_no_end : shown (run_of start (Start ∷ Publish ∷ Arrive 1 ∷ sent)) ≡ (
   (4, Some NotEnabled),
   Some (record { session = 1; timestamp = 0 }),
   record { book = []; last = 0; applied = 0; ended = false; closed = false } ∷ [],
@@ -109,7 +108,7 @@ whole_way =
     ++ Send 1 ∷ Send 1 ∷ Send 1 ∷ Take 1 ∷ Take 1 ∷ Take 1 ∷ []
 
 -- the book shows both amounts, the subscriber has ended, and the second event's moment is held
-tells_all : shown (plays offered start whole_way) ≡ (
+tells_all : shown (run_of start whole_way) ≡ (
   (25, None),
   Some (record { session = 1; timestamp = 2001 }),
   record { book = moved 12; last = 2001; applied = 2; ended = true; closed = false } ∷ [],
@@ -117,25 +116,25 @@ tells_all : shown (plays offered start whole_way) ≡ (
 tells_all = refl
 
 -- why a step isn't done: a closed ledger refuses a batch; a session runs already, or there is no further number for
--- one; a packet comes that isn't the next one, or has come; there is no packet, confirm or subscriber of that number;
--- nothing is on its way; or the step is a fault
+-- one; there is no packet, confirm, subscriber or acknowledgement of that number; nothing is on its way; or a step of the
+-- connector comes while it is down
 abbrev refused : WorldState → List Step → ℕ × Option StepError
-refused w steps = (plays offered w steps).0
+refused w steps = (run_of w steps).0
 
 -- each with the number of steps that were done before it
 refuses : (refused start (CloseLedger ∷ Submit (batch.Pulse 5) ∷ []) ≡ (1, Some (Refused LedgerClosed)))
     × (refused start (Start ∷ Start ∷ []) ≡ (1, Some NotEnabled))
     × (refused (record start { held = Some (record { session = 18446744073709551615; timestamp = 7 }) }) (Start ∷ [])
     ≡ (0, Some SessionsExhausted))
-    × (refused start (connected two_transfers ++ sent ++ Arrive 1 ∷ []) ≡ (7, Some NotEnabled))
     × (refused start (connected two_transfers ++ sent ++ Arrive 3 ∷ []) ≡ (7, Some NotEnabled))
     × (refused start (Start ∷ Publish ∷ Arrive 0 ∷ []) ≡ (2, Some NotEnabled))
     × (refused start (connected two_transfers ++ taken 2 ++ Answer 2 ∷ []) ≡ (8, Some NotEnabled))
     × (refused start (Send 0 ∷ []) ≡ (0, Some NotEnabled))
     × (refused start (Take 2 ∷ []) ≡ (0, Some NotEnabled))
     × (refused start (Take 1 ∷ []) ≡ (0, Some NotEnabled))
-    × (refused start (Start ∷ Crash ∷ []) ≡ (1, Some NotEnabled))
-    × (refused start (Rewind 1 ∷ []) ≡ (0, Some NotEnabled))
+    × (refused start (Start ∷ Crash ∷ Crash ∷ []) ≡ (2, Some NotEnabled))
+    × (refused start (Rewind 2 ∷ []) ≡ (0, Some NotEnabled))
+    × (refused start (Ack 1 1 ∷ []) ≡ (0, Some NotEnabled))
 refuses = (refl, refl, refl, refl, refl, refl, refl, refl, refl, refl, refl, refl)
 
 -- the packets of a session that crashed come after the next session's connect, and are passed over
@@ -145,7 +144,7 @@ late_packets =
     ++ Send 1 ∷ Take 1 ∷ Send 1 ∷ []
 
 -- the event is in the queue once, as the second session sent it: there is nothing to hand out after it
-passes_over_late : shown (plays all_offered start late_packets) ≡ (
+passes_over_late : shown (run_of start late_packets) ≡ (
   (18, Some NotEnabled),
   Some (record { session = 2; timestamp = 0 }),
   record { book = moved 100; last = 2000; applied = 1; ended = false; closed = false } ∷ [],
@@ -159,7 +158,7 @@ saved_early =
     ++ Save ∷ Send 1 ∷ Take 1 ∷ Send 1 ∷ Take 1 ∷ []
 
 -- the first save holds moment 0, so both events come from the second session; its own save has the last one
-saves_confirmed_alone : shown (plays all_offered start saved_early) ≡ (
+saves_confirmed_alone : shown (run_of start saved_early) ≡ (
   (25, None),
   Some (record { session = 2; timestamp = 2001 }),
   record { book = moved 12; last = 2001; applied = 2; ended = false; closed = false } ∷ [],
@@ -178,7 +177,7 @@ handed_out_again =
     ∷ Take 1 ∷ Take 1 ∷ Take 1 ∷ Take 1 ∷ Take 1 ∷ Take 1 ∷ Take 1 ∷ []
 
 -- of the seven deliveries four are applied, and each amount is in the book once
-applies_once : shown (plays all_offered start handed_out_again) ≡ (
+applies_once : shown (run_of start handed_out_again) ≡ (
   (36, None),
   Some (record { session = 1; timestamp = 0 }),
   record { book = moved 10; last = 2003; applied = 4; ended = false; closed = false } ∷ [],
@@ -200,7 +199,7 @@ crashed_between =
     ++ sent ++ Answer 5 ∷ Save ∷ []
 
 -- the sixth event's moment is held, not the seventh's
-goes_on_from_saved : shown (plays all_offered start crashed_between) ≡ (
+goes_on_from_saved : shown (run_of start crashed_between) ≡ (
   (49, None),
   Some (record { session = 2; timestamp = 2005 }),
   record { book = []; last = 0; applied = 0; ended = false; closed = false } ∷ [],
@@ -213,7 +212,7 @@ closed_between =
     connected two_transfers ++ told 2 1 ++ taken 3 ++ Send 1 ∷ Send 1 ∷ Take 1 ∷ Close 1 ∷ Take 1 ∷ Ack 1 2 ∷ []
 
 -- the second event is taken, but book, count and last timestamp are those of the first
-stays_closed : shown (plays all_offered start closed_between) ≡ (
+stays_closed : shown (run_of start closed_between) ≡ (
   (18, None),
   Some (record { session = 1; timestamp = 0 }),
   record { book = moved 5; last = 2000; applied = 1; ended = false; closed = true } ∷ [],
@@ -228,7 +227,7 @@ broken_off =
     ∷ Take 1 ∷ Take 1 ∷ Rewind 1 ∷ Ack 1 3 ∷ Send 1 ∷ []
 
 -- the last hand-out isn't enabled, and of the three deliveries that were taken two are applied
-lifts_cursor : shown (plays all_offered start broken_off) ≡ (
+lifts_cursor : shown (run_of start broken_off) ≡ (
   (23, Some NotEnabled),
   Some (record { session = 1; timestamp = 0 }),
   record { book = moved 12; last = 2001; applied = 2; ended = false; closed = false } ∷ [],

@@ -6,35 +6,35 @@ use Rattle.cdc_progress.specs.Records.{Saved}
 use Rattle.cdc_world.specs.declared.steps.Did.{Did}
 use Rattle.cdc_types.specs.declared.steps.Step.{Step}
 use Rattle.cdc_world.specs.declared.steps.StepError.{StepError}
-use Rattle.cdc_world.specs.Next.{IsAtStart, IsReached, IsReachedBy, LeadsBy, NextBy, Offered, offered}
-use Rattle.cdc_world.specs.Stands.{DoesAll, PlaysTo, StopsAt}
+use Rattle.cdc_world.specs.Next.{IsAtStart, IsReached, Leads, Next}
+use Rattle.cdc_world.specs.Moves.{DoesAll, IsPlay, StopsAt}
 use Rattle.cdc_world.specs.Worlds.{WorldState, new_world}
 
 -- before the first step
-pub IsReached-new : (offers : Offered) (bindings : List Arguments) (window : ℕ) (held : Option Saved)
-    → IsAtStart held → IsReachedBy offers (new_world bindings window held)
-IsReached-new offers bindings window held start =
+pub IsReached-new : (bindings : List Arguments) (window : ℕ) (held : Option Saved)
+    → IsAtStart held → IsReached (new_world bindings window held)
+IsReached-new bindings window held start =
     record { bindings = bindings; window = window; held = held; steps = []; at_start = start; leads = refl }
 
 -- one more step at the end
-LeadsBy-push : (offers : Offered) (w v w' : WorldState) (steps : List Step) (step : Step)
-    (answer : Result Did StepError) → LeadsBy offers w steps v → NextBy offers v step answer w'
-    → LeadsBy offers w (steps ++ step ∷ []) w'
-LeadsBy-push offers w v w' [] step answer leads next =
-    (answer, w', subst (λ (x : WorldState). NextBy offers x step answer w') leads next, refl)
-LeadsBy-push offers w v w' (s ∷ steps) step answer (first, between, here, rest) next =
-    (first, between, here, LeadsBy-push offers between v w' steps step answer rest next)
+Leads-push : (w v w' : WorldState) (steps : List Step) (step : Step)
+    (answer : Result Did StepError) → Leads w steps v → Next v step answer w'
+    → Leads w (steps ++ step ∷ []) w'
+Leads-push w v w' [] step answer leads next =
+    (answer, w', subst (λ (x : WorldState). Next x step answer w') leads next, refl)
+Leads-push w v w' (s ∷ steps) step answer (first, between, here, rest) next =
+    (first, between, here, Leads-push between v w' steps step answer rest next)
 
 -- so a step leads on to a world that is reached too, whatever its answer
-pub IsReached-next : (offers : Offered) (w : WorldState) (step : Step) (answer : Result Did StepError)
-    (w' : WorldState) → IsReachedBy offers w → NextBy offers w step answer w' → IsReachedBy offers w'
-IsReached-next offers w step answer w' reached next = record {
+pub IsReached-next : (w : WorldState) (step : Step) (answer : Result Did StepError)
+    (w' : WorldState) → IsReached w → Next w step answer w' → IsReached w'
+IsReached-next w step answer w' reached next = record {
   bindings = reached.bindings;
   window = reached.window;
   held = reached.held;
   steps = reached.steps ++ step ∷ [];
   at_start = reached.at_start;
-  leads = LeadsBy-push offers (new_world reached.bindings reached.window reached.held) w w' reached.steps step answer
+  leads = Leads-push (new_world reached.bindings reached.window reached.held) w w' reached.steps step answer
       reached.leads next;
 }
 
@@ -42,7 +42,7 @@ IsReached-next offers w step answer w' reached next = record {
 does_reach : (w w' : WorldState) (steps : List Step) → IsReached w → DoesAll w steps w' → IsReached w'
 does_reach w w' [] reached does = subst IsReached (sym does) reached
 does_reach w w' (step ∷ steps) reached (did, between, (here, rest)) =
-    does_reach between w' steps (IsReached-next offered w step (Ok did) between reached here) rest
+    does_reach between w' steps (IsReached-next w step (Ok did) between reached here) rest
 
 -- and the one that is refused, if one is
 stops_reach : (w w' : WorldState) (steps : List Step) (refusal : Option StepError) → IsReached w
@@ -51,11 +51,11 @@ stops_reach w w' [] None reached stops = subst IsReached (sym stops) reached
 stops_reach w w' [] (Some why) reached stops = absurd stops
 stops_reach w w' (step ∷ steps) None reached stops = absurd stops
 stops_reach w w' (step ∷ steps) (Some why) reached stops =
-    IsReached-next offered w step (Err why) w' reached stops
+    IsReached-next w step (Err why) w' reached stops
 
 -- a play
 pub IsReached-played : (w : WorldState) (steps : List Step) (done : ℕ) (refusal : Option StepError)
-    (w' : WorldState) → IsReached w → PlaysTo w steps done refusal w' → IsReached w'
+    (w' : WorldState) → IsReached w → IsPlay w steps done refusal w' → IsReached w'
 IsReached-played w steps done refusal w' reached plays =
     stops_reach plays.before w' (drop done steps) refusal
     (does_reach w plays.before (take done steps) reached plays.does) plays.stops

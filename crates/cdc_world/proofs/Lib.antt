@@ -1,16 +1,12 @@
-pub mod BookLaws
+pub mod Arriving
 pub mod ConnArrives
 pub mod ConnChanges
 pub mod ConnHistory
-pub mod ConnLines
-pub mod ConnPlaces
-pub mod ConnReplays
-pub mod ConnSessions
-pub mod ConnSplits
-pub mod ConnSubmits
-pub mod Connecting
 pub mod ConnReached
+pub mod ConnSessions
+pub mod Connecting
 mod Examples
+pub mod Fixed
 pub mod Leading
 pub mod Places
 pub mod Playing
@@ -20,9 +16,6 @@ pub mod Reading
 pub mod RunLaws
 pub mod Stepping
 pub mod SubClosed
-pub mod SubDeliveries
-pub mod SubFaithful
-pub mod SubFeeds
-pub mod SubReplays
 pub mod SubServed
 pub mod SubSteps
+pub mod Subscribing

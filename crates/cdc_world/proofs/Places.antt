@@ -1,10 +1,13 @@
 -- Elements by their numbers, and what stands at them.
-use Rattle.std.proofs.Common.{◌≡◌, ℕ, ◌+◌, ◌-◌, ◌<◌, ◌==◌, Bool, true, false, List, [], ◌∷◌, Some, None, zero, suc, refl, sym, ap, ◌∙◌, length, map, get_or, arith}
-use Rattle.std.specs.Prelude.{nat_lt, option_map, if◌then◌else◌}
+use Rattle.std.proofs.Common.{◌≡◌, ℕ, ◌+◌, ◌-◌, ◌<◌, ◌≤◌, ◌==◌, Bool, true, false, List, [], ◌∷◌, ◌++◌, Some, None, zero, suc, refl, sym, ap, ◌∙◌, subst, length, map, get_or, inl, inr, arith}
+use Rattle.std.specs.Prelude.{Contains, nat_lt, option_map, if◌then◌else◌}
 use Rattle.std.specs.List.{slice_get}
-use Rattle.std.proofs.lemmas.Option.{slice_get-map, slice_get_read}
-use Rattle.cdc_world.specs.declared.seats.Seat.{Seat}
-use Rattle.cdc_world.specs.Turns.{place_in, seat_state}
+use Rattle.std.proofs.lemmas.Bool.{cases_Bool, eqb-true, eqb-false}
+use Rattle.std.proofs.lemmas.Option.{none-some, slice_get-map, slice_get_read}
+use Rattle.cdc_laws.proofs.Places.{Contains_slice_get, slice_get-append}
+use Rattle.cdc_world.specs.declared.subscriptions.Subscription.{Subscription}
+use Rattle.cdc_world.specs.Parts.{subscription_parts}
+use Rattle.cdc_world.specs.Turns.{place_in}
 use Rattle.cdc_world.specs.Worlds.{numbered}
 
 -- a number above 0 isn't 0
@@ -17,13 +20,35 @@ numbered_place xs zero below = absurd (omega arith)
 numbered_place {X} xs (suc i) below =
     ap (λ (b : Bool). if b then None else slice_get xs (suc i - 1)) (above_none i)
 
--- the number that comes next after so many
-pub numbered_next : {X : Type 0} (xs : List X) (come k : ℕ) → (k == come + 1) ≡ true → numbered xs k ≡ slice_get xs come
-numbered_next xs come k same =
-    let e : k ≡ come + 1 = grind arith in
-    let f : come + 1 - 1 ≡ come = omega arith in
-    let g : numbered xs (come + 1) ≡ slice_get xs (come + 1 - 1) = numbered_place xs (come + 1) (omega arith) in
-    ap (numbered xs) e ∙ g ∙ ap (slice_get xs) f
+-- a number that names something is at least 1 and names what stands at the place before it,
+-- so that a tag gives its item's place in the line
+pub numbered_parts : {X : Type 0} (xs : List X) (k : ℕ) (x : X) → numbered xs k ≡ Some x
+    → (0 < k) × (slice_get xs (k - 1) ≡ Some x)
+numbered_parts xs k x h =
+    elim (cases_Bool (k == 0)) [
+      | inl is ↦ absurd (none-some x (rw is at h))
+      | inr not ↦ let above : 0 < k = omega (arith, eqb-false k 0 not) in (above, rw not at h)
+    ]
+
+-- and what stands at a place is named by the number after it
+pub numbered_from : {X : Type 0} (xs : List X) (k : ℕ) (x : X) → 0 < k → slice_get xs (k - 1) ≡ Some x
+    → numbered xs k ≡ Some x
+numbered_from xs k x above h =
+    elim (cases_Bool (k == 0)) [
+      | inl is ↦ absurd (omega (arith, eqb-true k 0 is))
+      | inr not ↦ rw not h
+    ]
+
+-- an element keeps its number where its list grows at the back, as the line of a ledger does
+pub numbered-append : {X : Type 0} (xs ys : List X) (k : ℕ) (x : X) → numbered xs k ≡ Some x
+    → numbered (xs ++ ys) k ≡ Some x
+numbered-append xs ys k x h =
+    let parts = numbered_parts xs k x h in
+    numbered_from (xs ++ ys) k x parts.0 (slice_get-append xs ys (k - 1) x parts.1)
+
+-- a packet that a step names by its number is one that was sent, and so is a confirm
+pub Contains_numbered : {X : Type 0} (xs : List X) (k : ℕ) (x : X) → numbered xs k ≡ Some x → Contains xs x
+Contains_numbered xs k x h = Contains_slice_get xs (k - 1) x (numbered_parts xs k x h).1
 
 -- a place that a number has
 pub record IsPlace (i count place : ℕ) : Type 0 where
@@ -49,6 +74,35 @@ place_is zero count place found = cc
 place_is (suc i) count place found =
     place_cases i count place (nat_lt (suc i - 1) count) refl (sym (place_above i count) ∙ found)
 
+-- behind a list's end there is nothing
+slice_get_past : {X : Type 0} (xs : List X) (k : ℕ) → length xs ≤ k → slice_get xs k ≡ None
+slice_get_past [] k past = refl
+slice_get_past (x ∷ xs) zero past = absurd (omega arith)
+slice_get_past (x ∷ xs) (suc k) past = slice_get_past xs k (omega arith)
+
+-- a number above 0 without a place names nothing
+unplaced : {X : Type 0} (xs : List X) (i : ℕ) (b : Bool) → nat_lt (suc i - 1) (length xs) ≡ b
+    → (if b then Some (suc i - 1) else None) ≡ None → numbered xs (suc i) ≡ None
+unplaced xs i true below none = cc
+unplaced xs i false past none =
+    numbered_place xs (suc i) (omega arith) ∙ slice_get_past xs (suc i - 1) (grind arith)
+
+-- so where the code finds no place for a number, nothing has that number
+pub numbered_none : {X : Type 0} (xs : List X) (i count : ℕ) → count ≡ length xs → place_in i count ≡ None
+    → numbered xs i ≡ None
+numbered_none xs zero count same none = refl
+numbered_none xs (suc i) count same none =
+    unplaced xs i (nat_lt (suc i - 1) (length xs)) refl
+    (sym (place_above i (length xs)) ∙ subst (λ n. place_in (suc i) n ≡ None) same none)
+
+-- and where it finds one, what stands there has the number
+pub numbered_some : {X : Type 0} (xs : List X) (i count place : ℕ) (x : X) → count ≡ length xs
+    → place_in i count ≡ Some place → x ≡ get_or xs place x → numbered xs i ≡ Some x
+numbered_some xs i count place x same found here =
+    let at = place_is i count place found in
+    numbered_place xs i at.above ∙ ap (slice_get xs) (sym at.here)
+    ∙ slice_get_read xs count place x same (omega (arith, at.inside, at.here)) here
+
 -- an element of a list that is made of another stands for the other's element there
 pub slice_get_made : {X Y : Type 0} (f : X → Y) (xs : List X) (k : ℕ) (y : Y) → slice_get (map f xs) k ≡ Some y
     → (x : X) × ((slice_get xs k ≡ Some x) × (f x ≡ y))
@@ -56,9 +110,9 @@ slice_get_made f [] k y found = cc
 slice_get_made f (x ∷ xs) zero y found = (x, (refl, cc))
 slice_get_made f (x ∷ xs) (suc k) y found = slice_get_made f xs k y found
 
--- a seat of the world
-pub seat_here : (items : List Seat) (k : ℕ) (seat : Seat) → k < length items → seat ≡ get_or items k seat
-    → slice_get (map seat_state items) k ≡ Some (seat_state seat)
-seat_here items k seat inside here =
-    slice_get-map seat_state items k ∙ ap (option_map seat_state) (slice_get_read items
-    (length items) k seat refl inside here)
+-- a subscription of the world, as it is kept
+pub subscription_here : (items : List Subscription) (k : ℕ) (s : Subscription) → k < length items → s ≡ get_or items k s
+    → slice_get (map subscription_parts items) k ≡ Some (subscription_parts s)
+subscription_here items k s inside here =
+    slice_get-map subscription_parts items k ∙ ap (option_map subscription_parts) (slice_get_read items
+    (length items) k s refl inside here)

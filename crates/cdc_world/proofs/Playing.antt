@@ -1,5 +1,5 @@
 -- Steps that are all done, one more at a time, and where they stop.
-use Rattle.std.proofs.Common.{◌≡◌, ℕ, ◌+◌, ◌<◌, IsTrue, List, [], ◌∷◌, ◌++◌, Some, Ok, Err, zero, suc, refl, sym, ap, ◌∙◌, subst, length, take, drop, get_or, arith}
+use Rattle.std.proofs.Common.{◌≡◌, ℕ, ◌+◌, ◌<◌, ◌≤◌, IsTrue, List, [], ◌∷◌, ◌++◌, Some, None, Ok, Err, zero, suc, refl, sym, ap, ◌∙◌, subst, length, take, drop, get_or, arith}
 use Rattle.std.specs.List.{list_any}
 use Rattle.std.proofs.lemmas.List.{take_more}
 use Rattle.std.proofs.lemmas.List.Folds.{list_any_at}
@@ -7,7 +7,9 @@ use Rattle.cdc_world.specs.declared.steps.Did.{Did}
 use Rattle.cdc_types.specs.declared.steps.Step.{Step}
 use Rattle.cdc_world.specs.declared.steps.StepError.{StepError}
 use Rattle.cdc_world.specs.Next.{Next, loads}
-use Rattle.cdc_world.specs.Stands.{DoesAll, Moves, Parts, Plays, Stands, StopsAt}
+use Rattle.cdc_world.specs.Moves.{DoesAll, Moves, Plays, StopsAt}
+use Rattle.cdc_world.specs.Parts.{Parts}
+use Rattle.cdc_world.specs.Stands.{Stands}
 use Rattle.cdc_world.specs.Worlds.{WorldState}
 
 -- so many of these steps are done
@@ -75,6 +77,29 @@ Plays-stopped p p' p'' steps done step why inside here has moves honest w st =
           before = before.0;
           does = before.1.1;
           stops = subst (λ (ss : List Step). StopsAt before.0 ss (Some why) after.0) (sym rest.1) after.1.1;
+        },
+      ),
+    )
+
+-- behind a whole list there is nothing
+drop_length : {X : Type 0} (xs : List X) → drop (length xs) xs ≡ []
+drop_length [] = refl
+drop_length (x ∷ xs) = drop_length xs
+
+-- a play of which all steps are done
+pub Plays-ended : (p p' : Parts) (steps : List Step) (done : ℕ) → length steps ≤ done → done ≤ length steps
+    → HasDone p p' steps done → Plays p steps (length steps) None p'
+Plays-ended p p' steps done all within has honest w st =
+    let before = has.leads honest w st in
+    let same : done ≡ length steps = omega (arith, all, within) in (
+      before.0,
+      (
+        before.1.0,
+        record {
+          count = omega arith;
+          before = before.0;
+          does = subst (λ (n : ℕ). DoesAll w (take n steps) before.0) same before.1.1;
+          stops = subst (λ (ss : List Step). StopsAt before.0 ss None before.0) (sym (drop_length steps)) refl;
         },
       ),
     )

@@ -1,36 +1,29 @@
 -- What a subscriber may rely on in each world that steps lead to.
 use Rattle.std.proofs.Common.{◌≡◌, ℕ, Some}
+use Rattle.cdc_laws.specs.Faithful.{IsFaithful, kept_from}
+use Rattle.cdc_laws.proofs.Faithful.{IsFaithful-queue, kept_of-queue}
+use Rattle.cdc_message.specs.Replays.{IsReplay}
 use Rattle.cdc_subscriber.specs.Heard.{kept_of}
-use Rattle.cdc_world.specs.Headline.{IsFaithful}
-use Rattle.cdc_world.specs.Next.{IsReached, IsReachedBy, Offered, offered}
-use Rattle.cdc_world.specs.Queued.{kept_from}
-use Rattle.cdc_world.specs.Worlds.{Subscription, WorldState, numbered}
-use Rattle.cdc_world.proofs.BookLaws.{holds-balances}
-use Rattle.cdc_world.proofs.ConnReached.{IsReplay-reached_by, IsSound-reached_by}
-use Rattle.cdc_world.proofs.SubFaithful.{IsFaithful-served, kept_of-served}
+use Rattle.cdc_world.specs.Next.{IsReached}
+use Rattle.cdc_world.specs.Worlds.{Subscription, WorldState, numbered, queue_in, taken_items}
+use Rattle.cdc_world.proofs.ConnReached.{IsReplay-reached, IsSound-reached}
+use Rattle.cdc_world.proofs.SubServed.{IsReplay-served}
 use Rattle.cdc_world.proofs.SubSteps.{AreQueued-reached}
 
-module _ (offers : Offered) (w : WorldState) (i : ℕ) (s : Subscription) (reached : IsReachedBy offers w)
+module _ (w : WorldState) (i : ℕ) (s : Subscription) (reached : IsReached w)
     (found : numbered w.subscriptions i ≡ Some s) where
-  -- each subscriber is faithful
-  pub faithful-reached_by : IsFaithful w s
-  faithful-reached_by =
-      IsFaithful-served w s (IsSound-reached_by offers w reached) (IsReplay-reached_by offers w reached)
-      (AreQueued-reached offers w reached i s found)
-      (λ told front. holds-balances w.history told (IsSound-reached_by offers w reached) front)
+  -- what it heard is a replay of its queue
+  hears : IsReplay s.heard.items (queue_in w s)
+  hears = IsReplay-served (queue_in w s) s (AreQueued-reached w reached i s found)
 
-  -- what it keeps is told by what it has applied
-  pub kept-reached_by : kept_of s.heard ≡ kept_from s
-  kept-reached_by =
-      kept_of-served w s (IsSound-reached_by offers w reached) (IsReplay-reached_by offers w reached)
-      (AreQueued-reached offers w reached i s found)
+  -- so each subscriber is faithful
+  pub faithful-reached : IsFaithful w.history s.binding s.heard
+  faithful-reached =
+      IsFaithful-queue w.history s.binding s.heard (IsSound-reached w reached) (taken_items w)
+      (IsReplay-reached w reached) hears
 
--- the same of today's steps
-pub faithful-reached : (w : WorldState) (i : ℕ) (s : Subscription) → IsReached w
-    → numbered w.subscriptions i ≡ Some s → IsFaithful w s
-faithful-reached = faithful-reached_by offered
-
--- and of what a subscriber keeps, so that its readers tell what it has applied
-pub kept-reached : (w : WorldState) (i : ℕ) (s : Subscription) → IsReached w
-    → numbered w.subscriptions i ≡ Some s → kept_of s.heard ≡ kept_from s
-kept-reached = kept-reached_by offered
+  -- and what it keeps, as its readers tell it, is told by what it has applied
+  pub kept-reached : kept_of s.heard ≡ kept_from s.heard
+  kept-reached =
+      kept_of-queue w.history s.binding s.heard (IsSound-reached w reached) (taken_items w)
+      (IsReplay-reached w reached) hears

@@ -12,15 +12,14 @@ use Rattle.cdc_message.specs.declared.items.Item.{Item}
 use Rattle.cdc_message.specs.Replays.{IsReplay}
 use Rattle.cdc_message.proofs.ReplayLaws.{IsReplay-Contains, IsReplay-earlier, IsReplay-longer, IsReplay-nil, IsReplay-take}
 use Rattle.cdc_subscriber.specs.Heard.{Heard, has_ended, next}
-use Rattle.cdc_world.specs.Next.{first_flight, rewound, with_ack, with_close, with_sending, with_taking}
-use Rattle.cdc_world.specs.Queued.{IsServed, deliveries, deliveries_from, items_in, positions_in, sent_to}
+use Rattle.cdc_laws.specs.Deliveries.{deliveries, deliveries_from, items_in, positions_in}
+use Rattle.cdc_world.specs.Next.{first_flight, with_ack, with_break, with_close, with_delivery, with_rewind, with_taking}
+use Rattle.cdc_world.specs.Queued.{IsServed, sent_to}
 use Rattle.cdc_world.specs.Worlds.{Subscription, new_subscription}
-use Rattle.cdc_world.proofs.SubDeliveries.{HasNoneTwice-deliveries, deliveries-append, delivery_at, length-deliveries, position-deliveries, slice_get-deliveries}
-use Rattle.cdc_world.proofs.SubReplays.{Contains-unmap, IsReplay-found}
-
--- nothing stands in an empty list
-none_there : {X : Type 0} (x : X) → Contains [] x → ⊥
-none_there x h = omega (arith, h.1)
+use Rattle.cdc_laws.proofs.Deliveries.{HasNoneTwice-deliveries, deliveries-append, delivery_at, length-deliveries, position-deliveries, slice_get-deliveries}
+use Rattle.cdc_laws.proofs.Faithful.{IsReplay-heard}
+use Rattle.cdc_laws.proofs.Places.{none_there}
+use Rattle.cdc_laws.proofs.Replays.{Contains-unmap, IsReplay-found}
 
 -- ---- at the start
 
@@ -45,13 +44,13 @@ pub IsServed-longer : (items more : List Item) (s : Subscription) → IsServed i
 IsServed-longer items more s served =
     let longer = deliveries-append items more in
     let rest : List Delivery = deliveries_from (1 + length items) more in
-    let front : take (s.cursor - 1) (deliveries items ++ rest) ≡ take (s.cursor - 1) (deliveries items) =
-    take-append-le (s.cursor - 1) (deliveries items) rest (omega (arith, length-deliveries items, served.within)) in
+    let front : take (s.cursor.next - 1) (deliveries items ++ rest) ≡ take (s.cursor.next - 1) (deliveries items) =
+    take-append-le (s.cursor.next - 1) (deliveries items) rest (omega (arith, length-deliveries items, served.within)) in
     record {
       replay = rw longer (IsReplay-longer (sent_to s) (deliveries items) rest served.replay);
       from_one = served.from_one;
       within = omega (arith, length-append items more, served.within);
-      behind = λ d there. served.behind d (subst (λ ds. Contains ds d) (ap (take (s.cursor - 1)) longer ∙ front) there);
+      behind = λ d there. served.behind d (subst (λ ds. Contains ds d) (ap (take (s.cursor.next - 1)) longer ∙ front) there);
       acks = served.acks;
       acked = served.acked;
       past = served.past;
@@ -63,17 +62,17 @@ IsServed-longer items more s served =
 
 -- the entry at the cursor goes on its way, so the cursor is still past nothing that wasn't handed out
 pub IsServed-sending : (items : List Item) (s : Subscription) (item : Item) → IsServed items s
-    → slice_get items (s.cursor - 1) ≡ Some item → IsServed items (with_sending (delivery_at s.cursor item) s)
+    → slice_get items (s.cursor.next - 1) ≡ Some item → IsServed items (with_delivery (delivery_at s.cursor.next item) s)
 IsServed-sending items s item served found =
-    let d : Delivery = delivery_at s.cursor item in
-    let place : ℕ = s.cursor - 1 in
-    let at : place + 1 ≡ s.cursor = omega (arith, served.from_one) in
+    let d : Delivery = delivery_at s.cursor.next item in
+    let place : ℕ = s.cursor.next - 1 in
+    let at : place + 1 ≡ s.cursor.next = omega (arith, served.from_one) in
     let here : slice_get (deliveries items) place ≡ Some d =
     slice_get-deliveries items place item found ∙ ap (λ n. Some (delivery_at n item)) at in
     let within : place < length items = slice_get_within items place item found in
     let all : (s.taken ++ s.flight) ++ d ∷ [] ≡ s.taken ++ (s.flight ++ d ∷ []) =
     append_assoc s.taken s.flight (d ∷ []) in
-    let next_is : take (s.cursor + 1 - 1) (deliveries items) ≡ take place (deliveries items) ++ d ∷ [] =
+    let next_is : take (s.cursor.next + 1 - 1) (deliveries items) ≡ take place (deliveries items) ++ d ∷ [] =
     ap (λ n. take n (deliveries items)) (omega (arith, served.from_one))
     ∙ take_more (deliveries items) place d (omega (arith, length-deliveries items))
     ∙ ap (λ x. take place (deliveries items) ++ x ∷ []) (get_or_from_slice_get (deliveries items) place d d here) in
@@ -102,6 +101,12 @@ pub IsReplay-taken : (items : List Item) (s : Subscription) → IsServed items s
 IsReplay-taken items s served =
     subst (λ w. IsReplay w (deliveries items)) (take_at s.taken s.flight (length s.taken) refl)
     (IsReplay-take (length s.taken) (sent_to s) (deliveries items) served.replay)
+
+-- and so is what the subscriber heard, of the queue
+pub IsReplay-served : (items : List Item) (s : Subscription) → IsServed items s → IsReplay s.heard.items items
+IsReplay-served items s served =
+    subst (λ heard. IsReplay heard items) (sym served.heard.1)
+    (IsReplay-heard items s.taken served.heard.0 (IsReplay-taken items s served))
 
 -- a delivery that was taken at this position, and its place in the queue
 record TakenAt (items : List Item) (taken : List Delivery) (p : ℕ) : Type 0 where
@@ -163,12 +168,12 @@ acked_sent items s served p n is known flight y before =
 -- ---- the queue goes back
 
 -- all that stands before the place that a queue goes back to was taken, so nothing is left out
-pub IsServed-rewound : (items : List Item) (s : Subscription) → IsServed items s → IsServed items (rewound s)
+pub IsServed-rewound : (items : List Item) (s : Subscription) → IsServed items s → IsServed items (with_rewind s)
 IsServed-rewound items s served = record {
   replay = served.replay;
   from_one = omega arith;
-  within = omega (arith, acked_within items s served s.acked served.acked);
-  behind = acked_sent items s served s.acked (s.acked + 1 - 1) (omega arith) served.acked s.flight;
+  within = omega (arith, acked_within items s served s.cursor.acked served.acked);
+  behind = acked_sent items s served s.cursor.acked (s.cursor.acked + 1 - 1) (omega arith) served.acked s.flight;
   acks = served.acks;
   acked = served.acked;
   past = omega arith;
@@ -178,14 +183,14 @@ IsServed-rewound items s served = record {
 
 -- and what is on its way is lost
 pub IsServed-broken : (items : List Item) (s : Subscription) → IsServed items s
-    → IsServed items (record (rewound s) { flight = [] })
+    → IsServed items (with_break s)
 IsServed-broken items s served =
     let all : s.taken ++ [] ≡ s.taken = append-nil s.taken in
     record {
       replay = rw all (IsReplay-taken items s served);
       from_one = omega arith;
-      within = omega (arith, acked_within items s served s.acked served.acked);
-      behind = acked_sent items s served s.acked (s.acked + 1 - 1) (omega arith) served.acked [];
+      within = omega (arith, acked_within items s served s.cursor.acked served.acked);
+      behind = acked_sent items s served s.cursor.acked (s.cursor.acked + 1 - 1) (omega arith) served.acked [];
       acks = served.acks;
       acked = served.acked;
       past = omega arith;
@@ -208,20 +213,20 @@ later_acked acks old position before there =
 pub IsServed-ack : (items : List Item) (s : Subscription) (position : ℕ) → IsServed items s → Contains s.acks position
     → IsServed items (with_ack position s)
 IsServed-ack items s position served there =
-    let known : ℕ = max s.acked position in
-    let acked : (known ≡ 0) ⊎ Contains s.acks known = later_acked s.acks s.acked position served.acked there in
+    let known : ℕ = max s.cursor.acked position in
+    let acked : (known ≡ 0) ⊎ Contains s.acks known = later_acked s.acks s.cursor.acked position served.acked there in
     let within : known ≤ length items = acked_within items s served known acked in
     record {
       replay = served.replay;
       from_one = omega arith;
       within = omega (arith, within, served.within);
       behind = λ d here.
-          elim (cases_lt s.cursor (known + 1)) [
+          elim (cases_lt s.cursor.next (known + 1)) [
             | inl ahead ↦
-                let count : max s.cursor (known + 1) - 1 ≡ known = omega (arith, ahead) in
-                acked_sent items s served known (max s.cursor (known + 1) - 1) count acked s.flight d here
+                let count : max s.cursor.next (known + 1) - 1 ≡ known = omega (arith, ahead) in
+                acked_sent items s served known (max s.cursor.next (known + 1) - 1) count acked s.flight d here
             | inr behind ↦
-                let count : max s.cursor (known + 1) - 1 ≡ s.cursor - 1 = omega (arith, behind) in
+                let count : max s.cursor.next (known + 1) - 1 ≡ s.cursor.next - 1 = omega (arith, behind) in
                 served.behind d (subst (λ n. Contains (take n (deliveries items)) d) count here)
           ];
       acks = served.acks;
@@ -331,7 +336,7 @@ IsServed-taking items s first served found =
           ∙ sym (map_push (λ (x : Delivery). x.position) s.taken d);
       acked = elim served.acked [
         | inl none ↦ inl none
-        | inr old ↦ inr (Contains-append_left s.acks (d.position ∷ []) s.acked old)
+        | inr old ↦ inr (Contains-append_left s.acks (d.position ∷ []) s.cursor.acked old)
       ];
       past = served.past;
       heard = hears.some;

@@ -1,11 +1,15 @@
 -- What the connector and the broker keep to, whatever comes: what the broker took is a replay of the ledger's line.
+-- Cited by proofs alone.
 use Rattle.std.specs.Prelude.{◌≡◌, ℕ, ◌<◌, ◌≤◌, true, Option, Some, None, List, [], ◌∷◌, ◌++◌, map, Contains, if◌then◌else◌}
+use Rattle.cdc_broker.specs.Packets.{current_session, expected_tag}
+use Rattle.cdc_laws.specs.Line.{line, line_after}
+use Rattle.cdc_world.specs.Worlds.{WorldState, numbered, taken_items}
 use Rattle.cdc_ledger.specs.Events.{events}
 use Rattle.cdc_ledger.specs.History.{History}
 use Rattle.cdc_ledger.specs.Sound.{IsSound}
 use Rattle.cdc_log.specs.Log.{events_after}
 use Rattle.cdc_message.specs.declared.items.Item.{Item}
-use Rattle.cdc_message.specs.declared.items.Item.TheVariants.{Event as OfEvent, EndMark}
+use Rattle.cdc_message.specs.declared.items.Item.TheVariants.{Event as OfEvent}
 use Rattle.cdc_message.specs.declared.packets.Answer.{Answer}
 use Rattle.cdc_message.specs.declared.packets.Answer.TheVariants.{Connected, Confirmed, Ignored, Broken}
 use Rattle.cdc_message.specs.declared.packets.Confirm.{Confirm}
@@ -15,13 +19,6 @@ use Rattle.cdc_message.specs.Replays.{IsPrefix, IsReplay}
 use Rattle.cdc_progress.specs.Records.{Saved}
 use Rattle.cdc_publisher.specs.Courses.{Course, is_confirmed}
 use Rattle.cdc_types.specs.declared.events.Event.{Event}
-use Rattle.cdc_world.specs.Line.{line}
-use Rattle.cdc_world.specs.Packets.{current_session, expected_tag}
-use Rattle.cdc_world.specs.Worlds.{WorldState, numbered, taken_items}
-
--- what a ledger has to tell after a moment: the later events, and the end mark once it is closed
-abbrev pub line_after : History → ℕ → List Item
-line_after h base = map OfEvent (events_after base (events h)) ++ (if h.closed then EndMark ∷ [] else [])
 
 -- the number of the last session that was saved, or 0
 abbrev pub held_number : Option Saved → ℕ

@@ -1,15 +1,15 @@
+-- what a reader has to believe: public clauses cite it
+pub mod Closed
 pub mod Errors
-pub mod Headline
 pub mod Laws
-pub mod Line
+pub mod Moves
 pub mod Next
-pub mod Packets
-pub mod Runs
+pub mod Parts
+pub mod Stands
 pub mod Worlds
--- what every step keeps, for the laws
+-- private: what private contracts, proofs and worked runs alone cite
 pub mod Connector
 pub mod Queued
--- what private contracts alone cite
 pub mod Refusals
-pub mod Stands
+pub mod Runs
 pub mod Turns

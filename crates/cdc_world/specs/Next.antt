@@ -1,6 +1,8 @@
 -- What a step answers, and the world after it.
-use Rattle.std.specs.Prelude.{◌≡◌, ◌⊎◌, ℕ, ◌+◌, ◌-◌, ◌==◌, ◌&&◌, ◌||◌, max, nat_le, Bool, true, false, IsTrue, Option, Some, None, Result, Ok, Err, List, [], ◌∷◌, ◌++◌, length, take, slice_get, if◌then◌else◌}
+use Rattle.std.specs.Prelude.{◌≡◌, ◌⊎◌, ℕ, ◌&&◌, nat_le, Bool, true, false, IsTrue, Option, Some, None, Result, Ok, Err, List, [], ◌∷◌, ◌++◌, length, take}
 use Rattle.std.specs.Option.{option_map}
+use Rattle.cdc_broker.specs.Cursors.{after_ack, after_delivery, delivery_at, rewound}
+use Rattle.cdc_broker.specs.Packets.{is_taken}
 use Rattle.cdc_ledger.specs.declared.errors.BatchError.{BatchError}
 use Rattle.cdc_ledger.specs.Events.{events}
 use Rattle.cdc_ledger.specs.History.{History}
@@ -19,34 +21,15 @@ use Rattle.cdc_progress.specs.Records.{Saved}
 use Rattle.cdc_publisher.specs.Courses.{Course, begun, new_course, next_packet, progress_of, takes_confirm, wanted, with_confirm, with_offer, with_sent}
 use Rattle.cdc_publisher.specs.declared.session.Poll.{Poll}
 use Rattle.cdc_subscriber.specs.Answers.{answer_to}
-use Rattle.cdc_subscriber.specs.Heard.{kept_of, next}
+use Rattle.cdc_subscriber.specs.Heard.{kept_of, next as next_heard}
 use Rattle.cdc_types.specs.declared.batches.BatchResults.{BatchResults}
-use Rattle.cdc_world.specs.declared.steps.Did.{Did}
-use Rattle.cdc_world.specs.declared.steps.Did.TheVariants.{Submitted, Arrived, Counted, Took, Done}
 use Rattle.cdc_types.specs.declared.steps.Step.{Step}
 use Rattle.cdc_types.specs.declared.steps.Step.TheVariants.{Submit, CloseLedger, Start, Crash, Poll as PollStep, Publish as PublishStep, Arrive, Answer, Save, Send, Rewind, Break, Take, Ack, Close}
+use Rattle.cdc_world.specs.declared.steps.Did.{Did}
+use Rattle.cdc_world.specs.declared.steps.Did.TheVariants.{Submitted, Arrived, Counted, Took, Done}
 use Rattle.cdc_world.specs.declared.steps.StepError.{StepError}
 use Rattle.cdc_world.specs.declared.steps.StepError.TheVariants.{NotEnabled, Refused, Store, SessionsExhausted, OutOfMemory}
-use Rattle.cdc_world.specs.Packets.{is_taken}
 use Rattle.cdc_world.specs.Worlds.{Subscription, WorldState, new_world, numbered, queue_in, with_numbered}
-
--- which steps are offered: each of five, and packets and confirms that come in another order than they were sent in, or
--- again
-pub record Offered : Type 0 where
-  pub crash : Bool
-  pub rewind : Bool
-  pub break_off : Bool
-  pub ack : Bool
-  pub close : Bool
-  pub any_order : Bool
-
--- what is offered today: no faults
-abbrev pub offered : Offered
-offered = record { crash = false; rewind = false; break_off = false; ack = false; close = false; any_order = false }
-
--- everything
-abbrev pub all_offered : Offered
-all_offered = record { crash = true; rewind = true; break_off = true; ack = true; close = true; any_order = true }
 
 -- what a step does, where memory and the store allow it: its answer and the world after it, or why it isn't done
 abbrev pub Outcome : Type 0
@@ -59,68 +42,53 @@ Some x >>= rest = rest x
 None >>= rest = Err NotEnabled
 
 -- a step that is done, without more to say
-abbrev pub done : WorldState → Outcome
-done w = Ok (Done, w)
+abbrev pub success : WorldState → Outcome
+success w = Ok (Done, w)
 
--- something where a test holds
-abbrev pub where_so : {A : Type 0} → Bool → Option A → Option A
-where_so test x = if test then x else None
-
--- the next packet or confirm to come, or any that was sent
-abbrev pub may_come : Offered → ℕ → ℕ → Bool
-may_come offers come k = offers.any_order || (k == come + 1)
+-- ---- the ledger
 
 -- the ledger's answer to a batch
-abbrev pub submitted : WorldState → Result (BatchResults × History) BatchError → Outcome
-submitted w (Ok answered) = Ok (Submitted answered.0, record w { history = answered.1 })
-submitted w (Err why) = Err (Refused why)
+abbrev pub with_batch : WorldState → Result (BatchResults × History) BatchError → Outcome
+with_batch w (Ok taken) = Ok (Submitted taken.0, record w { history = taken.1 })
+with_batch w (Err why) = Err (Refused why)
 
--- a session starts once its number is saved, if there is one
-abbrev pub started : WorldState → Option Saved → Outcome
-started w (Some saved) = done (record w { held = Some saved; session = Some (new_course saved w.window) })
-started w None = Err SessionsExhausted
-
--- the connector starts a session, where it is down
-abbrev pub starting : WorldState → Option Course → Outcome
-starting w None = started w (begun w.held)
-starting w (Some course) = Err NotEnabled
+-- the ledger closes
+abbrev pub with_ledger_closed : WorldState → WorldState
+with_ledger_closed w = record w { history = record w.history { closed = true } }
 
 -- none of the ledger's events follow those that are read after this moment, up to this number, and none will
 abbrev pub none_follow : History → Poll → Bool
 none_follow h poll = h.closed && nat_le (length (events_after poll.after (events h))) poll.limit
 
+-- ---- the connector
+
+-- a session starts once its number is saved, if there is one
+abbrev pub with_session : WorldState → Option Saved → Outcome
+with_session w (Some saved) = success (record w { held = Some saved; session = Some (new_course saved w.window) })
+with_session w None = Err SessionsExhausted
+
+-- the same where the connector is down
+abbrev pub with_start : WorldState → Option Course → Outcome
+with_start w None = with_session w (begun w.held)
+with_start w (Some course) = Err NotEnabled
+
+-- the connector crashes: its session is gone
+abbrev pub with_crash : WorldState → WorldState
+with_crash w = record w { session = None }
+
 -- the session is offered the events that it wants
-abbrev pub polled : WorldState → Course → Poll → WorldState
-polled w course poll = record w {
+abbrev pub with_poll : WorldState → Course → Poll → WorldState
+with_poll w course poll = record w {
   session = Some (with_offer (take poll.limit (events_after poll.after (events w.history)))
       (none_follow w.history poll) course);
 }
 
 -- the session sends a packet
-abbrev pub sending : WorldState → Course → Packet → WorldState
-sending w course packet = record w {
+abbrev pub with_packet : WorldState → Course → Packet → WorldState
+with_packet w course packet = record w {
   packets = w.packets ++ packet ∷ [];
   session = Some (with_sent (Some packet) course);
 }
-
--- the confirm of a packet that was taken; a connect has none here
-abbrev pub confirms_of : Packet → List Confirm
-confirms_of (Connect session) = []
-confirms_of (Publish session tag item) = record { session = session; answer = Confirmed tag } ∷ []
-
--- a packet that the broker takes, or one that it passes over
-abbrev pub taking_in : WorldState → Packet → Bool → WorldState
-taking_in w packet true = record w {
-  accepted = w.accepted ++ packet ∷ [];
-  confirms = w.confirms ++ confirms_of packet;
-}
-taking_in w packet false = w
-
--- a packet comes to the broker
-abbrev pub arrived : WorldState → Packet → Outcome
-arrived w packet =
-    let taken : Bool = is_taken w.accepted packet in
-    Ok (Arrived taken, record (taking_in w packet taken) { arrivals = w.arrivals + 1 })
 
 -- what the broker says of a packet counts for a session where it confirms one of its tags
 abbrev pub counts : Course → ℕ → BrokerAnswer → Bool
@@ -130,18 +98,43 @@ counts course session Ignored = false
 counts course session Broken = false
 
 -- the session after the broker has said so of one of its packets
-abbrev pub confirmed : Course → ℕ → BrokerAnswer → Course
-confirmed course session (Confirmed tag) = with_confirm session tag course
-confirmed course session Connected = course
-confirmed course session Ignored = course
-confirmed course session Broken = course
+abbrev pub after_answer : Course → ℕ → BrokerAnswer → Course
+after_answer course session (Confirmed tag) = with_confirm session tag course
+after_answer course session Connected = course
+after_answer course session Ignored = course
+after_answer course session Broken = course
 
 -- a confirm comes to the session
-abbrev pub answered : WorldState → Course → Confirm → Outcome
-answered w course confirm = Ok (
+abbrev pub with_answer : WorldState → Course → Confirm → Outcome
+with_answer w course confirm = Ok (
   Counted (counts course confirm.session confirm.answer),
-  record w { session = Some (confirmed course confirm.session confirm.answer); answers = w.answers + 1 },
+  record w { session = Some (after_answer course confirm.session confirm.answer) },
 )
+
+-- the session saves its progress
+abbrev pub with_progress : WorldState → Course → WorldState
+with_progress w course = record w { held = Some (progress_of course) }
+
+-- ---- the broker
+
+-- the confirm of a packet that was taken; a connect has none here
+abbrev pub confirms_of : Packet → List Confirm
+confirms_of (Connect session) = []
+confirms_of (Publish session tag item) = record { session = session; answer = Confirmed tag } ∷ []
+
+-- a packet that the broker takes, or one that it passes over
+abbrev pub with_arrival : WorldState → Packet → Bool → WorldState
+with_arrival w packet true = record w {
+  accepted = w.accepted ++ packet ∷ [];
+  confirms = w.confirms ++ confirms_of packet;
+}
+with_arrival w packet false = w
+
+-- a packet comes to the broker, which takes it or not
+abbrev pub arrival : WorldState → Packet → Outcome
+arrival w packet = Ok (Arrived (is_taken w.accepted packet), with_arrival w packet (is_taken w.accepted packet))
+
+-- ---- the subscribers and their queues
 
 -- the world with another subscription under this number
 abbrev pub with_subscription : ℕ → Subscription → WorldState → WorldState
@@ -149,16 +142,19 @@ with_subscription i s w = record w { subscriptions = with_numbered i s w.subscri
 
 -- what the queue of a subscriber hands out next, if there is anything
 abbrev pub next_delivery : WorldState → Subscription → Option Delivery
-next_delivery w s =
-    option_map (λ item. record { position = s.cursor; item = item }) (slice_get (queue_in w s) (s.cursor - 1))
+next_delivery w s = delivery_at s.cursor (queue_in w s)
 
--- a delivery is on its way
-abbrev pub with_sending : Delivery → Subscription → Subscription
-with_sending delivery s = record s { flight = s.flight ++ delivery ∷ []; cursor = s.cursor + 1 }
+-- a delivery goes on its way
+abbrev pub with_delivery : Delivery → Subscription → Subscription
+with_delivery delivery s = record s { flight = s.flight ++ delivery ∷ []; cursor = after_delivery s.cursor }
 
 -- the queue goes back to what isn't acknowledged
-abbrev pub rewound : Subscription → Subscription
-rewound s = record s { cursor = s.acked + 1 }
+abbrev pub with_rewind : Subscription → Subscription
+with_rewind s = record s { cursor = rewound s.cursor }
+
+-- the same, and what was on its way is lost
+abbrev pub with_break : Subscription → Subscription
+with_break s = record s { flight = []; cursor = rewound s.cursor }
 
 -- the first delivery on its way, and those behind it
 abbrev pub first_flight : List Delivery → Option (Delivery × List Delivery)
@@ -171,71 +167,48 @@ with_taking delivery rest s = record s {
   taken = s.taken ++ delivery ∷ [];
   flight = rest;
   acks = s.acks ++ delivery.position ∷ [];
-  heard = next s.heard delivery.item;
+  heard = next_heard s.heard delivery.item;
 }
 
--- an acknowledgement comes to the queue: it covers all positions up to its own, and the cursor doesn't stay behind
+-- the subscriber's answer to the first of the deliveries on its way
+abbrev pub taking : WorldState → ℕ → Subscription → Delivery × List Delivery → Outcome
+taking w i s first =
+    Ok (Took (answer_to (kept_of s.heard) first.0.item), with_subscription i (with_taking first.0 first.1 s) w)
+
+-- an acknowledgement comes to the queue
 abbrev pub with_ack : ℕ → Subscription → Subscription
-with_ack position s = record s {
-  acked = max s.acked position;
-  cursor = max s.cursor (max s.acked position + 1);
-}
+with_ack position s = record s { cursor = after_ack position s.cursor }
+
+-- it counts, whichever it is
+abbrev pub acknowledgement : WorldState → ℕ → Subscription → ℕ → Outcome
+acknowledgement w i s position = Ok (Counted true, with_subscription i (with_ack position s) w)
 
 -- the subscriber closes
 abbrev pub with_close : Subscription → Subscription
 with_close s = record s { heard = record s.heard { closed = true } }
 
--- what a step answers and does, of these steps that are offered
-abbrev pub next_by : Offered → WorldState → Step → Outcome
-next_by offers w (Submit batch) = submitted w (submit w.history batch)
-next_by offers w CloseLedger = done (record w { history = record w.history { closed = true } })
-next_by offers w Start = starting w w.session
-next_by offers w Crash = do
-  course ← where_so offers.crash w.session
-  done (record w { session = None })
-next_by offers w PollStep = do
-  course ← w.session
-  poll ← wanted course
-  done (polled w course poll)
-next_by offers w PublishStep = do
-  course ← w.session
-  packet ← next_packet course
-  done (sending w course packet)
-next_by offers w (Arrive k) = do
-  packet ← where_so (may_come offers w.arrivals k) (numbered w.packets k)
-  arrived w packet
-next_by offers w (Answer k) = do
-  course ← w.session
-  confirm ← where_so (may_come offers w.answers k) (numbered w.confirms k)
-  answered w course confirm
-next_by offers w Save = do
-  course ← w.session
-  done (record w { held = Some (progress_of course) })
-next_by offers w (Send i) = do
-  s ← numbered w.subscriptions i
-  delivery ← next_delivery w s
-  done (with_subscription i (with_sending delivery s) w)
-next_by offers w (Rewind i) = do
-  s ← where_so offers.rewind (numbered w.subscriptions i)
-  done (with_subscription i (rewound s) w)
-next_by offers w (Break i) = do
-  s ← where_so offers.break_off (numbered w.subscriptions i)
-  done (with_subscription i (record (rewound s) { flight = [] }) w)
-next_by offers w (Take i) = do
-  s ← numbered w.subscriptions i
-  first ← first_flight s.flight
-  Ok (Took (answer_to (kept_of s.heard) first.0.item), with_subscription i (with_taking first.0 first.1 s) w)
-next_by offers w (Ack i k) = do
-  s ← where_so offers.ack (numbered w.subscriptions i)
-  position ← numbered s.acks k
-  Ok (Counted true, with_subscription i (with_ack position s) w)
-next_by offers w (Close i) = do
-  s ← where_so offers.close (numbered w.subscriptions i)
-  done (with_subscription i (with_close s) w)
+-- ---- all steps
 
--- what a step answers and does today
-abbrev pub next_of : WorldState → Step → Outcome
-next_of w step = next_by offered w step
+-- what a step answers and does
+abbrev pub next : WorldState → Step → Outcome
+next w (Submit batch) = with_batch w (submit w.history batch)
+next w CloseLedger = success (with_ledger_closed w)
+next w Start = with_start w w.session
+next w Crash = w.session >>= (λ course. success (with_crash w))
+next w PollStep = w.session >>= (λ course. wanted course >>= (λ poll. success (with_poll w course poll)))
+next w PublishStep = w.session >>= (λ course. next_packet course >>= (λ packet. success (with_packet w course packet)))
+next w (Arrive k) = numbered w.packets k >>= arrival w
+next w (Answer k) = w.session >>= (λ course. numbered w.confirms k >>= with_answer w course)
+next w Save = w.session >>= (λ course. success (with_progress w course))
+next w (Send i) = numbered w.subscriptions i
+    >>= (λ s. next_delivery w s >>= (λ delivery. success (with_subscription i (with_delivery delivery s) w)))
+next w (Rewind i) = numbered w.subscriptions i >>= (λ s. success (with_subscription i (with_rewind s) w))
+next w (Break i) = numbered w.subscriptions i >>= (λ s. success (with_subscription i (with_break s) w))
+next w (Take i) = numbered w.subscriptions i >>= (λ s. first_flight s.flight >>= taking w i s)
+next w (Ack i k) = numbered w.subscriptions i >>= (λ s. numbered s.acks k >>= acknowledgement w i s)
+next w (Close i) = numbered w.subscriptions i >>= (λ s. success (with_subscription i (with_close s) w))
+
+-- ---- whatever is answered
 
 -- what a step saves, if it is one that does
 abbrev pub saves : WorldState → Step → Option Saved
@@ -280,28 +253,22 @@ AfterFailure w step store.WriteFault w' =
 AfterFailure w step store.BadRecord w' = ⊥
 AfterFailure w step store.OutOfMemory w' = ⊥
 
--- a step may be answered so, and leave this world: as `next_by` says; or the store failed, an honest one where the step
+-- a step may be answered so, and leave this world: as `next` says; or the store failed, an honest one where the step
 -- loads; or memory ran out, which leaves the world as it was
-abbrev pub NextBy : Offered → WorldState → Step → Result Did StepError → WorldState → Type 0
-NextBy offers w step (Ok did) w' = next_by offers w step ≡ Ok (did, w')
-NextBy offers w step (Err NotEnabled) w' = (next_by offers w step ≡ Err NotEnabled) × (w' ≡ w)
-NextBy offers w step (Err (Refused why)) w' = (next_by offers w step ≡ Err (Refused why)) × (w' ≡ w)
-NextBy offers w step (Err SessionsExhausted) w' = (next_by offers w step ≡ Err SessionsExhausted) × (w' ≡ w)
-NextBy offers w step (Err OutOfMemory) w' =
-    IsTrue (takes_memory step) × (IsTried (next_by offers w step) × (w' ≡ w))
-NextBy offers w step (Err (Store why)) w' =
-    IsTrue (uses_store step) × (IsTried (next_by offers w step) × AfterFailure w step why w')
-
--- the same today
 abbrev pub Next : WorldState → Step → Result Did StepError → WorldState → Type 0
-Next w step answer w' = NextBy offered w step answer w'
+Next w step (Ok did) w' = next w step ≡ Ok (did, w')
+Next w step (Err NotEnabled) w' = (next w step ≡ Err NotEnabled) × (w' ≡ w)
+Next w step (Err (Refused why)) w' = (next w step ≡ Err (Refused why)) × (w' ≡ w)
+Next w step (Err SessionsExhausted) w' = (next w step ≡ Err SessionsExhausted) × (w' ≡ w)
+Next w step (Err OutOfMemory) w' = IsTrue (takes_memory step) × (IsTried (next w step) × (w' ≡ w))
+Next w step (Err (Store why)) w' =
+    IsTrue (uses_store step) × (IsTried (next w step) × AfterFailure w step why w')
 
 -- steps, with whatever answers, lead from one world to another
-abbrev pub LeadsBy : Offered → WorldState → List Step → WorldState → Type 0
-LeadsBy offers w [] w' = w' ≡ w
-LeadsBy offers w (step ∷ steps) w' =
-    (answer : Result Did StepError) × (between : WorldState) × NextBy offers w step answer between
-    × LeadsBy offers between steps w'
+abbrev pub Leads : WorldState → List Step → WorldState → Type 0
+Leads w [] w' = w' ≡ w
+Leads w (step ∷ steps) w' =
+    (answer : Result Did StepError) × (between : WorldState) × Next w step answer between × Leads between steps w'
 
 -- nothing is held, or a record with the timestamp 0
 abbrev pub IsAtStart : Option Saved → Type 0
@@ -309,14 +276,10 @@ IsAtStart None = Unit {0}
 IsAtStart (Some saved) = saved.timestamp ≡ 0
 
 -- steps lead to this world from one in which nothing has happened, over a store that holds nothing or the timestamp 0
-pub record IsReachedBy (offers : Offered) (w : WorldState) : Type 0 where
+pub record IsReached (w : WorldState) : Type 0 where
   pub bindings : List Arguments
   pub window : ℕ
   pub held : Option Saved
   pub steps : List Step
   pub at_start : IsAtStart held
-  pub leads : LeadsBy offers (new_world bindings window held) steps w
-
--- the same today
-abbrev pub IsReached : WorldState → Type 0
-IsReached w = IsReachedBy offered w
+  pub leads : Leads (new_world bindings window held) steps w

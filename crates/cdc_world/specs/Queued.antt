@@ -1,31 +1,11 @@
--- What holds of a subscriber and its queue after whatever steps.
-use Rattle.std.specs.Prelude.{◌≡◌, ◌⊎◌, ℕ, ◌+◌, ◌-◌, ◌<◌, ◌≤◌, ◌^◌, min, true, false, Some, List, [], ◌∷◌, ◌++◌, Contains, length, map, take}
+-- What holds of a subscriber and its queue after whatever steps. Cited by proofs alone.
+use Rattle.std.specs.Prelude.{◌≡◌, ◌⊎◌, ℕ, ◌+◌, ◌-◌, ◌<◌, ◌≤◌, false, Some, List, [], ◌∷◌, ◌++◌, Contains, length, map, take}
 use Rattle.cdc_message.specs.declared.items.Delivery.{Delivery}
+use Rattle.cdc_laws.specs.Deliveries.{deliveries, items_in, positions_in}
 use Rattle.cdc_message.specs.declared.items.Item.{Item}
-use Rattle.cdc_types.specs.Timestamps.{last_timestamp}
 use Rattle.cdc_message.specs.Replays.{IsReplay}
-use Rattle.cdc_subscriber.specs.Book.{book_of}
 use Rattle.cdc_subscriber.specs.Heard.{has_ended}
-use Rattle.cdc_subscriber.specs.Kept.{Kept}
-use Rattle.cdc_world.specs.Worlds.{Subscription, WorldState, applied, numbered, queue_in}
-
--- the items with their positions, from this position on
-abbrev pub deliveries_from : ℕ → List Item → List Delivery
-deliveries_from position [] = []
-deliveries_from position (item ∷ items) =
-    record { position = position; item = item } ∷ deliveries_from (position + 1) items
-
--- the items with their positions, from 1 on
-abbrev pub deliveries : List Item → List Delivery
-deliveries items = deliveries_from 1 items
-
--- the items of deliveries
-abbrev pub items_in : List Delivery → List Item
-items_in ds = map (λ (d : Delivery). d.item) ds
-
--- their positions
-abbrev pub positions_in : List Delivery → List ℕ
-positions_in ds = map (λ (d : Delivery). d.position) ds
+use Rattle.cdc_world.specs.Worlds.{Subscription, WorldState, numbered, queue_in}
 
 -- all that was handed out and came or may yet come, in order
 abbrev pub sent_to : Subscription → List Delivery
@@ -36,13 +16,13 @@ pub record IsServed (items : List Item) (s : Subscription) : Type 0 where
   -- the queue was handed out late, again or not at all, but nothing else went wrong with it
   pub replay : IsReplay (sent_to s) (deliveries items)
   -- the cursor is in the queue or at its end, and what stands before it was handed out
-  pub from_one : 1 ≤ s.cursor
-  pub within : s.cursor ≤ length items + 1
-  pub behind : (d : Delivery) → Contains (take (s.cursor - 1) (deliveries items)) d → Contains (sent_to s) d
+  pub from_one : 1 ≤ s.cursor.next
+  pub within : s.cursor.next ≤ length items + 1
+  pub behind : (d : Delivery) → Contains (take (s.cursor.next - 1) (deliveries items)) d → Contains (sent_to s) d
   -- the subscriber acknowledged what it took; the broker knows of one of these, or of none, and the cursor is past it
   pub acks : s.acks ≡ positions_in s.taken
-  pub acked : (s.acked ≡ 0) ⊎ Contains s.acks s.acked
-  pub past : s.acked < s.cursor
+  pub acked : (s.cursor.acked ≡ 0) ⊎ Contains s.acks s.cursor.acked
+  pub past : s.cursor.acked < s.cursor.next
   -- the subscriber heard the first of what it took, and all of that while it is neither closed nor ended
   pub heard : (n : ℕ) × (s.heard.items ≡ items_in (take n s.taken))
   pub listening : s.heard.closed ≡ false → has_ended s.heard ≡ false → s.heard.items ≡ items_in s.taken
@@ -54,24 +34,3 @@ IsQueued w s = IsServed (queue_in w s) s
 -- the same of all subscribers
 abbrev pub AreQueued : WorldState → Type 0
 AreQueued w = (i : ℕ) (s : Subscription) → numbered w.subscriptions i ≡ Some s → IsQueued w s
-
--- what a subscriber keeps, told by what it has applied
-abbrev pub kept_from : Subscription → Kept
-kept_from s = record {
-  book = book_of (applied s);
-  last = last_timestamp (applied s);
-  applied = min (length (applied s)) (2 ^ 64 - 1);
-  ended = has_ended s.heard;
-  closed = s.heard.closed;
-}
-
--- a subscriber is the same one after a step: its binding stays, and so does all that it heard once it is closed
-pub record Stays (before after : Subscription) : Type 0 where
-  pub binding : after.binding ≡ before.binding
-  pub closed : before.heard.closed ≡ true → after.heard ≡ before.heard
-
--- each subscriber stays, under its number
-abbrev pub AllStay : WorldState → WorldState → Type 0
-AllStay w w' =
-    (i : ℕ) (before : Subscription) → numbered w.subscriptions i ≡ Some before
-    → (after : Subscription) × (numbered w'.subscriptions i ≡ Some after) × Stays before after

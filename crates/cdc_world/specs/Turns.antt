@@ -1,36 +1,66 @@
--- What the parts of a world do in a step. Cited by private contracts alone.
-use Rattle.std.specs.Prelude.{◌≡◌, ℕ, ◌-◌, ◌==◌, ◌&&◌, nat_lt, Bool, true, false, Option, Some, None, Result, Ok, Err, List, [], ◌∷◌, ◌++◌, if◌then◌else◌, take}
+-- What the actors of a world do in a step. Cited by private contracts alone.
+use Rattle.std.specs.Prelude.{◌≡◌, ℕ, ◌-◌, ◌==◌, nat_lt, Bool, true, false, Option, Some, None, Result, Ok, Err, List, [], ◌∷◌, ◌++◌, if◌then◌else◌, length, replicate, take}
 use Rattle.std.specs.declared.alloc.AllocError.{AllocError}
-use Rattle.cdc_broker.specs.Broker.{BrokerState, connected, published, queue_of, with_queue}
-use Rattle.cdc_broker.specs.Queues.{moved_on}
+use Rattle.cdc_broker.specs.Broker.{BrokerState, after_packet, empty_broker, queue_of, takes_packet, with_queue}
+use Rattle.cdc_broker.specs.Queues.{with_delivery}
 use Rattle.cdc_ledger.specs.Events.{events}
-use Rattle.cdc_ledger.specs.History.{History}
+use Rattle.cdc_ledger.specs.History.{History, empty_history}
 use Rattle.cdc_log.specs.Log.{events_after}
+use Rattle.cdc_match.specs.Arguments.{Arguments}
 use Rattle.cdc_message.specs.declared.items.Delivery.{Delivery}
 use Rattle.cdc_message.specs.declared.packets.Confirm.{Confirm}
 use Rattle.cdc_message.specs.declared.packets.Packet.{Packet}
-use Rattle.cdc_message.specs.declared.packets.Packet.TheVariants.{Connect, Publish}
 use Rattle.cdc_publisher.specs.Courses.{Course, next_packet, wanted, with_offer, with_sent}
 use Rattle.cdc_publisher.specs.Kept.{Kept}
 use Rattle.cdc_publisher.specs.Stands.{StandsFor}
 use Rattle.cdc_publisher.specs.declared.session.Poll.{Poll}
 use Rattle.cdc_subscriber.specs.Answers.{answer_to}
-use Rattle.cdc_subscriber.specs.Heard.{Heard, kept_of, next, nothing}
+use Rattle.cdc_subscriber.specs.Heard.{Heard, kept_of, next as next_heard, nothing}
 use Rattle.cdc_subscriber.specs.declared.subscriber.Taking.{Taking}
-use Rattle.cdc_world.specs.declared.seats.Seat.{Seat}
+use Rattle.cdc_types.specs.declared.steps.Step.{Step}
+use Rattle.cdc_world.specs.declared.steps.Did.{Did}
 use Rattle.cdc_world.specs.declared.steps.StepError.{StepError}
-use Rattle.cdc_world.specs.declared.steps.StepError.TheVariants.{NotEnabled, OutOfMemory}
-use Rattle.cdc_world.specs.Next.{confirms_of, none_follow}
-use Rattle.cdc_world.specs.Packets.{is_tag}
-use Rattle.cdc_world.specs.Stands.{SeatState}
+use Rattle.cdc_world.specs.declared.steps.StepError.TheVariants.{NotEnabled, Refused, Store, SessionsExhausted, OutOfMemory}
+use Rattle.cdc_world.specs.Next.{Next, confirms_of, none_follow}
+use Rattle.cdc_world.specs.Parts.{ActorParts, SubscriptionParts}
+use Rattle.cdc_world.specs.Stands.{ActorsStand}
+use Rattle.cdc_world.specs.Worlds.{WorldState}
 
--- a seat as clauses see it
-abbrev pub seat_state : Seat → SeatState
-seat_state seat = record { kept = seat.subscriber; flight = seat.flight.items; acks = seat.acks.items }
+-- a step isn't refused for the store's sake
+abbrev pub IsNotOfStore : StepError → Type 0
+IsNotOfStore (Store why) = ⊥
+IsNotOfStore NotEnabled = Unit {0}
+IsNotOfStore (Refused why) = Unit {0}
+IsNotOfStore SessionsExhausted = Unit {0}
+IsNotOfStore OutOfMemory = Unit {0}
 
--- the seat of a subscriber that nothing has come to
-abbrev pub empty_seat : SeatState
-empty_seat = record { kept = kept_of nothing; flight = []; acks = [] }
+-- nor is one that is done
+abbrev pub IsOfActors : Result Did StepError → Type 0
+IsOfActors (Ok did) = Unit {0}
+IsOfActors (Err why) = IsNotOfStore why
+
+-- what is kept of the actors goes on like this by a step that leaves the store alone: whatever state it stood for, it
+-- stands for one that the step may leave, in which the store holds what it held
+abbrev pub ActorsMove : ActorParts → Step → Result Did StepError → ActorParts → Type 0
+ActorsMove a step answer a' =
+    IsOfActors answer × ((w : WorldState) → ActorsStand a w
+    → (w' : WorldState) × (ActorsStand a' w' × (Next w step answer w' × (w'.held ≡ w.held))))
+
+-- what is kept of a subscription that nothing has come to
+abbrev pub empty_subscription : SubscriptionParts
+empty_subscription = record { kept = kept_of nothing; flight = []; acks = [] }
+
+-- what is kept of actors who have done nothing, with a subscription for each of these bindings
+abbrev pub empty_actors : List Arguments → ℕ → ActorParts
+empty_actors bindings window = record {
+  history = empty_history;
+  window = window;
+  session = None;
+  packets = [];
+  broker = empty_broker bindings;
+  confirms = [];
+  subscriptions = replicate (length bindings) empty_subscription;
+}
 
 -- a session that stands for a course is offered the events that it wants of a ledger's, where it wants any
 abbrev pub OffersAt : History → Kept → Course → Option Poll → Result (Unit {0}) StepError → Kept → Type 0
@@ -59,16 +89,6 @@ abbrev pub Sends : Kept → List Packet → Result (Unit {0}) StepError → Kept
 Sends kept packets answer kept' packets' =
     (course : Course) → StandsFor kept course → SendsAt kept packets course (next_packet course) answer kept' packets'
 
--- whether a broker takes a packet
-abbrev pub takes_packet : BrokerState → Packet → Bool
-takes_packet b (Connect session) = nat_lt b.connection session
-takes_packet b (Publish session tag item) = (session == b.connection) && is_tag b.expected tag
-
--- the broker after a packet that it took
-abbrev pub after_packet : BrokerState → Packet → BrokerState
-after_packet b (Connect session) = connected session b
-after_packet b (Publish session tag item) = published tag item b
-
 -- a packet comes to a broker, and is confirmed where it is taken and has a confirm; where memory ran out nothing
 -- changes
 abbrev pub ComesTo : BrokerState → List Confirm → Packet → Result Bool AllocError → BrokerState → List Confirm → Type 0
@@ -78,29 +98,35 @@ ComesTo b confirms packet (Ok false) b' confirms' =
     (takes_packet b packet ≡ false) × ((b' ≡ b) × (confirms' ≡ confirms))
 ComesTo b confirms packet (Err _) b' confirms' = (b' ≡ b) × (confirms' ≡ confirms)
 
--- a queue hands out its next delivery, if there is one, to the back of those that are on their way to a seat
-abbrev pub HandsAt : ℕ → BrokerState → SeatState → Option Delivery → Result (Unit {0}) StepError → BrokerState
-    → SeatState
+-- a queue hands out its next delivery, if there is one, to the back of those that are on their way to a subscriber
+abbrev pub HandsAt : ℕ → BrokerState → SubscriptionParts → Option Delivery → Result (Unit {0}) StepError → BrokerState
+    → SubscriptionParts
     → Type 0
 HandsAt i b s None answer b' s' = (answer ≡ Err NotEnabled) × ((b' ≡ b) × (s' ≡ s))
 HandsAt i b s (Some delivery) (Ok _) b' s' =
-    (b' ≡ with_queue i (moved_on (Some delivery) (queue_of b i)) b)
+    (b' ≡ with_queue i (with_delivery (Some delivery) (queue_of b i)) b)
     × (s' ≡ record s { flight = s.flight ++ delivery ∷ [] })
 HandsAt i b s (Some delivery) (Err why) b' s' = (why ≡ OutOfMemory) × ((b' ≡ b) × (s' ≡ s))
 
 -- a subscriber has taken a delivery, and left these: it answers, acknowledges the position and hears the item
-pub record HasTaken (s : SeatState) (delivery : Delivery) (rest : List Delivery) (answer : Taking) (s' : SeatState)
-    : Type 0 where
-  pub answered : answer ≡ answer_to s.kept delivery.item
+pub record HasTaken (s : SubscriptionParts) (delivery : Delivery) (rest : List Delivery) (answer : Taking)
+    (s' : SubscriptionParts) : Type 0 where
+  pub answers : answer ≡ answer_to s.kept delivery.item
   pub flight : s'.flight ≡ rest
   pub acks : s'.acks ≡ s.acks ++ delivery.position ∷ []
-  pub hears : (heard : Heard) → s.kept ≡ kept_of heard → s'.kept ≡ kept_of (next heard delivery.item)
+  pub hears : (heard : Heard) → s.kept ≡ kept_of heard → s'.kept ≡ kept_of (next_heard heard delivery.item)
 
 -- a subscriber takes the first of the deliveries on their way to it, if there is one
-abbrev pub TakesAt : SeatState → List Delivery → Result Taking StepError → SeatState → Type 0
+abbrev pub TakesAt : SubscriptionParts → List Delivery → Result Taking StepError → SubscriptionParts → Type 0
 TakesAt s [] answer s' = (answer ≡ Err NotEnabled) × (s' ≡ s)
 TakesAt s (delivery ∷ rest) (Ok taking) s' = HasTaken s delivery rest taking s'
 TakesAt s (delivery ∷ rest) (Err why) s' = (why ≡ OutOfMemory) × (s' ≡ s)
+
+-- a subscriber closes, and nothing else changes
+pub record HasClosed (s s' : SubscriptionParts) : Type 0 where
+  pub flight : s'.flight ≡ s.flight
+  pub acks : s'.acks ≡ s.acks
+  pub closes : (heard : Heard) → s.kept ≡ kept_of heard → s'.kept ≡ kept_of (record heard { closed = true })
 
 -- the place of a number, from 1 on, among so many
 abbrev pub place_in : ℕ → ℕ → Option ℕ

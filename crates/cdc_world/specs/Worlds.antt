@@ -1,5 +1,7 @@
 -- The world: all that the actors have done, as far as anything to come can depend on it.
 use Rattle.std.specs.Prelude.{ℕ, ◌-◌, ◌==◌, Option, None, List, [], map, slice_get, slice_set, if◌then◌else◌}
+use Rattle.cdc_broker.specs.Cursors.{Cursor, first_cursor}
+use Rattle.cdc_broker.specs.Packets.{items_of}
 use Rattle.cdc_ledger.specs.History.{History, empty_history}
 use Rattle.cdc_match.specs.Arguments.{Arguments}
 use Rattle.cdc_match.specs.Queue.{queue}
@@ -7,29 +9,24 @@ use Rattle.cdc_message.specs.declared.items.Delivery.{Delivery}
 use Rattle.cdc_message.specs.declared.items.Item.{Item}
 use Rattle.cdc_message.specs.declared.packets.Confirm.{Confirm}
 use Rattle.cdc_message.specs.declared.packets.Packet.{Packet}
-use Rattle.cdc_message.specs.Items.{events_of, same_item}
-use Rattle.cdc_message.specs.Replays.{firsts}
 use Rattle.cdc_progress.specs.Records.{Saved}
 use Rattle.cdc_publisher.specs.Courses.{Course}
 use Rattle.cdc_subscriber.specs.Heard.{Heard, nothing}
-use Rattle.cdc_types.specs.declared.events.Event.{Event}
-use Rattle.cdc_world.specs.Packets.{items_of}
 
 -- a subscriber and its queue: the binding; what the queue handed out and the subscriber has taken, in order; what was
--- handed out and is on its way; the positions that the subscriber has acknowledged, in order; the position that the
--- queue hands out next; the one up to which the broker knows all to be acknowledged; and what the subscriber has heard
+-- handed out and is on its way; the positions that the subscriber has acknowledged, in order; the cursor of the queue;
+-- and what the subscriber has heard
 pub record Subscription : Type 0 where
   pub binding : Arguments
   pub taken : List Delivery
   pub flight : List Delivery
   pub acks : List ℕ
-  pub cursor : ℕ
-  pub acked : ℕ
+  pub cursor : Cursor
   pub heard : Heard
 
 -- the ledger's history; what the store holds; for how many events a session waits at a time; the connector's session,
 -- none where it is down; the packets and the confirms that were ever sent, in order; the packets that the broker took,
--- one after another; how many times a packet, and a confirm, has come; and the subscribers with their queues
+-- one after another; and the subscribers with their queues
 pub record WorldState : Type 0 where
   pub history : History
   pub held : Option Saved
@@ -38,8 +35,6 @@ pub record WorldState : Type 0 where
   pub packets : List Packet
   pub confirms : List Confirm
   pub accepted : List Packet
-  pub arrivals : ℕ
-  pub answers : ℕ
   pub subscriptions : List Subscription
 
 -- a subscriber that nothing has come to
@@ -49,8 +44,7 @@ new_subscription binding = record {
   taken = [];
   flight = [];
   acks = [];
-  cursor = 1;
-  acked = 0;
+  cursor = first_cursor;
   heard = nothing;
 }
 
@@ -64,8 +58,6 @@ new_world bindings window held = record {
   packets = [];
   confirms = [];
   accepted = [];
-  arrivals = 0;
-  answers = 0;
   subscriptions = map new_subscription bindings;
 }
 
@@ -84,7 +76,3 @@ taken_items w = items_of w.accepted
 -- the queue of a subscriber
 abbrev pub queue_in : WorldState → Subscription → List Item
 queue_in w s = queue (taken_items w) s.binding
-
--- the events that a subscriber has applied: those that it has heard, without repeats
-abbrev pub applied : Subscription → List Event
-applied s = events_of (firsts same_item s.heard.items)

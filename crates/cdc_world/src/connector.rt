@@ -6,9 +6,8 @@ ghost use Rattle.cdc_log.specs.Log.{events_after};
 ghost use Rattle.cdc_publisher.specs.Courses.{Course};
 ghost use Rattle.cdc_publisher.specs.Offers.{IsReply};
 ghost use Rattle.cdc_publisher.specs.Stands.{StandsFor};
-ghost use Rattle.cdc_world.specs.Next.{confirmed, counts, none_follow as none_follows};
-ghost use Rattle.cdc_world.specs.Stands.{IsNotOfStore};
-ghost use Rattle.cdc_world.specs.Turns.{Offers, Sends};
+ghost use Rattle.cdc_world.specs.Next.{after_answer, counts, none_follow as none_follows};
+ghost use Rattle.cdc_world.specs.Turns.{IsNotOfStore, Offers, Sends};
 
 use crate::steps::StepError;
 use cdc_ledger::Ledger;
@@ -32,7 +31,8 @@ pub(crate) fn poll(alloc: Global, ledger: &Ledger, session: &mut Session) -> Res
 
 /// The events that are wanted.
 fn read(alloc: Global, ledger: &Ledger, poll: Poll) -> Result<Vec<Event>, AllocError>
-    ensures events { IfOk result (λ read. read.items ≡ take poll.limit (events_after poll.after (events_of ledger.now))) }
+    ensures events { IfOk result (λ read.
+        read.items ≡ take poll.limit (events_after poll.after (events_of ledger.now))) }
     ensures reply { IfOk result (λ read. IsReply poll read.items) }
 {
     let last = ledger.last();
@@ -77,7 +77,7 @@ pub(crate) fn take_confirm(session: &mut Session, confirm: Confirm) -> bool
     ensures answer { (course : Course) → StandsFor session.old course
         → result ≡ counts course confirm.session confirm.answer }
     ensures stands { (course : Course) → StandsFor session.old course
-        → StandsFor session.new (confirmed course confirm.session confirm.answer) }
+        → StandsFor session.new (after_answer course confirm.session confirm.answer) }
 {
     match confirm.answer {
         Answer::Confirmed(tag) => session.confirm(confirm.session, tag),

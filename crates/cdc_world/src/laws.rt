@@ -3,7 +3,7 @@
 ghost use Rattle.cdc_world.specs.Laws.{ClosedSubscribersStay, NewWorldsAreReached, PlaysGoOn, StepsGoOn, SubscribersAreFaithful};
 
 /// Does nothing: each clause holds of every world that steps lead to from one in which nothing has happened, over a store
-/// that holds nothing or the timestamp 0, and whichever of the steps are offered. A subscriber has applied the first so
+/// that holds nothing or the timestamp 0. A subscriber has applied the first so
 /// many of the events that its binding takes, in order and none twice, and all of them once it has heard the end. A close
 /// changes nothing of that. Where the binding takes every event, the book shows the balances that the ledger had at the
 /// last event applied.

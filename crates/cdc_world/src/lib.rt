@@ -1,12 +1,13 @@
 //! The world of all actors: ledger, connector, broker and subscribers, moved one action of one actor at a time.
 #![tactic(auto)]
 
+mod actors;
+mod broker;
 mod connector;
 pub mod laws;
 mod refusals;
-mod seats;
 pub mod steps;
-mod taking;
+mod subscriptions;
 #[cfg(test)]
 mod tests;
 pub mod world;

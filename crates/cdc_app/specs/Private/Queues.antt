@@ -1,7 +1,8 @@
 -- The queues of a broker while they are filled and taken.
 use Rattle.std.specs.Prelude.{◌≡◌, ℕ, ◌+◌, List, [], ◌∷◌, ◌++◌, map, Option, Some, None}
 use Rattle.cdc_broker.specs.Broker.{BrokerState, queue_of, with_queue}
-use Rattle.cdc_broker.specs.Queues.{QueueState, empty_queue, moved_on, next_delivery}
+use Rattle.cdc_broker.specs.Cursors.{first_cursor}
+use Rattle.cdc_broker.specs.Queues.{QueueState, empty_queue, next_delivery, with_delivery}
 use Rattle.cdc_match.specs.Arguments.{Arguments}
 use Rattle.cdc_match.specs.Queue.{queue}
 use Rattle.cdc_message.specs.declared.items.Item.{Item}
@@ -21,7 +22,7 @@ filled_queues items bindings = map (filled items) bindings
 
 -- nothing was taken from the queue
 abbrev pub IsUntaken : QueueState → Type 0
-IsUntaken q = q.cursor ≡ 1
+IsUntaken q = q.cursor ≡ first_cursor
 
 -- only the queue of this number changes
 abbrev pub ChangesQueue : ℕ → BrokerState → BrokerState → Type 0
@@ -33,13 +34,13 @@ takers_text n [] = []
 takers_text n (q ∷ rest) = subscriber_text n (kept_of (hearing q.items)) ++ takers_text (n + 1) rest
 
 -- what was heard after a delivery, if there was one
-abbrev pub with_delivery : Option Delivery → Heard → Heard
-with_delivery None heard = heard
-with_delivery (Some delivery) heard = next heard delivery.item
+abbrev pub hearing_delivery : Option Delivery → Heard → Heard
+hearing_delivery None heard = heard
+hearing_delivery (Some delivery) heard = next heard delivery.item
 
 -- a subscriber that stands for what it has heard takes what a queue hands out next, if there is something
 abbrev pub TakesNext : ℕ → BrokerState → BrokerState → Kept → Kept → Type 0
 TakesNext i old new before after =
-    (new ≡ with_queue i (moved_on (next_delivery (queue_of old i)) (queue_of old i)) old)
+    (new ≡ with_queue i (with_delivery (next_delivery (queue_of old i)) (queue_of old i)) old)
     × ((heard : Heard) → before ≡ kept_of heard
-    → after ≡ kept_of (with_delivery (next_delivery (queue_of old i)) heard))
+    → after ≡ kept_of (hearing_delivery (next_delivery (queue_of old i)) heard))

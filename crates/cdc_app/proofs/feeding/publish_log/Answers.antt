@@ -1,5 +1,6 @@
 use Rattle.std.proofs.Common.{◌+◌, ◌<◌, ◌≤◌, ◌∙◌, ap, sym, length, arith}
-use Rattle.cdc_broker.specs.Broker.{published, max_64}
+use Rattle.cdc_types.specs.Widths.{max_64}
+use Rattle.cdc_broker.specs.Broker.{published}
 use Rattle.cdc_message.specs.declared.items.Item.TheVariants.{Event as OfEvent}
 use Rattle.cdc_types.specs.declared.events.Event.{Event}
 use Rattle.cdc_app.proofs.FeedLemmas.{IsFilled-connected, IsFilled-more, queues_whole}

@@ -1,8 +1,6 @@
-use Rattle.std.proofs.Common.{◌≡◌, ◌∙◌, true, ap, ap₂, sym}
-use Rattle.std.specs.FinSet as set
-use Rattle.cdc_expiry.specs.declared.triple.Triple.{Triple}
-use Rattle.cdc_expiry.specs.Triples.{Triples, without}
-use Rattle.cdc_ledger.specs.OpenTriples.{ends_after, opens}
+use Rattle.std.proofs.Common.{◌∙◌, ap, sym}
+use Rattle.cdc_expiry.specs.Triples.{without}
+use Rattle.cdc_ledger.specs.OpenTriples.{ends_after}
 use Rattle.cdc_ledger.proofs.recording.follow_end.Goals as goal
 
 pub returns-in-Some-clause-triples : goal.returns-in-Some-clause-triples

@@ -3,7 +3,7 @@ use Rattle.cdc_types.specs.declared.accounts.Account.{Account}
 use Rattle.cdc_ledger.specs.Accounts.{no_balances}
 use Rattle.cdc_ledger.specs.Effects.{Effect}
 use Rattle.cdc_ledger.specs.Events.{account_with, nobody}
-use Rattle.cdc_ledger.specs.Movements.{debited, credited, effect_of_movement}
+use Rattle.cdc_ledger.specs.Movements.{debited_account, credited_account, effect_of_movement}
 use Rattle.cdc_ledger.proofs.Places.{place-inside, place-id, credit-unchanged, both-changed}
 use Rattle.cdc_ledger.proofs.movements.Movement.apply.Goals as goal
 
@@ -32,8 +32,8 @@ returns c =
     let xs = c.args.accounts.now in
     let d : Account = account_with nobody no_balances in
     both-changed xs m c.requires.placed c.requires.apart d c.debit.new.account c.credit.new.account c.requires.unique
-    (c.debit.ensures ∙ ap (λ (f : Effect). debited f (get_or xs m.debit d)) c.effect-effect.ensures)
-    (c.credit.ensures ∙ ap (λ (f : Effect). credited f (get_or (set xs m.debit c.debit.new.account) m.credit d))
+    (c.debit.ensures ∙ ap (λ (f : Effect). debited_account f (get_or xs m.debit d)) c.effect-effect.ensures)
+    (c.credit.ensures ∙ ap (λ (f : Effect). credited_account f (get_or (set xs m.debit c.debit.new.account) m.credit d))
     c.effect-effect.ensures
-    ∙ ap (credited (effect_of_movement m))
+    ∙ ap (credited_account (effect_of_movement m))
     (credit-unchanged xs m c.requires.placed c.requires.apart d c.debit.new.account))

@@ -13,10 +13,10 @@ use Rattle.cdc_ledger.specs.Filling.{stored, expires_at}
 use Rattle.cdc_ledger.specs.Follows.{Follows}
 use Rattle.cdc_ledger.specs.History.{opened}
 use Rattle.cdc_ledger.specs.Kinds.{holds}
-use Rattle.cdc_ledger.specs.Parts.{field_lines, end_lines}
+use Rattle.cdc_ledger.specs.Parts.{end_lines_of}
 use Rattle.cdc_ledger.specs.Sound.{Stands}
 use Rattle.cdc_ledger.specs.Submit.{entry_of}
-use Rattle.cdc_ledger.specs.Verdict.{max_timestamp, transfer_lines}
+use Rattle.cdc_ledger.specs.Verdict.{max_timestamp, field_lines, transfer_lines}
 use Rattle.cdc_ledger.proofs.AcceptedLaws.{Follows-accepted}
 use Rattle.cdc_ledger.proofs.Judged.{first_line-field, first_line-end, filled-settling, settled-settling}
 use Rattle.cdc_ledger.proofs.LineLaws.{test_fails}
@@ -56,7 +56,7 @@ returns-in-Some-end_refusal c =
     let there : stored h r.pending_id ≡ Some x = sym c.entry.ensures ∙ ap option_copied c.in-Some.is in
     first_line-end h r n x c.requires.shape c.requires.unknown c.requires.settles there
     c.entries-entries.ensures.sound.past (omega arith) (sym c.field_refusal.ensures ∙ c.in_default-field_refusal.is)
-    ∙ ap (λ (es : List Entry). first_line (end_lines es x.transfer n)) (sym c.entries-entries.ensures.entries)
+    ∙ ap (λ (es : List Entry). first_line (end_lines_of es x.transfer n)) (sym c.entries-entries.ensures.entries)
     ∙ sym c.end_refusal.ensures ∙ c.in-Some-end_refusal.is
 
 -- no line refuses it: its entry may come next, so its accounts are there
@@ -70,7 +70,7 @@ settling-requires c =
     let unrefused : first_line (transfer_lines features h r n) ≡ None =
     first_line-end h r n x c.requires.shape c.requires.unknown c.requires.settles there
     c.entries-entries.ensures.sound.past (omega arith) (sym c.field_refusal.ensures ∙ c.in_default-field_refusal.is)
-    ∙ ap (λ (es : List Entry). first_line (end_lines es x.transfer n)) (sym c.entries-entries.ensures.entries)
+    ∙ ap (λ (es : List Entry). first_line (end_lines_of es x.transfer n)) (sym c.entries-entries.ensures.entries)
     ∙ sym c.end_refusal.ensures ∙ c.in_default-end_refusal.is in
     let HasBoth : Transfer → Type 0 =
     λ y. IsSome (opened h y.debit_account_id) × IsSome (opened h y.credit_account_id) in
@@ -91,7 +91,7 @@ returns c =
     let unrefused : first_line (transfer_lines features h r n) ≡ None =
     first_line-end h r n x c.requires.shape c.requires.unknown c.requires.settles there
     c.entries-entries.ensures.sound.past (omega arith) (sym c.field_refusal.ensures ∙ c.in_default-field_refusal.is)
-    ∙ ap (λ (es : List Entry). first_line (end_lines es x.transfer n)) (sym c.entries-entries.ensures.entries)
+    ∙ ap (λ (es : List Entry). first_line (end_lines_of es x.transfer n)) (sym c.entries-entries.ensures.entries)
     ∙ sym c.end_refusal.ensures ∙ c.in_default-end_refusal.is in
     record {
       unrefused = unrefused;

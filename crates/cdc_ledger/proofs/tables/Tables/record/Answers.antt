@@ -8,8 +8,8 @@ use Rattle.cdc_ledger.specs.declared.tables.Tables.TheInside.{Inside}
 use Rattle.cdc_ledger.specs.Accounts.{event_from}
 use Rattle.cdc_ledger.specs.Changes.{pushed}
 use Rattle.cdc_ledger.specs.Contents.{Contents}
-use Rattle.cdc_ledger.specs.Effects.{account_changed}
-use Rattle.cdc_ledger.specs.Movements.{IsPlaced, Takes, account_ids, accounts_changed, effect_of_movement}
+use Rattle.cdc_ledger.specs.Effects.{account_after}
+use Rattle.cdc_ledger.specs.Movements.{IsPlaced, Takes, account_ids, accounts_after, effect_of_movement}
 use Rattle.cdc_ledger.specs.Sound.{AreApart}
 use Rattle.cdc_ledger.specs.Tables.{history_of}
 use Rattle.cdc_ledger.proofs.IndexKept.{opens-end, opens-new, opens-unsettling, settled-end}
@@ -70,7 +70,7 @@ event-requires c =
     IsPlaced-changed m t.accounts.items c.as_slice.result.now
     (c.as_slice.ensures.value
     ∙ items-with_items t.accounts
-    (account_changed (effect_of_movement m) m.entry.transfer.debit_account_id m.entry.transfer.credit_account_id)
+    (account_after (effect_of_movement m) m.entry.transfer.debit_account_id m.entry.transfer.credit_account_id)
     c.apply.new.accounts c.as_mut_slice.result.now c.apply.ensures c.as_mut_slice.ensures.value)
     (IsPlaced-kept t m can)
 
@@ -98,9 +98,9 @@ invariant_of-self c =
       index = c.follow_end.new.index;
       last = m.entry.timestamp;
     } in
-    let accounts : t'.accounts.items ≡ accounts_changed m t.accounts.items =
+    let accounts : t'.accounts.items ≡ accounts_after m t.accounts.items =
     items-with_items t.accounts
-    (account_changed (effect_of_movement m) m.entry.transfer.debit_account_id m.entry.transfer.credit_account_id)
+    (account_after (effect_of_movement m) m.entry.transfer.debit_account_id m.entry.transfer.credit_account_id)
     c.apply.new.accounts c.as_mut_slice.result.now c.apply.ensures c.as_mut_slice.ensures.value in
     let told : t'.log.events ≡ t.log.events ++ event_from t'.accounts.items m.entry ∷ [] =
     c.push.ensures.events
@@ -123,7 +123,7 @@ returns-clause-history c =
     } in
     history-recorded m t t'
     (items-with_items t.accounts
-    (account_changed (effect_of_movement m) m.entry.transfer.debit_account_id m.entry.transfer.credit_account_id)
+    (account_after (effect_of_movement m) m.entry.transfer.debit_account_id m.entry.transfer.credit_account_id)
     c.apply.new.accounts c.as_mut_slice.result.now c.apply.ensures c.as_mut_slice.ensures.value)
     c.push_reserved.ensures.items refl refl
     ∙ ap (λ (v : Contents). pushed v.history m.entry) c.self.view_is

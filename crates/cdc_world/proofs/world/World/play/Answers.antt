@@ -1,4 +1,6 @@
-use Rattle.cdc_world.proofs.Playing.{HasDone-more, Plays-stopped}
+use Rattle.std.proofs.Common.{Some, None, length}
+use Rattle.cdc_world.proofs.Fixed.{PlayFixesClosed-plays}
+use Rattle.cdc_world.proofs.Playing.{HasDone-more, Plays-ended, Plays-stopped}
 use Rattle.cdc_world.proofs.world.World.play.Goals as goal
 
 pub loop-done-preserved : goal.loop-done-preserved
@@ -13,3 +15,16 @@ returns-in-Err-clause-plays g c =
     Plays-stopped c.args.self.now c.loop-done.self c.step.new.self c.args.steps.now c.loop-done.done
     c.index-steps-done.result c.in-Err.why c.loop-done-test.true c.index-steps-done.is c.loop-done.invariant
     c.in-Err.ensures.next
+
+pub returns-in-Err-clause-fixed : goal.returns-in-Err-clause-fixed
+returns-in-Err-clause-fixed g c =
+    PlayFixesClosed-plays c.args.self.now c.args.steps.now c.loop-done.done (Some c.in-Err.why) c.step.new.self
+    (Plays-stopped c.args.self.now c.loop-done.self c.step.new.self c.args.steps.now c.loop-done.done
+    c.index-steps-done.result c.in-Err.why c.loop-done-test.true c.index-steps-done.is c.loop-done.invariant
+    c.in-Err.ensures.next)
+
+pub returns-clause-fixed : goal.returns-clause-fixed
+returns-clause-fixed g c =
+    PlayFixesClosed-plays c.args.self.now c.args.steps.now (length c.args.steps.now) None c.loop-done.self
+    (Plays-ended c.args.self.now c.loop-done.self c.args.steps.now c.loop-done.done c.loop-done-test.false
+    c.loop-done.auto.done-end c.loop-done.invariant)

@@ -1,20 +1,17 @@
-use Rattle.std.proofs.Common.{◌≡◌, Some, ap, ◌∙◌}
-use Rattle.cdc_world.specs.Stands.{Parts, SeatState, Stands}
-use Rattle.cdc_subscriber.specs.Heard.{kept_of}
-use Rattle.cdc_world.specs.Worlds.{Subscription, WorldState, numbered}
+use Rattle.std.proofs.Common.{sym, ap, ◌∙◌, subst}
+use Rattle.cdc_world.specs.Parts.{Parts, SubscriptionParts, subscription_parts}
+use Rattle.cdc_world.specs.Stands.{ActorsStand}
 use Rattle.cdc_world.proofs.Reached.{faithful-reached, kept-reached}
-use Rattle.cdc_world.proofs.Stepping.{seat_read}
+use Rattle.cdc_world.proofs.Subscribing.{parts_read}
 use Rattle.cdc_world.proofs.world.World.subscriber.Goals as goal
 
-pub returns : goal.returns
-returns g c =
-    let heard : (w : WorldState) → Stands c.args.self.now w → (s : Subscription)
-    → numbered w.subscriptions c.args.i ≡ Some s → c.index.result.now.subscriber ≡ kept_of s.heard =
-    λ w st s there. ap (λ (t : SeatState). t.kept)
-    (seat_read c.args.self.now w c.self.inside.seats.items c.args.i c.index.result.now s st
-    (ap (λ (p : Parts). p.seats) c.self.view_is) c.requires.first c.requires.last c.index.ensures there) in
-    record {
-      heard = heard;
-      applied = λ w st reached s there. heard w st s there ∙ kept-reached w c.args.i s reached there;
-      faithful = λ w st reached s there. faithful-reached w c.args.i s reached there;
-    }
+pub returns-clause-applied : goal.returns-clause-applied
+returns-clause-applied g c = λ w st reached s there.
+    ap (λ (t : SubscriptionParts). t.kept)
+    (parts_read c.self.inside.actors w c.args.i (subscription_parts c.subscription.result.now) s
+    (subst (λ (p : Parts). ActorsStand p.actors w) (sym c.self.view_is) st.actors) c.requires.first
+    c.subscription.ensures there)
+    ∙ kept-reached w c.args.i s reached there
+
+pub returns-clause-faithful : goal.returns-clause-faithful
+returns-clause-faithful g c = λ w st reached s there. faithful-reached w c.args.i s reached there

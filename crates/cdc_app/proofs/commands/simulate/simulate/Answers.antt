@@ -1,0 +1,8 @@
+use Rattle.std.proofs.Common.{refl}
+use Rattle.cdc_app.proofs.OutputLemmas.{writes_made}
+use Rattle.cdc_app.proofs.commands.simulate.simulate.Goals as goal
+
+pub returns-clause-writes : goal.returns-clause-writes
+returns-clause-writes g c =
+    writes_made _ _ _ c.read_simulation.result _ c.print_output.ensures.text c.print_output.ensures.fault
+    c.read_simulation.ensures.output (λ why. refl)

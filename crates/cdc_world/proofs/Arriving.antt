@@ -1,0 +1,165 @@
+-- What is kept of the actors after a packet came to the broker.
+use Rattle.std.proofs.Common.{◌≡◌, ℕ, Bool, true, false, List, [], ◌∷◌, ◌++◌, Option, Some, None, Ok, Err, refl, sym, ap, ap₂, ◌∙◌, subst, map}
+use Rattle.cdc_broker.specs.Broker.{BrokerState, after_packet, takes_packet}
+use Rattle.cdc_broker.specs.Packets.{expected_after, is_taken, is_taken_at, items_of, session_after}
+use Rattle.cdc_broker.specs.Queues.{QueueState}
+use Rattle.cdc_message.specs.declared.items.Item.{Item}
+use Rattle.cdc_message.specs.declared.packets.Confirm.{Confirm}
+use Rattle.cdc_message.specs.declared.packets.Packet.{Packet}
+use Rattle.cdc_message.specs.declared.packets.Packet.TheVariants.{Connect, Publish}
+use Rattle.cdc_types.specs.declared.steps.Step.TheVariants.{Arrive}
+use Rattle.cdc_world.specs.declared.steps.Did.TheVariants.{Arrived}
+use Rattle.cdc_world.specs.declared.steps.StepError.TheVariants.{NotEnabled, OutOfMemory}
+use Rattle.cdc_world.specs.Next.{◌>>=◌, arrival, confirms_of, next, with_arrival}
+use Rattle.cdc_world.specs.Parts.{ActorParts}
+use Rattle.cdc_world.specs.Stands.{ActorsStand, BrokerSide, HaveHandedOut, SubscribersStand, broker_of, broker_parts, queue_for, view_of}
+use Rattle.cdc_world.specs.Turns.{ActorsMove, ComesTo}
+use Rattle.cdc_world.specs.Worlds.{Subscription, WorldState, numbered}
+use Rattle.cdc_world.proofs.Queueing.{current_session-push, expected_tag-push, handed_after, items_of-connected, items_of-published, queues_after}
+use Rattle.cdc_world.proofs.Stepping.{lacking, tried, unable}
+
+-- whether the broker takes a packet
+takes_is : (a : ActorParts) (w : WorldState) (packet : Packet) → ActorsStand a w
+    → takes_packet a.broker packet ≡ is_taken w.accepted packet
+takes_is a w packet st = ap (λ (b : BrokerSide). is_taken_at b.connection b.expected packet) st.broker
+
+-- the broker's side after a packet that it took
+abbrev after_taken : Packet → BrokerSide → BrokerSide
+after_taken packet b = record {
+  connection = session_after b.connection packet;
+  expected = expected_after b.expected packet;
+  confirms = b.confirms ++ confirms_of packet;
+}
+
+-- what is kept of the actors then
+abbrev with_packet_taken : Packet → ActorParts → ActorParts
+with_packet_taken packet a = record a {
+  broker = after_packet a.broker packet;
+  confirms = a.confirms ++ confirms_of packet;
+}
+
+-- the broker goes on so
+parts_after : (a : ActorParts) (packet : Packet)
+    → broker_parts (with_packet_taken packet a) ≡ after_taken packet (broker_parts a)
+parts_after a (Connect session) = refl
+parts_after a (Publish session tag item) = refl
+
+-- and so does the world
+side_after : (w : WorldState) (packet : Packet)
+    → broker_of (with_arrival w packet true) ≡ after_taken packet (broker_of w)
+side_after w packet =
+    ap₂ (λ (n : ℕ) (e : Option ℕ). record {
+      connection = n;
+      expected = e;
+      confirms = w.confirms ++ confirms_of packet;
+    }) (current_session-push w.accepted packet) (expected_tag-push w.accepted packet)
+
+-- each queue has the packet's item where it belongs to it, and has handed out what it had
+subscribers_after : (a : ActorParts) (accepted : List Packet) (packet : Packet) (subscriptions : List Subscription)
+    → SubscribersStand a.broker.queues a.subscriptions (items_of accepted) subscriptions
+    → SubscribersStand (after_packet a.broker packet).queues a.subscriptions (items_of (accepted ++ packet ∷ []))
+    subscriptions
+subscribers_after a accepted (Connect session) subscriptions st =
+    subst (λ (items : List Item). SubscribersStand a.broker.queues a.subscriptions items subscriptions)
+    (sym (items_of-connected accepted session)) st
+subscribers_after a accepted (Publish session tag item) subscriptions st = record {
+  queues = queues_after item (items_of accepted) a.broker.queues subscriptions st.queues
+      ∙ ap (λ (items : List Item). map (queue_for items) subscriptions) (sym
+      (items_of-published accepted session tag item));
+  subscriptions = st.subscriptions;
+  handed = handed_after item a.broker.queues subscriptions st.handed;
+}
+
+-- a packet that is there comes
+arrives : (w : WorldState) (k : ℕ) (packet : Packet) (taken : Bool) → numbered w.packets k ≡ Some packet
+    → is_taken w.accepted packet ≡ taken → next w (Arrive k) ≡ Ok (Arrived taken, with_arrival w packet taken)
+arrives w k packet taken there is =
+    ap (λ (found : Option Packet). found >>= arrival w) there
+    ∙ ap (λ (b : Bool). Ok (Arrived b, with_arrival w packet b)) is
+
+-- the packet of this number, in the world as in what is kept
+packet_is : (a : ActorParts) (w : WorldState) (k : ℕ) (found : Option Packet) → ActorsStand a w
+    → numbered a.packets k ≡ found → numbered w.packets k ≡ found
+packet_is a w k found st there = ap (λ (ps : List Packet). numbered ps k) (sym st.connector.packets) ∙ there
+
+-- one that is taken
+arrive_taken : (a : ActorParts) (packet : Packet) (k : ℕ) → numbered a.packets k ≡ Some packet
+    → takes_packet a.broker packet ≡ true
+    → ActorsMove a (Arrive k) (Ok (Arrived true)) (with_packet_taken packet a)
+arrive_taken a packet k there takes = (
+  tt,
+  λ w st. (
+    with_arrival w packet true,
+    (
+      record {
+        history = st.history;
+        connector = st.connector;
+        broker = parts_after a packet ∙ ap (after_taken packet) st.broker ∙ sym (side_after w packet);
+        subscribers = subscribers_after a w.accepted packet w.subscriptions st.subscribers;
+      },
+      (
+        arrives w k packet true (packet_is a w k (Some packet) st there) (sym (takes_is a w packet st) ∙ takes),
+        refl,
+      ),
+    ),
+  ),
+)
+
+-- one that is passed over: nothing changes
+arrive_passed : (a : ActorParts) (packet : Packet) (k : ℕ) → numbered a.packets k ≡ Some packet
+    → takes_packet a.broker packet ≡ false → ActorsMove a (Arrive k) (Ok (Arrived false)) a
+arrive_passed a packet k there takes = (
+  tt,
+  λ w st. (
+    w,
+    (
+      st,
+      (
+        arrives w k packet false (packet_is a w k (Some packet) st there) (sym (takes_is a w packet st) ∙ takes),
+        refl,
+      ),
+    ),
+  ),
+)
+
+-- a packet comes to the broker
+pub arrive_done : (a : ActorParts) (packet : Packet) (k : ℕ) (taken : Bool) (b' : BrokerState) (confirms' : List Confirm)
+    → numbered a.packets k ≡ Some packet → ComesTo a.broker a.confirms packet (Ok taken) b' confirms'
+    → ActorsMove a (Arrive k) (Ok (Arrived taken)) (record a { broker = b'; confirms = confirms' })
+arrive_done a packet k true b' confirms' there comes =
+    subst (λ (b : BrokerState). ActorsMove a (Arrive k) (Ok (Arrived true)) (record a {
+      broker = b;
+      confirms = confirms';
+    })) (sym comes.1.0)
+    (subst (λ (cs : List Confirm). ActorsMove a (Arrive k) (Ok (Arrived true)) (record a {
+      broker = after_packet a.broker packet;
+      confirms = cs;
+    })) (sym comes.1.1)
+    (arrive_taken a packet k there comes.0))
+arrive_done a packet k false b' confirms' there comes =
+    subst (λ (b : BrokerState). ActorsMove a (Arrive k) (Ok (Arrived false)) (record a {
+      broker = b;
+      confirms = confirms';
+    })) (sym comes.1.0)
+    (subst (λ (cs : List Confirm). ActorsMove a (Arrive k) (Ok (Arrived false)) (record a { confirms = cs }))
+    (sym comes.1.1)
+    (arrive_passed a packet k there comes.0))
+
+-- where memory ran out
+pub arrive_lacking : (a : ActorParts) (packet : Packet) (k : ℕ) (b' : BrokerState) (confirms' : List Confirm)
+    → numbered a.packets k ≡ Some packet → (b' ≡ a.broker) × (confirms' ≡ a.confirms)
+    → ActorsMove a (Arrive k) (Err OutOfMemory) (record a { broker = b'; confirms = confirms' })
+arrive_lacking a packet k b' confirms' there same =
+    subst (λ (b : BrokerState). ActorsMove a (Arrive k) (Err OutOfMemory) (record a {
+      broker = b;
+      confirms = confirms';
+    })) (sym same.0)
+    (subst (λ (cs : List Confirm). ActorsMove a (Arrive k) (Err OutOfMemory) (record a { confirms = cs })) (sym same.1)
+    (lacking a (Arrive k) refl (λ w st. tried w _ (Arrive k) _
+    (arrives w k packet (is_taken w.accepted packet) (packet_is a w k (Some packet) st there) refl))))
+
+-- there is no packet of this number
+pub arrive_none : (a : ActorParts) (k : ℕ) → numbered a.packets k ≡ None → ActorsMove a (Arrive k) (Err NotEnabled) a
+arrive_none a k none =
+    unable a (Arrive k)
+    (λ w st. ap (λ (found : Option Packet). found >>= arrival w) (packet_is a w k None st none))

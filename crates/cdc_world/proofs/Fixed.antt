@@ -1,0 +1,22 @@
+-- A step, and a play, leaves what a closed subscriber has heard.
+use Rattle.std.proofs.Common.{ℕ, List, Option, Result}
+use Rattle.cdc_types.specs.declared.steps.Step.{Step}
+use Rattle.cdc_world.specs.declared.steps.Did.{Did}
+use Rattle.cdc_world.specs.declared.steps.StepError.{StepError}
+use Rattle.cdc_world.specs.Moves.{Moves, PlayFixesClosed, Plays, StepFixesClosed}
+use Rattle.cdc_world.specs.Parts.{Parts}
+use Rattle.cdc_world.proofs.SubClosed.{AllStay-next, AllStay-play}
+
+-- a step
+pub StepFixesClosed-moves : (p : Parts) (step : Step) (answer : Result Did StepError) (p' : Parts)
+    → Moves p step answer p' → StepFixesClosed p step answer p'
+StepFixesClosed-moves p step answer p' moves honest w st =
+    let after = moves honest w st in
+    (after.0, (after.1.0, (after.1.1, AllStay-next w step answer after.0 after.1.1)))
+
+-- a play
+pub PlayFixesClosed-plays : (p : Parts) (steps : List Step) (done : ℕ) (refusal : Option StepError) (p' : Parts)
+    → Plays p steps done refusal p' → PlayFixesClosed p steps done refusal p'
+PlayFixesClosed-plays p steps done refusal p' plays honest w st =
+    let after = plays honest w st in
+    (after.0, (after.1.0, (after.1.1, AllStay-play w steps done refusal after.0 after.1.1)))

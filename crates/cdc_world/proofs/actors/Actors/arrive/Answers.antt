@@ -1,0 +1,18 @@
+use Rattle.std.proofs.Common.{Ok, sym, ◌∙◌}
+use Rattle.cdc_types.specs.declared.steps.Step.TheVariants.{Arrive}
+use Rattle.cdc_world.specs.declared.steps.Did.TheVariants.{Arrived}
+use Rattle.cdc_world.proofs.Arriving.{arrive_done}
+use Rattle.cdc_world.proofs.Places.{numbered_some}
+use Rattle.cdc_world.proofs.Stepping.{at_entry}
+use Rattle.cdc_world.proofs.actors.Actors.arrive.Goals as goal
+
+pub returns : goal.returns
+returns c = record {
+  next = at_entry (Arrive c.args.k) (Ok (Arrived c.in_ok-taken.taken)) c.self.view_is
+      (arrive_done _ c.index-packet.result.now c.args.k c.in_ok-taken.taken c.take_in.new.broker
+      c.take_in.new.confirms.items
+      (numbered_some c.self.inside.packets.items c.args.k c.len.result c.in_ok-place.place c.index-packet.result.now
+      (c.len.ensures ∙ c.self.inside.packets.ok.0) (sym c.place_of.ensures ∙ c.in_ok-place.ensures.ok_part)
+      c.index-packet.ensures)
+      c.in_ok-taken.ensures);
+}

@@ -1,0 +1,15 @@
+use Rattle.std.proofs.Common.{Ok, refl, sym, ◌∙◌}
+use Rattle.cdc_types.specs.declared.steps.Step.TheVariants.{Close}
+use Rattle.cdc_world.specs.declared.steps.Did.TheVariants.{Done}
+use Rattle.cdc_world.proofs.Stepping.{at_entry}
+use Rattle.cdc_world.proofs.Subscribing.{close_at}
+use Rattle.cdc_world.proofs.actors.Actors.close.Goals as goal
+
+pub returns : goal.returns
+returns c = record {
+  next = at_entry (Close c.args.i) (Ok Done) c.self.view_is
+      (close_at _ c.args.i c.len.result c.in_ok-place.place c.self.inside.subscriptions.items c.index_mut.result.now
+      refl (c.len.ensures ∙ c.self.inside.subscriptions.ok.0)
+      (sym c.place_of.ensures ∙ c.in_ok-place.ensures.ok_part) c.index_mut.ensures.value c.close.new.self
+      c.close.ensures);
+}

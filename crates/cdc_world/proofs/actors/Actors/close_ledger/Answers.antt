@@ -1,0 +1,9 @@
+use Rattle.std.proofs.Common.{Ok}
+use Rattle.cdc_types.specs.declared.steps.Step.TheVariants.{CloseLedger}
+use Rattle.cdc_world.specs.declared.steps.Did.TheVariants.{Done}
+use Rattle.cdc_world.proofs.Stepping.{at_entry, close_done}
+use Rattle.cdc_world.proofs.actors.Actors.close_ledger.Goals as goal
+
+pub returns : goal.returns
+returns c =
+    record { next = at_entry CloseLedger (Ok Done) c.self.view_is (close_done _ c.close.new.self c.close.ensures) }

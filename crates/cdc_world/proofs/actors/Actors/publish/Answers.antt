@@ -1,0 +1,13 @@
+use Rattle.std.proofs.Common.{Ok}
+use Rattle.cdc_types.specs.declared.steps.Step.TheVariants.{Publish}
+use Rattle.cdc_world.specs.declared.steps.Did.TheVariants.{Done}
+use Rattle.cdc_world.proofs.Connecting.{publish_done}
+use Rattle.cdc_world.proofs.Stepping.{at_entry}
+use Rattle.cdc_world.proofs.actors.Actors.publish.Goals as goal
+
+pub returns : goal.returns
+returns c = record {
+  next = at_entry Publish (Ok Done) c.self.view_is
+      (publish_done _ c.in-Some.session c.publish.new.session c.publish.new.packets.items c.in-Some.is
+      c.in_ok-publish.ensures.sends);
+}

@@ -1,0 +1,14 @@
+use Rattle.std.proofs.Common.{Ok, refl, sym, ◌∙◌}
+use Rattle.cdc_types.specs.declared.steps.Step.TheVariants.{Rewind}
+use Rattle.cdc_world.specs.declared.steps.Did.TheVariants.{Done}
+use Rattle.cdc_world.proofs.Stepping.{at_entry}
+use Rattle.cdc_world.proofs.Subscribing.{rewind_at}
+use Rattle.cdc_world.proofs.actors.Actors.rewind.Goals as goal
+
+pub returns : goal.returns
+returns c = record {
+  next = at_entry (Rewind c.args.i) (Ok Done) c.self.view_is
+      (rewind_at _ c.args.i c.len.result c.in_ok-place.place c.self.inside.subscriptions.items c.rewind.new.self refl
+      (c.len.ensures ∙ c.self.inside.subscriptions.ok.0) (sym c.place_of.ensures ∙ c.in_ok-place.ensures.ok_part)
+      c.rewind.ensures.state);
+}

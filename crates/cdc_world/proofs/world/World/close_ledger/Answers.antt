@@ -1,8 +1,0 @@
-use Rattle.std.proofs.Common.{Ok}
-use Rattle.cdc_world.specs.declared.steps.Did.TheVariants.{Done}
-use Rattle.cdc_types.specs.declared.steps.Step.TheVariants.{CloseLedger}
-use Rattle.cdc_world.proofs.Stepping.{at_entry, close_done}
-use Rattle.cdc_world.proofs.world.World.close_ledger.Goals as goal
-
-pub returns-clause-next : goal.returns-clause-next
-returns-clause-next g c = at_entry CloseLedger (Ok Done) c.self.view_is (close_done _ _ c.close.ensures)

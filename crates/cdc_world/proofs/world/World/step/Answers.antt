@@ -1,0 +1,24 @@
+use Rattle.std.proofs.Common.{Result, sym, ap, subst}
+use Rattle.cdc_types.specs.declared.steps.Step.{Step}
+use Rattle.cdc_types.specs.declared.steps.Step.TheVariants.{Save}
+use Rattle.cdc_world.specs.Moves.{StepFixesClosed}
+use Rattle.cdc_world.specs.Parts.{Parts}
+use Rattle.cdc_world.proofs.Fixed.{StepFixesClosed-moves}
+use Rattle.cdc_world.proofs.Stepping.{Moves-actors, counted_entry, moves_entry}
+use Rattle.cdc_world.proofs.world.World.step.Goals as goal
+
+pub returns-in-Save-clause-fixed : goal.returns-in-Save-clause-fixed
+returns-in-Save-clause-fixed g c =
+    subst (λ (step : Step). StepFixesClosed c.args.self.now step c.save.result c.save.new.self) (sym c.in-Save.is)
+    (StepFixesClosed-moves c.args.self.now Save c.save.result c.save.new.self c.save.ensures.next)
+
+pub returns-in_default : goal.returns-in_default
+returns-in_default g c =
+    let next = moves_entry c.args.step.now c.step.result c.self.view_is
+    (Moves-actors _ c.step.new.self c.args.step.now c.step.result c.step.ensures.next) in
+    record {
+      next = next;
+      fixed = StepFixesClosed-moves c.args.self.now c.args.step.now c.step.result _ next;
+      counted = counted_entry c.step.result c.self.view_is c.step.ensures.next.0;
+      honest = ap (λ (p : Parts). p.honest) c.self.view_is;
+    }

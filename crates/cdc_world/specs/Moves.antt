@@ -1,0 +1,73 @@
+-- What a world keeps after a step, and after a play.
+use Rattle.std.specs.Prelude.{◌≡◌, ◌≤◌, ℕ, IsTrue, Option, Some, None, Result, Ok, Err, List, [], ◌∷◌, length, take, drop}
+use Rattle.std.specs.List.{list_any}
+use Rattle.cdc_progress.specs.Stores.{IsCounted}
+use Rattle.cdc_progress.specs.declared.errors.StoreError.TheVariants as store
+use Rattle.cdc_types.specs.declared.steps.Step.{Step}
+use Rattle.cdc_world.specs.Closed.{AllStay}
+use Rattle.cdc_world.specs.declared.steps.Did.{Did}
+use Rattle.cdc_world.specs.declared.steps.StepError.{StepError}
+use Rattle.cdc_world.specs.declared.steps.StepError.TheVariants.{NotEnabled, Refused, Store, SessionsExhausted, OutOfMemory}
+use Rattle.cdc_world.specs.Next.{Next, loads}
+use Rattle.cdc_world.specs.Parts.{Parts}
+use Rattle.cdc_world.specs.Stands.{Stands}
+use Rattle.cdc_world.specs.Worlds.{WorldState}
+
+-- what is kept goes on like this: whatever state it stood for, it stands for one that this relation leads to
+abbrev pub GoesOn : Parts → (WorldState → WorldState → Type 0) → Parts → Type 0
+GoesOn p LeadsTo p' = (w : WorldState) → Stands p w → (w' : WorldState) × (Stands p' w' × LeadsTo w w')
+
+-- by a step that is answered so; of a step that loads this is said over an honest store
+abbrev pub Moves : Parts → Step → Result Did StepError → Parts → Type 0
+Moves p step answer p' =
+    (IsTrue (loads step) → IsTrue p.honest) → GoesOn p (λ w w'. Next w step answer w') p'
+
+-- the same, and no closed subscriber has heard anything more after it, and each has its binding
+abbrev pub StepFixesClosed : Parts → Step → Result Did StepError → Parts → Type 0
+StepFixesClosed p step answer p' =
+    (IsTrue (loads step) → IsTrue p.honest) → GoesOn p (λ w w'. Next w step answer w' × AllStay w w') p'
+
+-- steps that are all done lead from one state to another
+abbrev pub DoesAll : WorldState → List Step → WorldState → Type 0
+DoesAll w [] w' = w' ≡ w
+DoesAll w (step ∷ steps) w' =
+    (did : Did) × (between : WorldState) × (Next w step (Ok did) between × DoesAll between steps w')
+
+-- after the steps that are done none is left, or the next one is refused
+abbrev pub StopsAt : WorldState → List Step → Option StepError → WorldState → Type 0
+StopsAt w [] None w' = w' ≡ w
+StopsAt w [] (Some why) w' = ⊥
+StopsAt w (step ∷ steps) None w' = ⊥
+StopsAt w (step ∷ steps) (Some why) w' = Next w step (Err why) w'
+
+-- a play of steps, of which so many are done, and then they end, or one is refused
+pub record IsPlay (w : WorldState) (steps : List Step) (done : ℕ) (refusal : Option StepError) (w' : WorldState)
+    : Type 0 where
+  pub count : done ≤ length steps
+  pub before : WorldState
+  pub does : DoesAll w (take done steps) before
+  pub stops : StopsAt before (drop done steps) refusal w'
+
+-- what is kept goes on by a play; where one of its steps loads, this is said over an honest store
+abbrev pub Plays : Parts → List Step → ℕ → Option StepError → Parts → Type 0
+Plays p steps done refusal p' =
+    (IsTrue (list_any loads steps) → IsTrue p.honest) → GoesOn p (λ w w'. IsPlay w steps done refusal w') p'
+
+-- the same, and no closed subscriber has heard anything more after it, and each has its binding
+abbrev pub PlayFixesClosed : Parts → List Step → ℕ → Option StepError → Parts → Type 0
+PlayFixesClosed p steps done refusal p' =
+    (IsTrue (list_any loads steps) → IsTrue p.honest)
+    → GoesOn p (λ w w'. IsPlay w steps done refusal w' × AllStay w w') p'
+
+-- a step that is answered so leaves the store's count of failures as it is, unless it is refused for a read or a write
+-- that failed, which counts
+abbrev pub IsStoreCounted : ℕ → ℕ → Result Did StepError → Type 0
+IsStoreCounted before after (Ok did) = after ≡ before
+IsStoreCounted before after (Err (Store store.ReadFault)) = IsCounted before after
+IsStoreCounted before after (Err (Store store.WriteFault)) = IsCounted before after
+IsStoreCounted before after (Err (Store store.BadRecord)) = after ≡ before
+IsStoreCounted before after (Err (Store store.OutOfMemory)) = ⊥
+IsStoreCounted before after (Err NotEnabled) = after ≡ before
+IsStoreCounted before after (Err (Refused why)) = after ≡ before
+IsStoreCounted before after (Err SessionsExhausted) = after ≡ before
+IsStoreCounted before after (Err OutOfMemory) = after ≡ before
