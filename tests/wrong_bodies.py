@@ -25,7 +25,7 @@ import sys
 import tempfile
 import threading
 import types
-from collections import namedtuple
+from collections import Counter, namedtuple
 
 sys.dont_write_bytecode = True
 
@@ -184,6 +184,7 @@ class Sources:
         self.functions = {it: functions_of(crate.name, it, self.tokens[it]) for it in self.files}
         self.all = [it for file in self.files for it in self.functions[file]]
         self.file_of = {it: file for file in self.files for it in self.functions[file]}
+        self.reached, self.count = {}, Counter(it.path for it in self.all)
 
     def change(self, texts):
         """Returns the Change that these texts are, or None where they change more than one body."""
@@ -201,17 +202,18 @@ class Sources:
         if outside(tokens, now) != outside(self.tokens[file], was):
             return None
         pairs = [(a, b) for a, b in zip(was, now) if body_of(self.tokens[file], a) != body_of(tokens, b)]
-        if len(pairs) != 1 or self.is_const(pairs[0][0]):
+        if len(pairs) != 1 or not self.stands_for_itself(pairs[0][0]):
             return None
         function, other = pairs[0]
         # (what stands before the body may have got a `mut`, so the whole function is taken)
         start = tokens[other.tokens[0]].start
         return Change(file, function, text[start : other.end])
 
-    def is_const(self, function):
-        """Returns whether a check may run the function, so that its body is seen by others."""
+    def stands_for_itself(self, function):
+        """Returns whether no other function has its path, and no check runs it, so that its body is seen by no other."""
         head = self.tokens[self.file_of[function]][function.tokens[0] : function.tokens[1]]
-        return ["const", "fn"] in [[a.text, b.text] for a, b in zip(head, head[1:])]
+        is_const = ("const", "fn") in [(a.text, b.text) for a, b in zip(head, head[1:])]
+        return self.count[function.path] == 1 and not is_const
 
     def with_changes(self, changes):
         """Returns the texts of the files with these changes, and in which lines each changed function is there."""
@@ -237,12 +239,15 @@ class Sources:
 
     def reached_from(self, function):
         """Returns each function that the function may call, by any way: those whose names its body has, and so on."""
+        if function in self.reached:
+            return self.reached[function]
         reached, left = set(), [function]
         while left:
             names = left.pop().names
             more = [it for it in self.all if it not in reached and it.path.rpartition("::")[2] in names]
             reached.update(more)
             left += more
+        self.reached[function] = reached
         return reached
 
 
@@ -422,7 +427,7 @@ class Trial:
             it
             for it in self.sources.all
             if it not in taken
-            and not self.sources.is_const(it)
+            and self.sources.stands_for_itself(it)
             and first.own(it.path) == [it.path]
             and first.of(it.path)[0] == PROVED
             and not any(os.path.isdir(f"{self.crate.folder}/{folder}") for folder in proof_folders(it.path))
@@ -444,7 +449,7 @@ class Trial:
             unread = answer.unread(texts)
             if answer.is_refused and not unread and not answer.is_stale:
                 break
-            bad = set() if answer.is_stale else self.unreadable(group)
+            bad = set() if answer.is_stale else self.unreadable(group, unread)
             if not bad:
                 why = (unread or [answer.first_line()])[0][:200]
                 why = "the kept work of a library could not be used" if answer.is_stale else why
@@ -461,15 +466,15 @@ class Trial:
             self.tell(it, answer, lines[it.change.function])
         return results
 
-    def unreadable(self, group):
+    def unreadable(self, group, unread):
         """Finds the edits of a group that don't compile or can't be read, says so, and returns their names."""
         texts = {it.name: self.sources.with_changes([it.change])[0] for it in group}
-        # (a look that proves nothing takes seconds, and sees all but what antt can't read)
+        # (a look that proves nothing takes seconds, and sees all but what antt can't read, of which a check has lines)
         quick = {name: self.check(it, ["--only", ""]) for name, it in texts.items()}
         bad = {name: it.first_line() for name, it in quick.items() if it.status}
-        if not bad:
-            unread = {name: self.check(it).unread(it) for name, it in texts.items()}
-            bad = {name: lines[0] for name, lines in unread.items() if lines}
+        if unread and not bad:
+            found = {name: self.check(it).unread(it) for name, it in texts.items()}
+            bad = {name: lines[0] for name, lines in found.items() if lines}
         for it in group:
             if it.name in bad:
                 why = "the prover cannot read the edited text, so no contract was tried"
