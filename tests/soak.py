@@ -388,17 +388,16 @@ class StepMaker:
     # How many of the steps that change little are written all the same; of the others a twentieth.
     IDLE = {'arrive': 0.1, 'answer': 0.2, 'ack': 0.4}
 
-    def __init__(self, rng, script, in_order):
+    def __init__(self, rng, script):
         self.rng = rng
         self.world = model.World(script.bindings, script.batches, 1)
-        self.in_order = in_order
         self.arrived = 0  # the greatest number of a packet that came
         self.answered = 0  # the greatest number of a confirm that came
         moods = [0.2, 1, 1, 1, 3]
         self.weights = {word: weight * rng.choice(moods) for word, weight in self.WEIGHTS.items()}
         self.is_calm = rng.random() < 0.3
         for word in FAULTY:
-            self.weights[word] *= 0 if in_order else 0.1 if self.is_calm else 1
+            self.weights[word] *= 0.1 if self.is_calm else 1
 
     def steps(self):
         steps = []
@@ -475,14 +474,13 @@ class StepMaker:
 
     def refused_step(self):
         """A step that the world refuses, if one is found."""
-        words = [word for word in model.STEPS if self.weights[word] > 0]
         if self.world.session is None and self.rng.random() < 0.5:
             confirm = self.rng.randint(1, max(1, len(self.world.confirms)))
             without_session = [model.Step('answer', (confirm,))]
             without_session += [model.Step(word) for word in ('poll', 'publish', 'save')]
             return [self.rng.choice(without_session)]
         for _ in range(40):
-            word = self.rng.choice(words)
+            word = self.rng.choice(list(model.STEPS))
             step = self.any_step() if self.rng.random() < 0.3 else model.Step(word, self.numbers(word))
             if not self.is_taken(step):
                 return [step]
@@ -516,7 +514,7 @@ class StepMaker:
     def look_alike(self):
         """At times, the number of another session's confirm under the tag that the session waits for; else 0."""
         session = self.world.session
-        if self.in_order or self.is_calm or session is None or self.rng.random() < 0.8:
+        if self.is_calm or session is None or self.rng.random() < 0.8:
             return 0
         if session.sent in session.confirmed:
             return 0
@@ -527,7 +525,7 @@ class StepMaker:
 
     def of_line(self, greatest, count):
         """The number of what comes next on a line; or of what comes late, early or again."""
-        if self.in_order or self.rng.random() < (0.95 if self.is_calm else 0.6):
+        if self.rng.random() < (0.95 if self.is_calm else 0.6):
             return greatest + 1
         if self.rng.random() < 0.7:
             return self.rng.randint(max(1, count - 5), max(1, count))
@@ -535,9 +533,7 @@ class StepMaker:
 
     def any_step(self):
         """A step with any numbers."""
-        word = self.rng.choice([word for word in model.STEPS if self.weights[word] > 0])
-        if self.in_order and word in ('arrive', 'answer'):
-            return model.Step(word, self.numbers(word))
+        word = self.rng.choice(list(model.STEPS))
         values = [0, 1, 2, 3, 9, 2**64 - 1]
         return model.Step(word, tuple(self.rng.choice(values) for _ in range(model.STEPS[word])))
 
@@ -546,7 +542,7 @@ def last_of(ledger):
     return ledger.events[-1].timestamp if ledger.events else 0
 
 
-# The steps that were not offered at first.
+# The steps that a calm play has few of.
 FAULTY = ('crash', 'rewind', 'break', 'ack', 'close')
 
 
@@ -561,9 +557,8 @@ ODD_LINES = [b'', b' ', b'   ', b'#', b'# a comment', b'#\xff\x00 any bytes', b'
 class Spoiler:
     """Breaks the lines of a file, and lays them out in odd ways."""
 
-    def __init__(self, rng, in_order):
+    def __init__(self, rng):
         self.rng = rng
-        self.in_order = in_order
 
     def lay_out(self, lines):
         """The bytes of a file with these lines, with comments, blank lines, spaces and carriage returns."""
@@ -631,13 +626,11 @@ class Spoiler:
 
     def step_of_list(self, lines):
         no_number = self.rng.choice(NO_NUMBERS)
-        lines_of_faults = ['rewind', f'break {no_number}', f'close {2**64}', 'crash 1', 'ack 1', 'ack x', 'ack x 1']
-        lines_of_faults += ['ack 1 x', 'ack 1 2 3', f'ack {2**64} x']
         line = self.rng.choice(
             ['arrive', f'arrive {no_number}', f'arrive {2**64}', f'take {FAR_TOO_LARGE}', 'batch 1', 'Batch']
             + ['start at', 'start x', 'send 1 1', 'send', 'answer 1 x', ' #x', 'stop', 'save me', 'close_ledger 1']
-            + ['poll x y']
-            + ([] if self.in_order else lines_of_faults)
+            + ['poll x y', 'rewind', f'break {no_number}', f'close {2**64}', 'crash 1', 'ack 1', 'ack x', 'ack x 1']
+            + ['ack 1 x', 'ack 1 2 3', f'ack {2**64} x']
         )
         place = self.rng.randint(0, len(lines))
         return lines[:place] + [line.encode('ascii')] + lines[place:]
@@ -702,11 +695,11 @@ class Case:
     words_of_window: tuple
 
 
-def case_of(seed, number, in_order):
+def case_of(seed, number):
     rng = random.Random(f'{seed} {number}')
     lines = ScriptMaker(rng).script()
-    spoiler = Spoiler(rng, in_order)
-    steps = StepMaker(rng, script_of(lines), in_order).steps()
+    spoiler = Spoiler(rng)
+    steps = StepMaker(rng, script_of(lines)).steps()
     spoilt = rng.random()
     if spoilt < 0.15:
         lines = spoiler.spoilt_script(lines)
@@ -969,7 +962,7 @@ def summary(counts):
 # ---------------------------------------------------------------- The soak
 
 
-def run_chunk(program, room, seed, numbers, in_order):
+def run_chunk(program, room, seed, numbers):
     """The counts of some cases, the number of runs, and the cases that differ with their commands."""
     counts = collections.Counter()
     runs = 0
@@ -977,7 +970,7 @@ def run_chunk(program, room, seed, numbers, in_order):
     with tempfile.TemporaryDirectory(dir=room) as folder:
         runner = Runner(program, folder)
         for number in numbers:
-            case = case_of(seed, number, in_order)
+            case = case_of(seed, number)
             reports = reports_of(case)
             count(reports, counts)
             runner.write(case)
@@ -988,11 +981,11 @@ def run_chunk(program, room, seed, numbers, in_order):
     return counts, runs, differing
 
 
-def show(program, room, seed, number, command, in_order):
+def show(program, room, seed, number, command):
     """Prints a difference, shrunk."""
     with tempfile.TemporaryDirectory(dir=room) as folder:
         runner = Runner(program, folder)
-        case = shrunk(runner, command, case_of(seed, number, in_order))
+        case = shrunk(runner, command, case_of(seed, number))
         runner.write(case)
         report = reports_of(case)[command]
         print(told(seed, number, command, case, report, runner.run(command, case)), flush=True)
@@ -1010,7 +1003,6 @@ class Soak:
     def __init__(self, options, room):
         self.options = options
         self.room = room  # a folder for the files of all cases
-        self.in_order = options.steps == 'ordered'
         self.counts = collections.Counter()
         self.cases = 0
         self.runs = 0
@@ -1038,7 +1030,7 @@ class Soak:
         for number, command in differing:
             self.differing += 1
             if self.differing <= MOST_SHOWN:
-                show(self.options.program, self.room, self.options.seed, number, command, self.in_order)
+                show(self.options.program, self.room, self.options.seed, number, command)
         if time.monotonic() - self.told_last >= 60:
             self.told_last = time.monotonic()
             print(f'soak: {self.cases} cases, {self.differing} differ', file=sys.stderr, flush=True)
@@ -1047,7 +1039,7 @@ class Soak:
         waiting = collections.deque()
         with multiprocessing.Pool(self.options.jobs, ignore_signals) as pool:
             for numbers in self.chunks():
-                words = (self.options.program, self.room, self.options.seed, numbers, self.in_order)
+                words = (self.options.program, self.room, self.options.seed, numbers)
                 waiting.append((numbers, pool.apply_async(run_chunk, words)))
                 if len(waiting) > self.options.jobs + 1:
                     taken, result = waiting.popleft()
@@ -1069,11 +1061,11 @@ def ignore_signals():
 
 def run_case(options):
     """One case alone: its files and what it prints, and the difference where there is one."""
-    case = case_of(options.seed, options.case, options.steps == 'ordered')
+    case = case_of(options.seed, options.case)
     print(file_in_words('soak.script', case.script) + file_in_words('soak.steps', case.steps))
-    _, runs, differing = run_chunk(options.program, None, options.seed, [options.case], options.steps == 'ordered')
+    _, runs, differing = run_chunk(options.program, None, options.seed, [options.case])
     for number, command in differing:
-        show(options.program, None, options.seed, number, command, options.steps == 'ordered')
+        show(options.program, None, options.seed, number, command)
     print(f'soak: {runs - len(differing)} passed, {len(differing)} failed')
     return 1 if differing else 0
 
@@ -1086,7 +1078,6 @@ def options_of(words):
     parser.add_argument('--case', type=int, help='this case alone')
     parser.add_argument('--program', default=str(PROGRAM))
     parser.add_argument('--jobs', type=int, default=2)
-    parser.add_argument('--steps', choices=['all', 'ordered'], default='all')
     options = parser.parse_args(words)
     if options.count is None and options.seconds is None:
         options.count = 1000
