@@ -266,8 +266,8 @@ bad_steps() {
     has "steps, $fault: what was expected" "$expected" "$err"
 }
 bad_steps 2 bad_text 'printable ASCII' 'start\npoll\t\n'
-bad_steps 1 unknown_word 'send or take' 'jump\n'
-bad_steps 1 wrong_count 'have one number' 'arrive\n'
+bad_steps 1 unknown_word 'take, ack or close' 'jump\n'
+bad_steps 1 wrong_count 'ack has two numbers, arrive' 'arrive\n'
 bad_steps 1 bad_number 'a number is one or more digits from 0 to 9' 'arrive x\n'
 bad_steps 1 number_out_of_range '64 bits' 'answer 18446744073709551616\n'
 bad_steps 0 too_long '1048576' "$(head -c 1048577 /dev/zero | tr '\0' ' ')"
