@@ -250,6 +250,14 @@ same 'the example of steps' "batch 1: 0 0 0 0
 batch 2: 0 0 0
 ${shown%\`\`\`}" "$out"
 ends_well 'the example of steps'
+run simulate "$top/examples/two-phase.script" "$top/examples/faults.steps"
+shown=$(sed -n '/^steps 92 of 92$/,/^```$/p' "$top/README.md")
+same 'the example of faults' "${shown%\`\`\`}" "$(sed -n '/^steps /,$p' output)
+"
+ends_well 'the example of faults'
+faulty=$(sed '/^steps /,$d' output)
+run books "$top/examples/two-phase.script"
+same 'the example of faults: its batches' "$(sed '/^subscriber /,$d' output)" "$faulty"
 
 # A bad step file, and one that isn't there: the script is judged first.
 bad_steps() {
@@ -266,8 +274,8 @@ bad_steps() {
     has "steps, $fault: what was expected" "$expected" "$err"
 }
 bad_steps 2 bad_text 'printable ASCII' 'start\npoll\t\n'
-bad_steps 1 unknown_word 'take, ack or close' 'jump\n'
-bad_steps 1 wrong_count 'ack has two numbers, arrive' 'arrive\n'
+bad_steps 1 unknown_word 'ack or close' 'jump\n'
+bad_steps 1 wrong_count 'have one number' 'arrive\n'
 bad_steps 1 bad_number 'a number is one or more digits from 0 to 9' 'arrive x\n'
 bad_steps 1 number_out_of_range '64 bits' 'answer 18446744073709551616\n'
 bad_steps 0 too_long '1048576' "$(head -c 1048577 /dev/zero | tr '\0' ' ')"

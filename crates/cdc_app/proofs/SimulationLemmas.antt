@@ -14,7 +14,8 @@ use Rattle.cdc_types.specs.declared.steps.Step.{Step}
 use Rattle.cdc_types.specs.declared.steps.Step.TheVariants as step
 use Rattle.cdc_world.specs.declared.steps.StepError.{StepError}
 use Rattle.cdc_world.specs.Next.{Next}
-use Rattle.cdc_world.specs.Stands.{Parts, Stands}
+use Rattle.cdc_world.specs.Parts.{Parts}
+use Rattle.cdc_world.specs.Stands.{Stands}
 use Rattle.cdc_world.specs.Worlds.{Subscription, WorldState, numbered}
 use Rattle.cdc_script.specs.declared.scripts.ClientBatch.{ClientBatch}
 use Rattle.cdc_app.specs.declared.simulations.Simulation.{Simulation}
@@ -205,17 +206,4 @@ world_text simulation stage done all refusal held with_steps with_refusal with_p
 
 -- what is kept stands for the same world, however often the store has failed
 pub stands_counted : (p : Parts) (w : WorldState) (failed : ℕ) → Stands p w → Stands (record p { failed = failed }) w
-stands_counted p w failed st = record {
-  history = st.history;
-  held = st.held;
-  window = st.window;
-  session = st.session;
-  packets = st.packets;
-  confirms = st.confirms;
-  connection = st.connection;
-  expected = st.expected;
-  queues = st.queues;
-  arrivals = st.arrivals;
-  answers = st.answers;
-  seats = st.seats;
-}
+stands_counted p w failed st = record { actors = st.actors; held = st.held }

@@ -4,9 +4,9 @@ use Rattle.std.specs.Prelude.{Option, All}
 use Rattle.std.proofs.lemmas.Option.{slice_get-get_or}
 use Rattle.cdc_match.specs.Arguments.{Arguments}
 use Rattle.cdc_types.specs.declared.steps.Step.{Step}
+use Rattle.cdc_laws.specs.Faithful.{IsFaithful}
 use Rattle.cdc_world.specs.declared.steps.StepError.{StepError}
-use Rattle.cdc_world.specs.Headline.{IsFaithful}
-use Rattle.cdc_world.specs.Next.{IsReached, LeadsBy, offered}
+use Rattle.cdc_world.specs.Next.{IsReached, Leads}
 use Rattle.cdc_world.specs.Worlds.{WorldState}
 use Rattle.cdc_world.proofs.Reached.{faithful-reached}
 use Rattle.cdc_script.specs.declared.scripts.ClientBatch.{ClientBatch}
@@ -17,8 +17,8 @@ use Rattle.cdc_app.proofs.SimulationLemmas.{numbered_found}
 
 -- a step that is done, and those after it
 done_leads : (before between : Stage) (want : Option (Step × ℕ)) (steps : List Step) (w : WorldState)
-    → AnswersTo before want None between → LeadsBy offered between.world steps w
-    → (more : List Step) × LeadsBy offered before.world more w
+    → AnswersTo before want None between → Leads between.world steps w
+    → (more : List Step) × Leads before.world more w
 done_leads before between None steps w answers rest = absurd answers
 done_leads before between (Some want) steps w answers rest = (
   want.0 ∷ steps,
@@ -26,20 +26,20 @@ done_leads before between (Some want) steps w answers rest = (
     Ok answers.0,
     answers.1,
     answers.2.0,
-    subst (λ (x : WorldState). LeadsBy offered x steps w) (ap (λ (x : Stage). x.world) answers.2.1) rest,
+    subst (λ (x : WorldState). Leads x steps w) (ap (λ (x : Stage). x.world) answers.2.1) rest,
   ),
 )
 
 -- a step that is refused
 refused_leads : (before end : Stage) (want : Option (Step × ℕ)) (why : StepError) → AnswersTo before want (Some why) end
-    → (more : List Step) × LeadsBy offered before.world more end.world
+    → (more : List Step) × Leads before.world more end.world
 refused_leads before end None why answers = ([], ap (λ (x : Stage). x.world) answers.1)
 refused_leads before end (Some want) why answers =
     (want.0 ∷ [], (Err why, answers.0, answers.1.0, ap (λ (x : Stage). x.world) answers.1.1))
 
 -- the steps that acts ask for lead from one world to the other
 acts_lead : (batches : List ClientBatch) (before : Stage) (acts : List Act) (refusal : Option StepError) (end : Stage)
-    → PlaysActs batches before acts refusal end → (steps : List Step) × LeadsBy offered before.world steps end.world
+    → PlaysActs batches before acts refusal end → (steps : List Step) × Leads before.world steps end.world
 acts_lead batches before [] None end plays = ([], ap (λ (x : Stage). x.world) plays)
 acts_lead batches before [] (Some why) end plays = absurd plays
 acts_lead batches before (a ∷ acts) refusal end (inl refused) =
@@ -59,7 +59,7 @@ is_reached bindings window batches acts refusal end plays =
 -- each subscriber is faithful
 pub all_faithful : (bindings : List Arguments) (window : ℕ) (batches : List ClientBatch) (acts : List Act)
     (refusal : Option StepError) (end : Stage) → PlaysActs batches (at_start bindings window) acts refusal end
-    → All (λ s. IsFaithful end.world s) end.world.subscriptions
+    → All (λ s. IsFaithful end.world.history s.binding s.heard) end.world.subscriptions
 all_faithful bindings window batches acts refusal end plays = λ k d inside.
     let subscriptions = end.world.subscriptions in
     faithful-reached end.world (k + 1) (get_or subscriptions k d)

@@ -5,6 +5,7 @@ use Rattle.cdc_match.specs.Arguments.{Arguments}
 use Rattle.cdc_progress.specs.Records.{Saved}
 use Rattle.cdc_subscriber.specs.Heard.{kept_of}
 use Rattle.cdc_subscriber.specs.Lines.{subscriber_text}
+use Rattle.cdc_laws.specs.Faithful.{IsFaithful}
 use Rattle.cdc_world.specs.declared.steps.Did.{Did}
 use Rattle.cdc_world.specs.declared.steps.Did.TheVariants.{Submitted, Arrived, Counted, Took, Done}
 use Rattle.cdc_types.specs.declared.steps.Step.{Step}
@@ -12,7 +13,6 @@ use Rattle.cdc_types.specs.declared.steps.Step.TheVariants as step
 use Rattle.cdc_world.specs.declared.steps.StepError.{StepError}
 use Rattle.cdc_world.specs.declared.steps.StepError.TheVariants.{NotEnabled}
 use Rattle.cdc_world.specs.Errors.{step_error_name}
-use Rattle.cdc_world.specs.Headline.{IsFaithful}
 use Rattle.cdc_world.specs.Next.{Next}
 use Rattle.cdc_world.specs.Worlds.{Subscription, WorldState, new_world}
 use Rattle.cdc_script.specs.declared.scripts.ClientBatch.{ClientBatch}
@@ -114,4 +114,4 @@ pub record Simulates (plan : Plan) (refusal : Option StepError) (printed : List 
   pub end : Stage
   pub plays : PlaysActs plan.script.batches (at_start plan.script.bindings plan.window) plan.acts refusal end
   pub prints : printed ≡ simulation_text (length plan.acts) refusal end
-  pub faithful : All (λ s. IsFaithful end.world s) end.world.subscriptions
+  pub faithful : All (λ s. IsFaithful end.world.history s.binding s.heard) end.world.subscriptions

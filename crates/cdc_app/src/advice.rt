@@ -115,7 +115,7 @@ fn expected_step(kind: FaultKind) -> &'static str {
             "a line begins with batch, close_ledger, start, crash, poll, publish, arrive, answer, save, send, rewind, break, take, ack or close"
         }
         FaultKind::WrongCount => {
-            "ack has two numbers, arrive, answer, send, rewind, break, take and close have one, batch, close_ledger, start, crash, poll, publish and save have none"
+            "ack has two numbers, arrive, answer, send, rewind, break, take and close have one number, batch, close_ledger, start, crash, poll, publish and save have none"
         }
         FaultKind::NumberOutOfRange => "a number has 64 bits at most",
         FaultKind::TooLong => "a step file has 1048576 bytes at most",

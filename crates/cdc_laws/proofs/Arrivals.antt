@@ -15,7 +15,7 @@ use Rattle.cdc_laws.specs.Line.{line, line_after}
 use Rattle.cdc_laws.proofs.Bases.{HasTakenUpTo, bases_taken, prefix_at}
 use Rattle.cdc_laws.proofs.Lines.{line_splits, split_events}
 use Rattle.cdc_laws.proofs.Places.{Contains_slice_get, each_from, each_has, none_there, slice_get-before, slice_get-behind}
-use Rattle.cdc_laws.proofs.Replays.{IsReplay-found, from_places}
+use Rattle.cdc_laws.proofs.Replays.{from_places}
 use Rattle.cdc_laws.proofs.Sessions.{IsPublished, IsPublished-sent, follows, one_session}
 use Rattle.cdc_laws.proofs.Taking.{current_session-push, expected_tag-push, is_tag-some, item_taken, items_of-push, later_numbers, tag_after-is, taken_after-false, taken_after-true}
 use Rattle.cdc_log.specs.Log.{events_after}
@@ -25,7 +25,7 @@ use Rattle.cdc_message.specs.declared.packets.Confirm.{Confirm}
 use Rattle.cdc_message.specs.declared.packets.Packet.{Packet}
 use Rattle.cdc_message.specs.declared.packets.Packet.TheVariants.{Connect, Publish}
 use Rattle.cdc_message.specs.Replays.{IsReplay}
-use Rattle.cdc_message.proofs.ReplayLaws.{IsReplay-nil}
+use Rattle.cdc_message.proofs.ReplayLaws.{IsReplay-in_turn, IsReplay-nil}
 use Rattle.cdc_types.specs.declared.events.Event.{Event}
 
 -- ---- an item that comes in turn
@@ -59,7 +59,7 @@ IsReplay-behind all f front rest k item replay whole has there earlier =
           sym (slice_get-behind front rest i late) ∙ ap (λ items. slice_get items i) (sym whole) ∙ is in
           earlier (i - length front) y (omega (arith, below, late)) at
     ] in
-    IsReplay-found all f item place replay here (from_places (Contains all) place f before)
+    IsReplay-in_turn all f item place replay here (from_places (Contains all) place f before)
 
 -- ---- what a broker has taken, packet by packet
 

@@ -1,6 +1,7 @@
 -- The definitions at work: what a small ledger has to tell, and what subscribers that heard some of it have applied.
-use Rattle.std.specs.Prelude.{ℕ, ◌≡◌, true, false, List, [], ◌∷◌, length, map, get_or}
-use Rattle.std.proofs.Common.{refl, ap, arith}
+use Rattle.std.specs.Prelude.{ℕ, ◌≡◌, ◌<◌, true, false, Some, List, [], ◌∷◌, length, map, get_or, slice_get, Contains}
+use Rattle.std.proofs.Common.{zero, suc, inl, inr, refl, ap, subst, arith}
+use Rattle.std.proofs.lemmas.Bool.{cases_lt}
 use Rattle.cdc_types.specs.declared.accounts.NewAccount.{NewAccount}
 use Rattle.cdc_types.specs.declared.batches.Batch.TheVariants as batch
 use Rattle.cdc_types.specs.declared.events.Event.{Event}
@@ -10,15 +11,25 @@ use Rattle.cdc_ledger.specs.Balances.{as_of}
 use Rattle.cdc_ledger.specs.Events.{events}
 use Rattle.cdc_ledger.specs.History.{History, empty_history}
 use Rattle.cdc_ledger.specs.Submit.{after_batches, closed_if}
+use Rattle.cdc_broker.specs.Packets.{items_of}
+use Rattle.cdc_laws.specs.Arrivals.{taken_of}
+use Rattle.cdc_laws.specs.ConnectorRuns.{AreConfirmed, IsConfirmed, IsConnectorRun, Shown, packets_of, sent_by}
 use Rattle.cdc_laws.specs.Deliveries.{deliveries, positions_in}
 use Rattle.cdc_laws.specs.Faithful.{IsFaithful, applied, balances_held, no_balances}
 use Rattle.cdc_laws.specs.Line.{feed_of, line, line_after}
+use Rattle.cdc_laws.proofs.Places.{Contains-cons_cases, none_there}
 use Rattle.cdc_match.specs.Arguments.{Arguments}
 use Rattle.cdc_match.specs.Queue.{queue}
 use Rattle.cdc_match.specs.declared.pairs.Mode.TheVariants.{All}
 use Rattle.cdc_match.specs.declared.pairs.Pair.TheVariants.{TransferCode}
 use Rattle.cdc_message.specs.declared.items.Item.{Item}
 use Rattle.cdc_message.specs.declared.items.Item.TheVariants.{EndMark}
+use Rattle.cdc_message.specs.declared.packets.Answer.TheVariants.{Confirmed}
+use Rattle.cdc_message.specs.declared.packets.Confirm.{Confirm}
+use Rattle.cdc_message.specs.declared.packets.Packet.{Packet}
+use Rattle.cdc_message.specs.declared.packets.Packet.TheVariants.{Connect, Publish}
+use Rattle.cdc_message.specs.Items.{events_of, same_item}
+use Rattle.cdc_message.specs.Replays.{IsPrefix, firsts}
 use Rattle.cdc_subscriber.specs.Book.{book_of}
 use Rattle.cdc_subscriber.specs.Heard.{Heard, has_ended}
 
@@ -135,3 +146,126 @@ ends_early faithful = short (ap (λ (es : List Event). length es) (faithful.whol
 -- a queue counts its items from 1 on
 positions : positions_in (deliveries (queue (line history) of_code_1)) ≡ 1 ∷ 2 ∷ 3 ∷ []
 positions = refl
+
+-- ---- a connector run
+
+-- a first session publishes two events, of which the first is confirmed; so a second one may begin after that
+abbrev first_session : Shown
+first_session = record { number = 1; base = 0; items = told_at 0 ∷ told_at 1 ∷ [] }
+
+abbrev second_session : Shown
+second_session = record { number = 2; base = 2000; items = told_at 1 ∷ told_at 2 ∷ EndMark ∷ [] }
+
+-- the confirms that came for both
+abbrev confirms : List Confirm
+confirms =
+    record { session = 1; answer = Confirmed 1 } ∷ record { session = 2; answer = Confirmed 1 }
+    ∷ record { session = 2; answer = Confirmed 2 } ∷ []
+
+-- the packets of both
+abbrev sent : List Packet
+sent = sent_by (second_session ∷ first_session ∷ [])
+
+-- one after another, with tags from 1 on in each session
+sent_in_turn : sent
+    ≡ Connect 1 ∷ Publish 1 1 (told_at 0) ∷ Publish 1 2 (told_at 1) ∷ Connect 2 ∷ Publish 2 1 (told_at 1)
+    ∷ Publish 2 2 (told_at 2) ∷ Publish 2 3 EndMark ∷ []
+sent_in_turn = refl
+
+-- both events of the second session were confirmed
+both_confirmed : AreConfirmed confirms 2 2
+both_confirmed tag above low =
+    elim (cases_lt tag 2) [
+      | inl one ↦
+          let this : 1 ≡ tag = omega (arith, above, one) in
+          subst (IsConfirmed confirms 2) this (1, omega arith, refl)
+      | inr two ↦
+          let this : 2 ≡ tag = omega (arith, low, two) in subst (IsConfirmed confirms 2) this (2, omega arith, refl)
+    ]
+
+-- the second session has the end mark behind two events whose tags were confirmed
+ends_after_confirms : (place : ℕ) → slice_get second_session.items place ≡ Some EndMark
+    → AreConfirmed confirms 2 place
+ends_after_confirms zero there = cc
+ends_after_confirms (suc zero) there = cc
+ends_after_confirms (suc (suc zero)) there = both_confirmed
+ends_after_confirms (suc (suc (suc place))) there = cc
+
+-- the first session has no end mark
+never_ends : (place : ℕ) → slice_get first_session.items place ≡ Some EndMark → AreConfirmed confirms 1 place
+never_ends zero there = cc
+never_ends (suc zero) there = cc
+never_ends (suc (suc place)) there = cc
+
+-- the first session alone stands before the second
+only_first : (other : Shown) → Contains (first_session ∷ []) other → other.number < 2
+only_first other there =
+    elim (Contains-cons_cases first_session [] other there) [
+      | inl is ↦ let number : 1 ≡ other.number = ap (λ (s : Shown). s.number) is in omega (arith, number)
+      | inr none ↦ absurd (none_there other none)
+    ]
+
+-- so they make a connector run
+two_sessions : IsConnectorRun history sent confirms
+two_sessions = record {
+  sessions = second_session ∷ first_session ∷ [];
+  makes = refl;
+  each = (
+    record {
+      above = only_first;
+      base = inr (
+        first_session,
+        (0, omega arith, refl),
+        inr
+            (record {
+              place = 0;
+              event = _;
+              published = refl;
+              at = refl;
+              confirmed = λ tag above low.
+                  let this : 1 ≡ tag = omega (arith, above, low) in
+                  subst (IsConfirmed confirms 1) this (0, omega arith, refl);
+            }),
+      );
+      items = record { rest = []; whole = refl };
+      end = ends_after_confirms;
+    },
+    (
+      record {
+        above = λ other there. absurd (none_there other there);
+        base = inl refl;
+        items = record { rest = told_at 2 ∷ EndMark ∷ []; whole = refl };
+        end = never_ends;
+      },
+      tt,
+    ),
+  );
+}
+
+-- ---- what a broker takes
+
+-- what comes before its session, again or too late is passed over
+taken_in_turn : items_of
+    (taken_of
+    (Publish 1 1 (told_at 0) ∷ Connect 1 ∷ Publish 1 1 (told_at 0) ∷ Publish 1 1 (told_at 0) ∷ Connect 2
+    ∷ Publish 1 2 (told_at 1) ∷ Publish 2 1 (told_at 1) ∷ Publish 2 2 (told_at 2) ∷ []))
+    ≡ told_at 0 ∷ told_at 1 ∷ told_at 2 ∷ []
+taken_in_turn = refl
+
+-- what both sessions published is taken twice, and the first of each item are the line
+taken_twice : items_of (taken_of sent)
+    ≡ told_at 0 ∷ told_at 1 ∷ told_at 1 ∷ told_at 2 ∷ EndMark ∷ []
+taken_twice = refl
+
+first_of_each : firsts same_item (items_of (taken_of sent)) ≡ line history
+first_of_each = refl
+
+-- the first two moments are two
+other_moment : ◌≡◌ {A = ℕ} 2001 2000 → ⊥
+other_moment same = omega (arith, same)
+
+-- where confirms came for a session of which nothing arrived, there is a hole: so a law can't leave out that each confirm
+-- is of a publish that was taken
+hole : IsPrefix (firsts same_item (items_of (taken_of (packets_of second_session)))) (line history) → ⊥
+unfolding moment_at
+hole front = other_moment (ap (λ (items : List Item). moment_at 0 (events_of items)) front.whole)

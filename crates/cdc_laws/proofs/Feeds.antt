@@ -1,6 +1,6 @@
 -- The queue of all that a ledger has to tell, and what a replay of it holds.
 use Rattle.std.proofs.Common.{◌≡◌, Bool, true, false, List, [], ◌∷◌, ◌++◌, map, refl, sym, ap, ◌∙◌, arith}
-use Rattle.std.specs.Prelude.{Contains, filter, if◌then◌else◌}
+use Rattle.std.specs.Prelude.{Contains, filter}
 use Rattle.std.specs.List.{list_any}
 use Rattle.std.proofs.lemmas.List.{append-nil}
 use Rattle.std.proofs.lemmas.List.Elements.{Contains-append_right, filter-append}
@@ -9,7 +9,8 @@ use Rattle.cdc_types.specs.declared.events.Event.{Event}
 use Rattle.cdc_ledger.specs.Events.{events}
 use Rattle.cdc_ledger.specs.History.{History}
 use Rattle.cdc_match.specs.Arguments.{Arguments}
-use Rattle.cdc_match.specs.Queue.{feed, queue, takes_event, takes_item}
+use Rattle.cdc_match.specs.Queue.{queue, takes_item}
+use Rattle.cdc_match.proofs.QueueLaws.{queue-map_messages}
 use Rattle.cdc_message.specs.declared.items.Item.{Item}
 use Rattle.cdc_message.specs.declared.items.Item.TheVariants.{Event as OfEvent, EndMark}
 use Rattle.cdc_message.specs.Items.{TimestampsRise, events_of, rises, same_item}
@@ -23,20 +24,7 @@ use Rattle.cdc_laws.specs.Line.{end_mark_if, feed_of, line, told}
 
 -- ---- the queue of a line
 
--- a binding takes just the items of the events that it takes
-pub queue_events : (binding : Arguments) (es : List Event)
-    → filter (takes_item binding) (map OfEvent es) ≡ map OfEvent (feed es binding)
-queue_events binding [] = refl
-queue_events binding (e ∷ es) = kept_or_not (takes_event binding e) (queue_events binding es)
-  where
-    kept_or_not : (b : Bool) → filter (takes_item binding) (map OfEvent es) ≡ map OfEvent (feed es binding)
-        → (if b then OfEvent e ∷ filter (takes_item binding) (map OfEvent es)
-        else filter (takes_item binding) (map OfEvent es))
-        ≡ map OfEvent (if b then e ∷ feed es binding else feed es binding)
-    kept_or_not true rest = ap (λ items. OfEvent e ∷ items) rest
-    kept_or_not false rest = rest
-
--- and every end mark
+-- a binding takes every end mark
 queue_end : (binding : Arguments) (closed : Bool)
     → filter (takes_item binding) (end_mark_if closed) ≡ end_mark_if closed
 queue_end binding true = refl
@@ -47,7 +35,7 @@ pub queue-line : (h : History) (binding : Arguments)
     → queue (line h) binding ≡ told (feed_of h binding) h.closed
 queue-line h binding =
     filter-append (takes_item binding) (map OfEvent (events h)) (end_mark_if h.closed)
-    ∙ ap (λ items. items ++ filter (takes_item binding) (end_mark_if h.closed)) (queue_events binding (events h))
+    ∙ ap (λ items. items ++ filter (takes_item binding) (end_mark_if h.closed)) (queue-map_messages (events h) binding)
     ∙ ap (λ items. map OfEvent (feed_of h binding) ++ items) (queue_end binding h.closed)
 
 -- ---- a replay of events that rise, and perhaps an end mark

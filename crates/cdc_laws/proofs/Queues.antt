@@ -12,12 +12,11 @@ use Rattle.cdc_laws.specs.Brokers.{HasHandedOut}
 use Rattle.cdc_laws.specs.Deliveries.{deliveries, deliveries_from}
 use Rattle.cdc_laws.proofs.Courses.{take_one}
 use Rattle.cdc_laws.proofs.Deliveries.{deliveries-append, delivery_at, length-deliveries, slice_get-deliveries}
-use Rattle.cdc_laws.proofs.Replays.{Contains-take_longer, IsReplay-found}
 use Rattle.cdc_match.specs.Arguments.{Arguments}
 use Rattle.cdc_match.specs.Queue.{takes_item}
 use Rattle.cdc_message.specs.declared.items.Delivery.{Delivery}
 use Rattle.cdc_message.specs.declared.items.Item.{Item}
-use Rattle.cdc_message.proofs.ReplayLaws.{IsReplay-longer, IsReplay-nil}
+use Rattle.cdc_message.proofs.ReplayLaws.{Contains-take_longer, IsReplay-in_turn, IsReplay-longer, IsReplay-nil}
 
 -- a queue that nothing has come to
 pub HasHandedOut-nil : (binding : Arguments) → HasHandedOut (empty_queue binding) []
@@ -79,7 +78,7 @@ HasHandedOut-next q out d has found =
     (Contains-take_longer place q.handed (deliveries q.items) y (omega (arith, has.next_at_most, has.from_one))
     there) in
     record {
-      replay = IsReplay-found out (deliveries q.items) d place has.replay here before;
+      replay = IsReplay-in_turn out (deliveries q.items) d place has.replay here before;
       all = λ y there.
           elim (cases_lt q.handed q.cursor.next) [
             | inl new ↦

@@ -1,44 +1,16 @@
--- Laws of replays: one more element whose forerunners all came, and the same function of all elements.
-use Rattle.std.proofs.Common.{◌≡◌, ℕ, ◌<◌, ◌≤◌, Some, List, [], ◌∷◌, ◌++◌, length, get_or, map, take, drop, refl, sym, ap, ◌∙◌, subst, inl, inr, arith}
+-- Laws of replays: elements of a beginning, and the same function of all elements.
+use Rattle.std.proofs.Common.{◌≡◌, ℕ, ◌<◌, Some, List, [], ◌∷◌, length, get_or, map, take, refl, sym, ap, ◌∙◌, subst, arith}
 use Rattle.std.specs.Prelude.{Contains, slice_get}
-use Rattle.std.proofs.lemmas.Bool.{cases_lt}
-use Rattle.std.proofs.lemmas.List.{get_or-map, get_or-take, length-map, length-take, take-append-drop, take-map, take-take}
-use Rattle.std.proofs.lemmas.List.Elements.{Contains-append_left, Contains-get_or}
-use Rattle.std.proofs.lemmas.Option.{get_or_from_slice_get, slice_get_read, slice_get_within}
+use Rattle.std.proofs.lemmas.List.{get_or-map, get_or-take, length-map, length-take, take-map}
+use Rattle.std.proofs.lemmas.List.Elements.{Contains-get_or}
+use Rattle.std.proofs.lemmas.Option.{slice_get_read}
 use Rattle.cdc_message.specs.Replays.{HaveSame, IsReplay}
-use Rattle.cdc_message.proofs.ReplayLaws.{HaveSame-refl, IsReplay-all, IsReplay-place}
+use Rattle.cdc_message.proofs.ReplayLaws.{HaveSame-refl}
+pub use Rattle.cdc_message.proofs.ReplayLaws.{IsReplay-in_turn as IsReplay-found}
 
 -- a list is a replay of itself
 pub IsReplay-same : {X : Type 0} (f : List X) → IsReplay f f
 IsReplay-same f = record { beginnings = λ n. (n, HaveSame-refl (take n f)) }
-
--- ---- one more element
-
--- what stands in a beginning stands in the list
-pub Contains-take_all : {X : Type 0} (n : ℕ) (xs : List X) (x : X) → Contains (take n xs) x → Contains xs x
-Contains-take_all n xs x there =
-    subst (λ ys. Contains ys x) (take-append-drop n xs) (Contains-append_left (take n xs) (drop n xs) x there)
-
--- and in each longer beginning
-pub Contains-take_longer : {X : Type 0} (m n : ℕ) (xs : List X) (x : X) → m ≤ n → Contains (take m xs) x
-    → Contains (take n xs) x
-Contains-take_longer m n xs x less there =
-    Contains-take_all m (take n xs) x (subst (λ ys. Contains ys x) (sym (take-take m n xs less)) there)
-
--- a replay that has some beginning, and an element of the list that stands in it or right behind it
-pub IsReplay-found : {X : Type 0} (w f : List X) (x : X) (n : ℕ) → IsReplay w f → slice_get f n ≡ Some x
-    → ((y : X) → Contains (take n f) y → Contains w y) → IsReplay (w ++ x ∷ []) f
-IsReplay-found w f x n replay found before =
-    let within : n < length f = slice_get_within f n x found in
-    let here : get_or f n x ≡ x = get_or_from_slice_get f n x x found in
-    let all = IsReplay-all w f replay in
-    elim (cases_lt n all.0) [
-      | inl early ↦ IsReplay-place w f x all.0 n replay all.1 (omega arith) within here
-      | inr late ↦
-          let same : HaveSame w (take n f) =
-          record { forth = λ y there. Contains-take_longer all.0 n f y late (all.1.forth y there); back = before } in
-          IsReplay-place w f x n n replay same (omega arith) within here
-    ]
 
 -- an element of a beginning, by its place: so what is known of all that stands before a place is known of a beginning
 pub from_places : {X : Type 0} (P : X → Type 0) (n : ℕ) (f : List X)

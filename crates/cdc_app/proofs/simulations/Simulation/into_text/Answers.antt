@@ -1,5 +1,6 @@
 use Rattle.std.proofs.Common.{ap, sym, subst}
-use Rattle.cdc_world.specs.Stands.{Parts, Stands}
+use Rattle.cdc_world.specs.Parts.{Parts}
+use Rattle.cdc_world.specs.Stands.{Stands}
 use Rattle.cdc_app.proofs.SimulationLemmas.{stands_counted, world_text}
 use Rattle.cdc_app.proofs.simulations.Simulation.into_text.Goals as goal
 
