@@ -250,6 +250,14 @@ same 'the example of steps' "batch 1: 0 0 0 0
 batch 2: 0 0 0
 ${shown%\`\`\`}" "$out"
 ends_well 'the example of steps'
+run simulate "$top/examples/two-phase.script" "$top/examples/faults.steps"
+shown=$(sed -n '/^steps 92 of 92$/,/^```$/p' "$top/README.md")
+same 'the example of faults' "${shown%\`\`\`}" "$(sed -n '/^steps /,$p' output)
+"
+ends_well 'the example of faults'
+faulty=$(sed '/^steps /,$d' output)
+run books "$top/examples/two-phase.script"
+same 'the example of faults: its batches' "$(sed '/^subscriber /,$d' output)" "$faulty"
 
 # A bad step file, and one that isn't there: the script is judged first.
 bad_steps() {
