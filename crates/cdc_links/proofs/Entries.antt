@@ -7,7 +7,8 @@ use Rattle.cdc_links.specs.Links.{of_sender, FollowFrom}
 
 module _ {M N : Type 0} where
   -- the part of two lists is the parts of both
-  pub of_sender-append : (j : ℕ) (xs ys : List (ℕ × (M × N))) → of_sender j (xs ++ ys) ≡ of_sender j xs ++ of_sender j ys
+  pub of_sender-append : (j : ℕ) (xs ys : List (ℕ × (M × N)))
+      → of_sender j (xs ++ ys) ≡ of_sender j xs ++ of_sender j ys
   of_sender-append j xs ys =
       let own : ℕ × (M × N) → Bool = λ e. e.0 == j in
       let message : ℕ × (M × N) → M × N = λ e. e.1 in
@@ -21,23 +22,27 @@ module _ {M N : Type 0} where
       ap (λ b. map message (cond b (e ∷ filter own xs) (filter own xs))) (eq-eqb e.0 e.0 refl)
 
   -- another's isn't
-  pub of_sender-other : (j : ℕ) (e : ℕ × (M × N)) (xs : List (ℕ × (M × N))) → e.0 ≢ j → of_sender j (e ∷ xs) ≡ of_sender j xs
+  pub of_sender-other : (j : ℕ) (e : ℕ × (M × N)) (xs : List (ℕ × (M × N))) → e.0 ≢ j
+      → of_sender j (e ∷ xs) ≡ of_sender j xs
   of_sender-other j e xs apart =
       let own : ℕ × (M × N) → Bool = λ x. x.0 == j in
       let message : ℕ × (M × N) → M × N = λ x. x.1 in
       ap (λ b. map message (cond b (e ∷ filter own xs) (filter own xs))) (ne_eqb e.0 j apart)
 
   -- a message more of this sender
-  pub of_sender-snoc_own : (e : ℕ × (M × N)) (xs : List (ℕ × (M × N))) → of_sender e.0 (xs ++ e ∷ []) ≡ of_sender e.0 xs ++ e.1 ∷ []
+  pub of_sender-snoc_own : (e : ℕ × (M × N)) (xs : List (ℕ × (M × N)))
+      → of_sender e.0 (xs ++ e ∷ []) ≡ of_sender e.0 xs ++ e.1 ∷ []
   of_sender-snoc_own e xs = of_sender-append e.0 xs (e ∷ []) ∙ ap (λ l. of_sender e.0 xs ++ l) (of_sender-own e [])
 
   -- a message more of another
-  pub of_sender-snoc_other : (j : ℕ) (e : ℕ × (M × N)) (xs : List (ℕ × (M × N))) → e.0 ≢ j → of_sender j (xs ++ e ∷ []) ≡ of_sender j xs
+  pub of_sender-snoc_other : (j : ℕ) (e : ℕ × (M × N)) (xs : List (ℕ × (M × N))) → e.0 ≢ j
+      → of_sender j (xs ++ e ∷ []) ≡ of_sender j xs
   of_sender-snoc_other j e xs apart =
       of_sender-append j xs (e ∷ []) ∙ (ap (λ l. of_sender j xs ++ l) (of_sender-other j e [] apart) ∙ append-nil (of_sender j xs))
 
   -- a message of this sender in the middle
-  pub of_sender-middle : (e : ℕ × (M × N)) (xs ys : List (ℕ × (M × N))) → of_sender e.0 (xs ++ e ∷ ys) ≡ of_sender e.0 xs ++ e.1 ∷ of_sender e.0 ys
+  pub of_sender-middle : (e : ℕ × (M × N)) (xs ys : List (ℕ × (M × N)))
+      → of_sender e.0 (xs ++ e ∷ ys) ≡ of_sender e.0 xs ++ e.1 ∷ of_sender e.0 ys
   of_sender-middle e xs ys = of_sender-append e.0 xs (e ∷ ys) ∙ ap (λ l. of_sender e.0 xs ++ l) (of_sender-own e ys)
 
   module _ (may_follow : ℕ → List (M × N) → M × N → Type 0) where
@@ -56,7 +61,8 @@ module _ {M N : Type 0} where
         subst (λ l. may_follow j l m) (append_assoc before (x ∷ []) xs) (follow-middle j (before ++ x ∷ []) xs m rest chain.1)
 
     -- a beginning of what could be sent could be sent
-    pub follow-prefix : (j : ℕ) (before messages rest : List (M × N)) → FollowFrom may_follow j before (messages ++ rest)
+    pub follow-prefix : (j : ℕ) (before messages rest : List (M × N))
+        → FollowFrom may_follow j before (messages ++ rest)
         → FollowFrom may_follow j before messages
     follow-prefix j before [] rest chain = tt
     follow-prefix j before (x ∷ xs) rest chain = (chain.0, follow-prefix j (before ++ x ∷ []) xs rest chain.1)

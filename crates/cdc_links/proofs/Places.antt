@@ -95,7 +95,8 @@ pub at_most : (n : ℕ) (xs : List ℕ) → Distinct xs → Below n xs → lengt
 at_most zero [] h below = omega arith
 at_most zero (x ∷ xs) h below = let none : x < 0 = below.0 in absurd (omega arith)
 at_most (suc n) xs h below =
-    let rest : length (without n xs) ≤ n = at_most n (without n xs) (distinct-without n xs h) (below-without n xs below) in
+    let rest : length (without n xs) ≤ n =
+    at_most n (without n xs) (distinct-without n xs h) (below-without n xs below) in
     let one = length-without n xs h in
     omega arith
 

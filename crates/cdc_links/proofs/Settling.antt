@@ -1,11 +1,12 @@
 -- What the receiver's pass has learned, read as the account of all senders that were handed back.
 use Rattle.std.proofs.Common.{◌≡◌, ◌+◌, ◌<◌, ◌≤◌, ℕ, suc, cond, List, [], ◌∷◌, ◌++◌, All, map, length, sum_by, sym, refl, ap, ◌∙◌, subst, lt_of_not-le, arith}
 use Rattle.std.proofs.lemmas.List.Elements.{All-nil, All-cons}
+use Rattle.std.proofs.lemmas.List.{map-append}
 use Rattle.std.proofs.lemmas.List.Sums.{sum_by-cons}
 use mathlib.Core.List.{cons≢nil}
 use Rattle.cdc_links.specs.declared.rule.Knowledge.{Knowledge}
 use Rattle.cdc_links.specs.Links.{Outgoing, Incoming, of_sender, IsAccount}
-use Rattle.cdc_links.specs.Rule.{receiving, joined_of, IsApart, AreApart, AreWhole, IsSettled}
+use Rattle.cdc_links.specs.Rule.{receiving, joined_of, with_joined, with_all_joined, IsApart, AreApart, AreWhole, IsSettled}
 use Rattle.cdc_links.proofs.Entries.{of_sender-own, of_sender-other}
 use Rattle.cdc_links.proofs.Places.{In, Away, Distinct, Below, hits, by_equal, in-contains, all_there, hits-once}
 
@@ -27,7 +28,8 @@ module _ {M N : Type 0} where
   numbers-distinct [] h = tt
   numbers-distinct (x ∷ xs) h = (numbers-away x.number xs h.0, numbers-distinct xs h.1)
 
-  numbers-below : (entries : List (ℕ × (M × N))) (n : ℕ) (ends : List (Outgoing M N)) → AreWhole entries n (joined_of ends) → Below n (numbers ends)
+  numbers-below : (entries : List (ℕ × (M × N))) (n : ℕ) (ends : List (Outgoing M N))
+      → AreWhole entries n (joined_of ends) → Below n (numbers ends)
   numbers-below entries n [] h = tt
   numbers-below entries n (x ∷ xs) h = (h.1, numbers-below entries n xs h.2)
 
@@ -39,7 +41,8 @@ module _ {M N : Type 0} where
   all_whole : (entries : List (ℕ × (M × N))) (n : ℕ) (ends : List (Outgoing M N)) → AreWhole entries n (joined_of ends)
       → All (λ end. of_sender end.number entries ≡ end.sent) ends
   all_whole entries n [] h = All-nil (λ end. of_sender end.number entries ≡ end.sent)
-  all_whole entries n (x ∷ xs) h = All-cons (λ end. of_sender end.number entries ≡ end.sent) x xs h.0 (all_whole entries n xs h.2)
+  all_whole entries n (x ∷ xs) h =
+      All-cons (λ end. of_sender end.number entries ≡ end.sent) x xs h.0 (all_whole entries n xs h.2)
 
   -- one entry more counts once for each time that its sender's number stands there
   count-more : (e : ℕ × (M × N)) (es : List (ℕ × (M × N))) (ns : List ℕ)
@@ -91,7 +94,8 @@ module _ {M N : Type 0} where
       let entries : List (ℕ × (M × N)) = into.received ++ s.left in
       let ns : List ℕ = numbers handed in
       let once = numbers-distinct handed s.once in
-      let there = all_there into.senders ns once (numbers-below entries into.senders handed s.whole) (numbers-length handed ∙ many) in (
+      let there =
+      all_there into.senders ns once (numbers-below entries into.senders handed s.whole) (numbers-length handed ∙ many) in (
         s.left,
         (
           all_whole entries into.senders handed s.whole,
@@ -99,3 +103,13 @@ module _ {M N : Type 0} where
           count-all entries into.senders ns once there s.fresh ∙ sum_sent entries into.senders handed s.whole,
         ),
       )
+
+  -- one end more was taken in
+  pub joined_more : (v w after : Knowledge M N) (ends : List (Outgoing M N)) (end : Outgoing M N)
+      → w ≡ with_all_joined v ends
+      → after ≡ with_joined w end → after ≡ with_all_joined v (ends ++ end ∷ [])
+  joined_more v w after ends end was is =
+      let x : ℕ × List (M × N) = (end.number, end.sent) in
+      let more : joined_of (ends ++ end ∷ []) ≡ joined_of ends ++ x ∷ [] =
+      map-append (λ e. (e.number, e.sent)) ends (end ∷ []) in
+      is ∙ ((λ i. receiving ((was i).received) ((was i).given) ((was i).joined ++ x ∷ [])) ∙ ap (receiving v.received v.given) (sym more))

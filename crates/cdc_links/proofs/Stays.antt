@@ -22,7 +22,8 @@ module _ {M N : Type 0} where
       λ i. record { link = record { table = same_table i; slots = same_slots i }; senders = (is i).given; received = (is i).received }
 
   -- one sender more
-  pub fresh_more : (link : LinkId M) (n : ℕ) → fresh_ends {N = N} link (n + 1) ≡ fresh_ends link n ++ record { link = link; number = n; sent = [] } ∷ []
+  pub fresh_more : (link : LinkId M) (n : ℕ)
+      → fresh_ends {N = N} link (n + 1) ≡ fresh_ends link n ++ record { link = link; number = n; sent = [] } ∷ []
   fresh_more link n = ap (fresh_ends {N = N} link) (add-one n)
 
   module _ (may_follow : ℕ → List (M × N) → M × N → Type 0) where
@@ -36,7 +37,8 @@ module _ {M N : Type 0} where
         (ap (λ u. u.number) is) (sends may_follow n pass v m name (ap (λ u. u.sends) is))
 
     -- a sender's end after a send
-    pub sent_stays : (number count : ℕ) (v w : Knowledge M N) (m : M × N) → v ≡ sending number v.sent false → count ≡ length v.sent
+    pub sent_stays : (number count : ℕ) (v w : Knowledge M N) (m : M × N) → v ≡ sending number v.sent false
+        → count ≡ length v.sent
         → CanSend may_follow number v.sent → may_follow number v.sent m → w ≡ sending v.number (v.sent ++ m ∷ []) false
         → (w ≡ sending number w.sent false) × (count + 1 ≡ length w.sent) × CanSend may_follow number w.sent
     sent_stays number count v w m is n lawful next then_is =
@@ -47,8 +49,10 @@ module _ {M N : Type 0} where
         )
 
     -- the receiver's end after a receive
-    pub received_stays : (count : ℕ) (v : Knowledge M N) (x : Parcel M) (w : Knowledge M N) → v ≡ receiving v.received v.given []
-        → count ≡ length v.received → ((j : ℕ) → CanSend may_follow j (of_sender j v.received)) → Received may_follow v x w
+    pub received_stays : (count : ℕ) (v : Knowledge M N) (x : Parcel M) (w : Knowledge M N)
+        → v ≡ receiving v.received v.given []
+        → count ≡ length v.received → ((j : ℕ) → CanSend may_follow j (of_sender j v.received))
+        → Received may_follow v x w
         → (w ≡ receiving w.received w.given []) × (count + 1 ≡ length w.received) × ((j : ℕ) → CanSend may_follow j (of_sender j w.received))
     received_stays count v x w is n lawful told =
         let e : ℕ × (M × N) = (x.sender, (x.value, told.0)) in
@@ -67,7 +71,8 @@ module _ {M N : Type 0} where
         × (◌≡◌ {A = Incoming M N} (record { link = record { table = after_table; slots = after_slots }; senders = w.given; received = w.received })
         (with_received before (j, (x.value, name))))
     received_answer table after_table slots after_slots v w x before same_table same_slots told shown =
-        let after : Incoming M N = record { link = record { table = after_table; slots = after_slots }; senders = w.given; received = w.received } in
+        let after : Incoming M N =
+        record { link = record { table = after_table; slots = after_slots }; senders = w.given; received = w.received } in
         subst (λ (o : Incoming M N). (j : ℕ) × (name : N) × (j < o.senders) × may_follow j (of_sender j o.received) (x.value, name)
         × (after ≡ with_received o (j, (x.value, name)))) shown (
           x.sender,

@@ -21,7 +21,8 @@ not_so p = true≢false (sym p)
 
 module _ {V : Type 0} where
   -- the last place of a longer list
-  at_end : (l : List V) (a b : V) (j : ℕ) → get_elem? (l ++ a ∷ []) j ≡ some b → (get_elem? l j ≡ some b) ⊎ ((j ≡ length l) × (a ≡ b))
+  at_end : (l : List V) (a b : V) (j : ℕ) → get_elem? (l ++ a ∷ []) j ≡ some b
+      → (get_elem? l j ≡ some b) ⊎ ((j ≡ length l) × (a ≡ b))
   at_end [] a b zero e = inr (refl, some-injective a b e)
   at_end [] a b (suc j) e = absurd (some-ne-none b (sym e))
   at_end (x ∷ xs) a b zero e = inl e
@@ -87,7 +88,8 @@ module _ {M N : Type 0} where
 
     -- what a sender has sent could be sent, also with one message more
     pub lawful-sent : (all : List (ℕ × (M × N))) (e : ℕ × (M × N)) → may_follow e.0 (of_sender e.0 all) e.1
-        → ((j : ℕ) → CanSend may_follow j (of_sender j all)) → (j : ℕ) → CanSend may_follow j (of_sender j (all ++ e ∷ []))
+        → ((j : ℕ) → CanSend may_follow j (of_sender j all)) → (j : ℕ)
+        → CanSend may_follow j (of_sender j (all ++ e ∷ []))
     lawful-sent all e next lawful j =
         dite (ℕ_discrete e.0 j)
         (λ is. subst (λ k. CanSend may_follow k (of_sender k (all ++ e ∷ []))) is
@@ -95,14 +97,16 @@ module _ {M N : Type 0} where
         (λ ne. subst (CanSend may_follow j) (sym (of_sender-snoc_other j e all ne)) (lawful j))
 
     -- send: the message goes to the back, and the sender's pass knows that it was sent
-    pub sends : (n pass : ℕ) (v : Knowledge M N) (m : M) (name : N) → v.sends ≡ true → may_follow v.number v.sent (m, name)
+    pub sends : (n pass : ℕ) (v : Knowledge M N) (m : M) (name : N) → v.sends ≡ true
+        → may_follow v.number v.sent (m, name)
         → Pushes Rule n pass v (record { sender = v.number; value = m }) (λ w. w ≡ sending v.number (v.sent ++ (m, name) ∷ []) false)
     sends n pass v m name may follow items views _ h at =
         let e : ℕ × (M × N) = (v.number, (m, name)) in
         let w : Knowledge M N = sending v.number (v.sent ++ (m, name) ∷ []) false in
         let mine = (h.known pass v at).0 may in
         let below : v.number < h.given = mine.1 in
-        let next : may_follow v.number (of_sender v.number h.all) (m, name) = subst (λ l. may_follow v.number l (m, name)) mine.3 follow in
+        let next : may_follow v.number (of_sender v.number h.all) (m, name) =
+        subst (λ l. may_follow v.number l (m, name)) mine.3 follow in
         let F : ℕ → Knowledge M N → Type 0 = Fits h.all h.log h.given h.joined h.reader h.seat in
         let G : ℕ → Knowledge M N → Type 0 = Fits (h.all ++ e ∷ []) h.log h.given h.joined h.reader h.seat in
         let own : G pass w =
@@ -144,7 +148,8 @@ module _ {M N : Type 0} where
         let mine = (h.known pass v at).1 may in
         let split : h.all ≡ h.log ++ e ∷ rest = h.parts ∙ ap (λ l. h.log ++ l) f.2 in
         let w : Knowledge M N = receiving (v.received ++ e ∷ []) v.given v.joined in
-        let own_part : of_sender e.0 h.all ≡ of_sender e.0 h.log ++ e.1 ∷ of_sender e.0 rest = ap (of_sender e.0) split ∙ of_sender-middle e h.log rest in
+        let own_part : of_sender e.0 h.all ≡ of_sender e.0 h.log ++ e.1 ∷ of_sender e.0 rest =
+        ap (of_sender e.0) split ∙ of_sender-middle e h.log rest in
         let follows : may_follow e.0 (of_sender e.0 v.received) e.1 =
         subst (λ l. may_follow e.0 (of_sender e.0 l) e.1) (sym mine.1)
         (follow-middle may_follow e.0 [] (of_sender e.0 h.log) e.1 (of_sender e.0 rest) (subst (CanSend may_follow e.0) own_part (h.lawful e.0))) in
@@ -226,7 +231,8 @@ module _ {M N : Type 0} where
         }
 
     -- hand back: the sender's pass is closed, and its list stays
-    pub hands_back : (pass : ℕ) (v : Knowledge M N) → v.sends ≡ true → Forks Rule pass v (sending v.number v.sent true) nobody
+    pub hands_back : (pass : ℕ) (v : Knowledge M N) → v.sends ≡ true
+        → Forks Rule pass v (sending v.number v.sent true) nobody
     hands_back pass v may items views h at =
         let left : Knowledge M N = sending v.number v.sent true in
         let vs : List (Knowledge M N) = set views pass left in
@@ -261,7 +267,8 @@ module _ {M N : Type 0} where
         let joined : List (ℕ × List (M × N)) = h.joined ++ x ∷ [] in
         let both : Knowledge M N = receiving v.received v.given (v.joined ++ x ∷ []) in
         let vs : List (Knowledge M N) = set views pass both in
-        let was : get_elem? views other ≡ some u = ⊎_elim (λ y. absurd (two y.0)) (λ y. y.1) (at_set views pass other both u at_other) in
+        let was : get_elem? views other ≡ some u =
+        ⊎_elim (λ y. absurd (two y.0)) (λ y. y.1) (at_set views pass other both u at_other) in
         let mine = (h.known pass v at).1 may in
         let theirs = (h.known other u was).0 theirs_sends in
         let F : ℕ → Knowledge M N → Type 0 = Fits h.all h.log h.given h.joined h.reader h.seat in
@@ -292,7 +299,8 @@ module _ {M N : Type 0} where
           fresh = h.fresh;
           whole = whole-snoc h.all h.given h.joined x h.whole (sym theirs.3) theirs.1;
           once = once-snoc h.joined x h.once theirs.2;
-          known = each-set Now G vs other nobody (each-set F Now views pass both h.known own others) spent (λ j y ne f. f ne);
+          known =
+              each-set Now G vs other nobody (each-set F Now views pass both h.known own others) spent (λ j y ne f. f ne);
         }
 
     -- what the receiver's pass learns
@@ -302,7 +310,8 @@ module _ {M N : Type 0} where
         let all : h.all ≡ v.received ++ h.held = h.parts ∙ ap (λ l. l ++ h.held) (sym mine.1) in
         record {
           left = h.held;
-          whole = subst (λ (y : List (ℕ × (M × N)) × ℕ × List (ℕ × List (M × N))). AreWhole y.0 y.1 y.2) (λ i. (all i, sym mine.2 i, sym mine.3 i)) h.whole;
+          whole =
+              subst (λ (y : List (ℕ × (M × N)) × ℕ × List (ℕ × List (M × N))). AreWhole y.0 y.1 y.2) (λ i. (all i, sym mine.2 i, sym mine.3 i)) h.whole;
           once = subst AreApart (sym mine.3) h.once;
           fresh = λ j le. ap (of_sender j) (sym all) ∙ h.fresh j (subst (λ k. k ≤ j) mine.2 le);
         }

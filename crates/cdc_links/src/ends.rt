@@ -1,11 +1,11 @@
 //! The ends of a link.
 
-ghost use Rattle.std.specs.Prelude.{◌≡◌, ◌<◌, ◌+◌, ◌-◌, ◌^◌, ℕ, [], ◌∷◌, ◌++◌, List, length, All, sum_by, min, MatchResult, IfOk, IfErr, vec_len};
-ghost use Rattle.cdc_links.specs.declared.errors.LinkFault.TheVariants.{PeerGone, OutOfMemory};
-ghost use Rattle.cdc_links.specs.Links.{of_sender, fresh_ends, with_sent, with_received, CanSend, IsAccount};
-ghost use Rattle.crossbeam_channel.specs.Claims.{view as known, IsSeatAt};
+ghost use Rattle.std.specs.Prelude.{◌≡◌, ◌<◌, ◌-◌, ◌^◌, ℕ, [], ◌∷◌, ◌++◌, List, length, All, sum_by, min, IfOk, IfErr, vec_len};
+ghost use Rattle.crossbeam_channel.specs.Claims.{view as known};
 ghost use Rattle.crossbeam_channel.specs.Ends.{sends_on};
-ghost use Rattle.cdc_links.specs.Rule.{receiving, joined_of, IsSettled, IsLinkOf};
+ghost use Rattle.cdc_links.specs.declared.errors.LinkFault.TheVariants.{PeerGone, OutOfMemory};
+ghost use Rattle.cdc_links.specs.Links.{of_sender, fresh_end, fresh_ends, with_sent, with_sender, Takes, CanSend, IsAccount};
+ghost use Rattle.cdc_links.specs.Rule.{IsPassOf, IsReceiver, HasTakenNone, with_joined, with_all_joined, IsSettled, IsLinkOf};
 
 use crate::errors::{LinkFault, SendRefused};
 use crate::messages::{Message, Naming};
@@ -26,17 +26,15 @@ pub struct LinkOut<M: Message> {
 }
 
 impl<M: Message> Model for LinkOut<M> {
-    ghost use Rattle.std.specs.Prelude.{◌≡◌, length, false};
-    ghost use Rattle.crossbeam_channel.specs.Claims.{view as known, IsSeatAt};
-    ghost use Rattle.crossbeam_channel.specs.Ends.{sends_on};
-    ghost use Rattle.cdc_links.specs.Links.{Outgoing, CanSend};
-    ghost use Rattle.cdc_links.specs.Rule.{sending};
+    ghost use Rattle.std.specs.Prelude.{false};
+    ghost use Rattle.cdc_links.specs.Links.{Outgoing};
+    ghost use Rattle.cdc_links.specs.Rule.{shown_out, KeepsOut};
 
     ghost Value = { Outgoing M M.Name };
 
-    ghost view = { λ end. record { link = record { table = end.pass.table_id; slots = end.pass.me.0.of }; number = end.number; sent = (known end.pass).sent } };
+    ghost view = { λ out. shown_out out.number out.pass };
 
-    ghost invariant = { λ end. IsSeatAt (sends_on end.sender) end.pass × (known end.pass ≡ sending end.number (known end.pass).sent false) × (end.count ≡ length (known end.pass).sent) × CanSend M.may_follow end.number (known end.pass).sent };
+    ghost invariant = { λ o. KeepsOut M.may_follow false o.sender o.pass o.number o.count };
 }
 
 impl<M: Message> LinkOut<M> {
@@ -48,7 +46,8 @@ impl<M: Message> LinkOut<M> {
         value: M,
     ) -> Result<(), SendRefused<M>>
         requires { M.may_follow self.old.number self.old.sent (value, K.name) }
-        ensures { MatchResult result (λ _. self.new ≡ with_sent self.old (value, K.name)) (λ refused. (refused.value ≡ value) × (self.new ≡ self.old)) }
+        ensures sent { IfOk result (λ _. self.new ≡ with_sent self.old (value, K.name)) }
+        ensures refused { IfErr result (λ it. (it.value ≡ value) × (self.new ≡ self.old)) }
     {
         if self.count == u64::MAX {
             return Err(SendRefused { value });
@@ -109,31 +108,27 @@ pub struct Handed<M: Message> {
 }
 
 impl<M: Message> Model for Handed<M> {
-    ghost use Rattle.std.specs.Prelude.{◌≡◌, length, true};
-    ghost use Rattle.crossbeam_channel.specs.Claims.{view as known, IsSeatAt};
-    ghost use Rattle.crossbeam_channel.specs.Ends.{sends_on};
-    ghost use Rattle.cdc_links.specs.Links.{Outgoing, CanSend};
-    ghost use Rattle.cdc_links.specs.Rule.{sending};
+    ghost use Rattle.std.specs.Prelude.{true};
+    ghost use Rattle.cdc_links.specs.Links.{Outgoing};
+    ghost use Rattle.cdc_links.specs.Rule.{shown_out, KeepsOut};
 
     ghost Value = { Outgoing M M.Name };
 
-    ghost view = { λ end. record { link = record { table = end.pass.table_id; slots = end.pass.me.0.of }; number = end.number; sent = (known end.pass).sent } };
+    ghost view = { λ end. shown_out end.number end.pass };
 
-    ghost invariant = { λ end. IsSeatAt (sends_on end.sender) end.pass × (known end.pass ≡ sending end.number (known end.pass).sent true) × (end.count ≡ length (known end.pass).sent) × CanSend M.may_follow end.number (known end.pass).sent };
+    ghost invariant = { λ o. KeepsOut M.may_follow true o.sender o.pass o.number o.count };
 }
 
 impl<M: Message> Handed<M> {
     /// The receiver's pass takes this end in, and learns what the link still holds. Answers how many messages the end has
     /// sent.
     fn join(self, pass: &mut Pass<Parcel<M>, Knowledge<M, M::Name>>) -> u64
-        requires table { pass.old.table_id ≡ self.link.table }
-        requires slots { pass.old.me.0.of ≡ self.link.slots }
-        requires free { pass.old.me.1 ≡ [] }
-        requires receiver { known pass.old ≡ receiving (known pass.old).received (known pass.old).given (known pass.old).joined }
+        requires own { IsPassOf self.link pass.old }
+        requires receiver { IsReceiver (known pass.old) }
         ensures table { pass.new.table_id ≡ pass.old.table_id }
         ensures slots { pass.new.me.0.of ≡ pass.old.me.0.of }
         ensures free { pass.new.me.1 ≡ [] }
-        ensures joined { known pass.new ≡ receiving (known pass.old).received (known pass.old).given ((known pass.old).joined ++ (self.number, self.sent) ∷ []) }
+        ensures joined { known pass.new ≡ with_joined (known pass.old) self }
         ensures settled { IsSettled (known pass.new) }
         ensures count { result ≡ length self.sent }
         ensures lawful { CanSend M.may_follow self.number self.sent }
@@ -154,37 +149,35 @@ impl<M: Message> Handed<M> {
 /// far, with its sender's number and what it names.
 #[derive(Drop)]
 pub struct LinkIn<M: Message> {
-    count: u64,
+    received: u64,
     receiver: RuledReceiver<Parcel<M>, Knowledge<M, M::Name>, Ruled>,
     pass: Pass<Parcel<M>, Knowledge<M, M::Name>>,
 }
 
 impl<M: Message> Model for LinkIn<M> {
-    ghost use Rattle.std.specs.Prelude.{◌≡◌, ℕ, length, []};
-    ghost use Rattle.crossbeam_channel.specs.Claims.{view as known, IsSeatAt};
-    ghost use Rattle.crossbeam_channel.specs.Ends.{receives_on};
-    ghost use Rattle.cdc_links.specs.Links.{Incoming, CanSend, of_sender};
-    ghost use Rattle.cdc_links.specs.Rule.{receiving};
+    ghost use Rattle.cdc_links.specs.Links.{Incoming};
+    ghost use Rattle.cdc_links.specs.Rule.{shown_in, KeepsIn};
 
     ghost Value = { Incoming M M.Name };
 
-    ghost view = { λ end. record { link = record { table = end.pass.table_id; slots = end.pass.me.0.of }; senders = (known end.pass).given; received = (known end.pass).received } };
+    ghost view = { λ into. shown_in into.pass };
 
-    ghost invariant = { λ end. IsSeatAt (receives_on end.receiver) end.pass × (known end.pass ≡ receiving (known end.pass).received (known end.pass).given []) × (end.count ≡ length (known end.pass).received) × ((j : ℕ) → CanSend M.may_follow j (of_sender j (known end.pass).received)) };
+    ghost invariant = { λ into. KeepsIn M.may_follow into.receiver into.pass into.received };
 }
 
 impl<M: Message> LinkIn<M> {
     /// Receives the message at the front. It waits while there is none. Where the senders are gone, or 2^64 - 1 messages
     /// were received, nothing has changed.
     pub fn receive<R: Wait>(&mut self, rt: &R) -> Result<M, LinkFault>
-        ensures { MatchResult result (λ value. (j : ℕ) × (name : M.Name) × (j < self.old.senders) × M.may_follow j (of_sender j self.old.received) (value, name) × (self.new ≡ with_received self.old (j, (value, name)))) (λ fault. (fault ≡ PeerGone) × (self.new ≡ self.old)) }
+        ensures received { IfOk result (λ value. Takes M.may_follow self.old value self.new) }
+        ensures refused { IfErr result (λ fault. (fault ≡ PeerGone) × (self.new ≡ self.old)) }
     {
-        if self.count == u64::MAX {
+        if self.received == u64::MAX {
             return Err(LinkFault::PeerGone);
         }
         match self.receiver.recv_as::<Receives, R>(rt, &mut self.pass) {
             Ok(parcel) => {
-                self.count += 1;
+                self.received += 1;
                 Ok(parcel.value)
             }
             Err(_) => Err(LinkFault::PeerGone),
@@ -196,7 +189,7 @@ impl<M: Message> LinkIn<M> {
         ensures count { result ≡ length self.now.received }
         ensures lawful { (j : ℕ) → CanSend M.may_follow j (of_sender j self.now.received) }
     {
-        self.count
+        self.received
     }
 }
 
@@ -223,7 +216,7 @@ impl<M: Message> LinkIn<M> {
             Global,
         >(alloc, capacity)?;
         let into = LinkIn {
-            count: 0,
+            received: 0,
             receiver,
             pass,
         };
@@ -238,8 +231,8 @@ impl<M: Message> LinkIn<M> {
     ) -> Result<LinkOut<M>, AllocError>
         requires same { IsLinkOf self.old.link (sends_on sender.now) }
         requires next { number ≡ self.old.senders }
-        ensures end { IfOk result (λ end. end ≡ record { link = self.old.link; number = number; sent = [] }) }
-        ensures more { IfOk result (λ _. self.new ≡ record { link = self.old.link; senders = number + 1; received = self.old.received }) }
+        ensures end { IfOk result (λ end. end ≡ fresh_end self.old.link number) }
+        ensures more { IfOk result (λ _. self.new ≡ with_sender self.old) }
     {
         let sender = sender.try_clone()?;
         let pass = sender.another::<Seats>(&mut self.pass);
@@ -287,10 +280,10 @@ fn join_all<M: Message>(
     pass: &mut Pass<Parcel<M>, Knowledge<M, M::Name>>,
     handed: Vec<Handed<M>>,
 ) -> u64
-    requires ours { All (λ end. (pass.old.table_id ≡ end.link.table) × (pass.old.me.0.of ≡ end.link.slots)) handed.items }
+    requires ours { All (λ end. IsPassOf end.link pass.old) handed.items }
     requires free { pass.old.me.1 ≡ [] }
-    requires receiver { known pass.old ≡ receiving (known pass.old).received (known pass.old).given [] }
-    ensures joined { known pass.new ≡ receiving (known pass.old).received (known pass.old).given (joined_of handed.items) }
+    requires receiver { HasTakenNone (known pass.old) }
+    ensures joined { known pass.new ≡ with_all_joined (known pass.old) handed.items }
     ensures settled { 0 < vec_len handed → IsSettled (known pass.new) }
     ensures sent { result ≡ min (2 ^ 64 - 1) (sum_by (λ end. length end.sent) handed.items) }
     ensures lawful { All (λ end. CanSend M.may_follow end.number end.sent) handed.items }
@@ -313,13 +306,10 @@ pub fn settle<M: Message>(into: LinkIn<M>, handed: Vec<Handed<M>>) -> Tally
     ensures lawful { All (λ end. CanSend M.may_follow end.number end.sent) handed.items }
 {
     let LinkIn {
-        count,
+        received,
         receiver: _,
         mut pass,
     } = into;
     let sent = join_all(&mut pass, handed);
-    Tally {
-        sent,
-        received: count,
-    }
+    Tally { sent, received }
 }

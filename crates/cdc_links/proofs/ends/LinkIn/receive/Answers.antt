@@ -14,12 +14,12 @@ invariant_of-self g c =
     let end = c.self.inside in
     let kept = c.self.invariant in
     let stays =
-    received_stays g.M.Message.may_follow end.count (known end.pass) c.in-Ok.parcel (known c.recv_as.new.pass) kept.1 kept.2 kept.3
+    received_stays g.M.Message.may_follow end.received (known end.pass) c.in-Ok.parcel (known c.recv_as.new.pass) kept.1 kept.2 kept.3
     c.in-Ok.ensures.rule in
     (c.recv_as.ensures.channel.0, stays.0, stays.1, stays.2)
 
-pub returns-in-Ok : goal.returns-in-Ok
-returns-in-Ok g c =
+pub returns-in-Ok-clause-received : goal.returns-in-Ok-clause-received
+returns-in-Ok-clause-received g c =
     let end = c.self.inside in
     let after = c.recv_as.new.pass in
     let was = c.self.invariant.0 in
