@@ -1,0 +1,6 @@
+mod Entries
+mod Joined
+mod Places
+mod Settling
+mod Stays
+mod Steps

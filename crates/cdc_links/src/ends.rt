@@ -1,0 +1,315 @@
+//! The ends of a link.
+
+ghost use Rattle.std.specs.Prelude.{◌≡◌, ◌<◌, ◌-◌, ◌^◌, ℕ, [], ◌∷◌, ◌++◌, List, length, All, sum_by, min, IfOk, IfErr, vec_len};
+ghost use Rattle.crossbeam_channel.specs.Claims.{view as known};
+ghost use Rattle.crossbeam_channel.specs.Ends.{sends_on};
+ghost use Rattle.cdc_links.specs.declared.errors.LinkFault.TheVariants.{PeerGone, OutOfMemory};
+ghost use Rattle.cdc_links.specs.Links.{of_sender, fresh_end, fresh_ends, with_sent, with_sender, Takes, CanSend, IsAccount};
+ghost use Rattle.cdc_links.specs.Rule.{IsPassOf, IsReceiver, HasTakenNone, with_joined, with_all_joined, IsSettled, IsLinkOf};
+
+use crate::errors::{LinkFault, SendRefused};
+use crate::messages::{Message, Naming};
+use crate::rule::{HandsBack, Knowledge, Parcel, Receives, Ruled, Seats, Sends, Settles, TakesIn};
+use crossbeam_channel::{Pass, RuledReceiver, RuledSender, bounded_with};
+use std::alloc::{AllocError, Global};
+use std::marker::Model;
+use std::sync::Wait;
+
+/// A sender's end of a link. A clause sees which link it is of, the end's number there, and what it has sent so far with
+/// what each message names.
+#[derive(Drop)]
+pub struct LinkOut<M: Message> {
+    number: u64,
+    count: u64,
+    sender: RuledSender<Parcel<M>, Knowledge<M, M::Name>, Ruled>,
+    pass: Pass<Parcel<M>, Knowledge<M, M::Name>>,
+}
+
+impl<M: Message> Model for LinkOut<M> {
+    ghost use Rattle.std.specs.Prelude.{false};
+    ghost use Rattle.cdc_links.specs.Links.{Outgoing};
+    ghost use Rattle.cdc_links.specs.Rule.{shown_out, KeepsOut};
+
+    ghost Value = { Outgoing M M.Name };
+
+    ghost view = { λ out. shown_out out.number out.pass };
+
+    ghost invariant = { λ o. KeepsOut M.may_follow false o.sender o.pass o.number o.count };
+}
+
+impl<M: Message> LinkOut<M> {
+    /// Sends a message, under the name that `K` picks. It waits while the link is full. Where the receiver is gone, or
+    /// 2^64 - 1 messages were sent, the message comes back and nothing has changed.
+    pub fn send<K: Naming<M::Name>, R: Wait>(
+        &mut self,
+        rt: &R,
+        value: M,
+    ) -> Result<(), SendRefused<M>>
+        requires { M.may_follow self.old.number self.old.sent (value, K.name) }
+        ensures sent { IfOk result (λ _. self.new ≡ with_sent self.old (value, K.name)) }
+        ensures refused { IfErr result (λ it. (it.value ≡ value) × (self.new ≡ self.old)) }
+    {
+        if self.count == u64::MAX {
+            return Err(SendRefused { value });
+        }
+        let parcel = Parcel {
+            sender: self.number,
+            value,
+        };
+        match self
+            .sender
+            .send_as::<Sends<K>, R>(rt, &mut self.pass, parcel)
+        {
+            Ok(()) => {
+                self.count += 1;
+                Ok(())
+            }
+            Err(refused) => Err(SendRefused {
+                value: refused.into_inner().value,
+            }),
+        }
+    }
+
+    /// How many messages were sent.
+    pub fn sent_count(&self) -> u64
+        ensures count { result ≡ length self.now.sent }
+        ensures lawful { CanSend M.may_follow self.now.number self.now.sent }
+    {
+        self.count
+    }
+
+    /// Gives up sending; `settle` takes what comes of it.
+    pub fn hand_back(self) -> Handed<M>
+        ensures { result ≡ self }
+    {
+        let Self {
+            number,
+            count,
+            sender,
+            mut pass,
+        } = self;
+        sender.another::<HandsBack>(&mut pass);
+        Handed {
+            number,
+            count,
+            sender,
+            pass,
+        }
+    }
+}
+
+/// What is left of a sender's end that was handed back. A clause sees of it what it saw of the end.
+#[derive(Drop)]
+pub struct Handed<M: Message> {
+    number: u64,
+    count: u64,
+    sender: RuledSender<Parcel<M>, Knowledge<M, M::Name>, Ruled>,
+    pass: Pass<Parcel<M>, Knowledge<M, M::Name>>,
+}
+
+impl<M: Message> Model for Handed<M> {
+    ghost use Rattle.std.specs.Prelude.{true};
+    ghost use Rattle.cdc_links.specs.Links.{Outgoing};
+    ghost use Rattle.cdc_links.specs.Rule.{shown_out, KeepsOut};
+
+    ghost Value = { Outgoing M M.Name };
+
+    ghost view = { λ end. shown_out end.number end.pass };
+
+    ghost invariant = { λ o. KeepsOut M.may_follow true o.sender o.pass o.number o.count };
+}
+
+impl<M: Message> Handed<M> {
+    /// The receiver's pass takes this end in, and learns what the link still holds. Answers how many messages the end has
+    /// sent.
+    fn join(self, pass: &mut Pass<Parcel<M>, Knowledge<M, M::Name>>) -> u64
+        requires own { IsPassOf self.link pass.old }
+        requires receiver { IsReceiver (known pass.old) }
+        ensures table { pass.new.table_id ≡ pass.old.table_id }
+        ensures slots { pass.new.me.0.of ≡ pass.old.me.0.of }
+        ensures free { pass.new.me.1 ≡ [] }
+        ensures joined { known pass.new ≡ with_joined (known pass.old) self }
+        ensures settled { IsSettled (known pass.new) }
+        ensures count { result ≡ length self.sent }
+        ensures lawful { CanSend M.may_follow self.number self.sent }
+    {
+        let Self {
+            number: _,
+            count,
+            sender,
+            pass: other,
+        } = self;
+        sender.absorb::<TakesIn>(pass, other);
+        sender.learn_as::<Settles>(pass);
+        count
+    }
+}
+
+/// The receiver's end of a link. A clause sees which link it is of, how many senders that has, and what was received so
+/// far, with its sender's number and what it names.
+#[derive(Drop)]
+pub struct LinkIn<M: Message> {
+    received: u64,
+    receiver: RuledReceiver<Parcel<M>, Knowledge<M, M::Name>, Ruled>,
+    pass: Pass<Parcel<M>, Knowledge<M, M::Name>>,
+}
+
+impl<M: Message> Model for LinkIn<M> {
+    ghost use Rattle.cdc_links.specs.Links.{Incoming};
+    ghost use Rattle.cdc_links.specs.Rule.{shown_in, KeepsIn};
+
+    ghost Value = { Incoming M M.Name };
+
+    ghost view = { λ into. shown_in into.pass };
+
+    ghost invariant = { λ into. KeepsIn M.may_follow into.receiver into.pass into.received };
+}
+
+impl<M: Message> LinkIn<M> {
+    /// Receives the message at the front. It waits while there is none. Where the senders are gone, or 2^64 - 1 messages
+    /// were received, nothing has changed.
+    pub fn receive<R: Wait>(&mut self, rt: &R) -> Result<M, LinkFault>
+        ensures received { IfOk result (λ value. Takes M.may_follow self.old value self.new) }
+        ensures refused { IfErr result (λ fault. (fault ≡ PeerGone) × (self.new ≡ self.old)) }
+    {
+        if self.received == u64::MAX {
+            return Err(LinkFault::PeerGone);
+        }
+        match self.receiver.recv_as::<Receives, R>(rt, &mut self.pass) {
+            Ok(parcel) => {
+                self.received += 1;
+                Ok(parcel.value)
+            }
+            Err(_) => Err(LinkFault::PeerGone),
+        }
+    }
+
+    /// How many messages were received.
+    pub fn received_count(&self) -> u64
+        ensures count { result ≡ length self.now.received }
+        ensures lawful { (j : ℕ) → CanSend M.may_follow j (of_sender j self.now.received) }
+    {
+        self.received
+    }
+}
+
+impl<M: Message> LinkIn<M> {
+    /// The receiver's end of a new link, which has no sender yet, and what sends on it.
+    fn new(
+        alloc: Global,
+        capacity: usize,
+    ) -> Result<
+        (
+            RuledSender<Parcel<M>, Knowledge<M, M::Name>, Ruled>,
+            LinkIn<M>,
+        ),
+        AllocError,
+    >
+        requires { 0 < capacity }
+        ensures same { IfOk result (λ ends. IsLinkOf ends.1.link (sends_on ends.0)) }
+        ensures empty { IfOk result (λ ends. (ends.1.senders ≡ 0) × (ends.1.received ≡ [])) }
+    {
+        let (sender, receiver, pass) = bounded_with::<
+            Parcel<M>,
+            Knowledge<M, M::Name>,
+            Ruled,
+            Global,
+        >(alloc, capacity)?;
+        let into = LinkIn {
+            received: 0,
+            receiver,
+            pass,
+        };
+        Ok((sender, into))
+    }
+
+    /// One sender more, under the next number.
+    fn add_sender(
+        &mut self,
+        sender: &RuledSender<Parcel<M>, Knowledge<M, M::Name>, Ruled>,
+        number: u64,
+    ) -> Result<LinkOut<M>, AllocError>
+        requires same { IsLinkOf self.old.link (sends_on sender.now) }
+        requires next { number ≡ self.old.senders }
+        ensures end { IfOk result (λ end. end ≡ fresh_end self.old.link number) }
+        ensures more { IfOk result (λ _. self.new ≡ with_sender self.old) }
+    {
+        let sender = sender.try_clone()?;
+        let pass = sender.another::<Seats>(&mut self.pass);
+        Ok(LinkOut {
+            number,
+            count: 0,
+            sender,
+            pass,
+        })
+    }
+}
+
+/// A link for so many messages on their way, and its ends: of each sender, numbered from 0, and of the receiver.
+pub fn link<M: Message>(
+    alloc: Global,
+    capacity: usize,
+    senders: usize,
+) -> Result<(Vec<LinkOut<M>>, LinkIn<M>), LinkFault>
+    requires capacity { 0 < capacity }
+    requires senders { 0 < senders }
+    ensures outs { IfOk result (λ ends. ends.0.items ≡ fresh_ends ends.1.link senders) }
+    ensures into { IfOk result (λ ends. (ends.1.senders ≡ senders) × (ends.1.received ≡ [])) }
+    ensures memory { IfErr result (λ fault. fault ≡ OutOfMemory) }
+{
+    let mut outs = Vec::with_capacity(alloc, senders)?;
+    let (sender, mut into) = LinkIn::<M>::new(alloc, capacity)?;
+    while outs.len() < senders {
+        let end = into.add_sender(&sender, outs.len() as u64)?;
+        outs.push_reserved(end);
+    }
+    Ok((outs, into))
+}
+
+/// How many messages a link was sent, and how many were received.
+#[derive(Clone, Copy, Debug, PartialEq, Eq)]
+pub struct Tally {
+    /// How many all senders have sent; 2^64 - 1 stands for more as well.
+    pub sent: u64,
+    /// How many were received.
+    pub received: u64,
+}
+
+/// The receiver's pass takes all these ends in. Answers how many messages they have sent, 2^64 - 1 at most.
+fn join_all<M: Message>(
+    pass: &mut Pass<Parcel<M>, Knowledge<M, M::Name>>,
+    handed: Vec<Handed<M>>,
+) -> u64
+    requires ours { All (λ end. IsPassOf end.link pass.old) handed.items }
+    requires free { pass.old.me.1 ≡ [] }
+    requires receiver { HasTakenNone (known pass.old) }
+    ensures joined { known pass.new ≡ with_all_joined (known pass.old) handed.items }
+    ensures settled { 0 < vec_len handed → IsSettled (known pass.new) }
+    ensures sent { result ≡ min (2 ^ 64 - 1) (sum_by (λ end. length end.sent) handed.items) }
+    ensures lawful { All (λ end. CanSend M.may_follow end.number end.sent) handed.items }
+{
+    let mut sent: u64 = 0;
+    for end in handed {
+        sent = sent.saturating_add(end.join(pass));
+    }
+    sent
+}
+
+/// Takes the receiver's end and all senders that were handed back, and compares what they know.
+pub fn settle<M: Message>(into: LinkIn<M>, handed: Vec<Handed<M>>) -> Tally
+    requires ours { All (λ end. end.link ≡ into.link) handed.items }
+    requires all { vec_len handed ≡ into.senders }
+    requires some { 0 < into.senders }
+    ensures sent { result.sent ≡ min (2 ^ 64 - 1) (sum_by (λ end. length end.sent) handed.items) }
+    ensures received { result.received ≡ length into.received }
+    ensures account { (left : List (ℕ × (M × M.Name))) × IsAccount into handed.items left }
+    ensures lawful { All (λ end. CanSend M.may_follow end.number end.sent) handed.items }
+{
+    let LinkIn {
+        received,
+        receiver: _,
+        mut pass,
+    } = into;
+    let sent = join_all(&mut pass, handed);
+    Tally { sent, received }
+}

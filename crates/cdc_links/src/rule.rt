@@ -1,0 +1,116 @@
+//! The rule of a link: what each pass knows, and what each step tells it. Nothing here has a value when a program runs.
+
+use crate::messages::{Message, Naming};
+use crossbeam_channel::protocol::{Join, Lesson, Outcome, Protocol, Split};
+use std::collections::LinkedList;
+use std::marker::PhantomData;
+
+/// A message on its way, with the number of its sender.
+#[derive(Drop)]
+pub struct Parcel<M> {
+    pub(crate) sender: u64,
+    pub(crate) value: M,
+}
+
+/// What a pass knows. A sender's pass knows its number, what it has sent, and whether it was handed back; the
+/// receiver's what it has received of whom, how many senders there are, and what those sent that it took in.
+pub struct Knowledge<M, N> {
+    pub sends: bool,
+    pub closed: bool,
+    pub number: u64,
+    pub sent: LinkedList<(M, N)>,
+    pub receives: bool,
+    pub received: LinkedList<(u64, (M, N))>,
+    pub given: u64,
+    pub joined: LinkedList<(u64, LinkedList<(M, N)>)>,
+}
+
+/// The rule.
+pub struct Ruled;
+
+impl<M: Message> Protocol<Parcel<M>, Knowledge<M, M::Name>> for Ruled {
+    ghost use Rattle.cdc_links.specs.Rule.{IsRuled, receiving};
+    ghost use Rattle.std.specs.Prelude.{[]};
+
+    ghost holds = { IsRuled M.may_follow };
+
+    ghost first = { receiving [] 0 [] };
+}
+
+/// The receiver's pass makes a sender's.
+pub struct Seats;
+
+impl<M, N> Split<Knowledge<M, N>> for Seats {
+    ghost use Rattle.cdc_links.specs.Rule.{receiving, sending};
+    ghost use Rattle.std.specs.Prelude.{[], ◌+◌, false};
+
+    ghost left = { λ v. receiving v.received (v.given + 1) v.joined };
+
+    ghost right = { λ v. sending v.given [] false };
+}
+
+/// A sender's pass becomes one that was handed back.
+pub struct HandsBack;
+
+impl<M, N> Split<Knowledge<M, N>> for HandsBack {
+    ghost use Rattle.cdc_links.specs.Rule.{sending, nobody};
+    ghost use Rattle.std.specs.Prelude.{true};
+
+    ghost left = { λ v. sending v.number v.sent true };
+
+    ghost right = { λ v. nobody };
+}
+
+/// The receiver's pass takes in one that was handed back.
+pub struct TakesIn;
+
+impl<M, N> Join<Knowledge<M, N>> for TakesIn {
+    ghost use Rattle.cdc_links.specs.Rule.{receiving, nobody};
+    ghost use Rattle.std.specs.Prelude.{[], ◌∷◌, ◌++◌};
+
+    ghost both = { λ v w. receiving v.received v.given (v.joined ++ (w.number, w.sent) ∷ []) };
+
+    ghost spent = { nobody };
+}
+
+/// A send tells its pass that it has sent the message, under the name that was picked.
+pub struct Sends<K> {
+    of: PhantomData<K>,
+}
+
+impl<M, N, K: Naming<N>> Outcome<Parcel<M>, Knowledge<M, N>> for Sends<K> {
+    ghost use Rattle.cdc_links.specs.Rule.{sending};
+    ghost use Rattle.std.specs.Prelude.{◌≡◌, [], ◌∷◌, ◌++◌, false};
+
+    ghost then = { λ v x w. w ≡ sending v.number (v.sent ++ (x.value, K.name) ∷ []) false };
+}
+
+impl<M, N, K: Naming<N>> Lesson<Parcel<M>, Knowledge<M, N>> for Sends<K> {
+    ghost use Rattle.std.specs.Prelude.{⊤};
+
+    ghost fact = { λ v items. ⊤ };
+}
+
+/// A receive tells its pass who has sent the message, under what name, and that it could follow.
+pub struct Receives;
+
+impl<M: Message> Outcome<Parcel<M>, Knowledge<M, M::Name>> for Receives {
+    ghost use Rattle.cdc_links.specs.Rule.{Received};
+
+    ghost then = { Received M.may_follow };
+}
+
+impl<M, N> Lesson<Parcel<M>, Knowledge<M, N>> for Receives {
+    ghost use Rattle.std.specs.Prelude.{⊤};
+
+    ghost fact = { λ v items. ⊤ };
+}
+
+/// What the receiver's pass learns of what is still in the link.
+pub struct Settles;
+
+impl<M: Message> Lesson<Parcel<M>, Knowledge<M, M::Name>> for Settles {
+    ghost use Rattle.cdc_links.specs.Rule.{IsSettled};
+
+    ghost fact = { λ v items. IsSettled v };
+}
