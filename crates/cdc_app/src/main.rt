@@ -20,7 +20,7 @@ mod sources;
 use advice::{advise, advise_on_steps};
 use commands::books::books;
 use commands::messages::messages;
-use commands::simulate::simulate;
+use commands::simulate::simulate_command;
 use endings::Ending;
 use faults::ProgramFault;
 use options::{Options, OptionsFault, options};
@@ -94,7 +94,7 @@ fn run_simulation(rt: &HostRuntime, file: &str, steps: &str, window: usize) -> E
 {
     let mut script = Source::of_script(rt, file);
     let mut step_file = Source::of_file(rt, steps);
-    let ending = simulate(
+    let ending = simulate_command(
         rt.alloc(),
         &mut script,
         &mut step_file,

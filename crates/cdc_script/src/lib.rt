@@ -15,5 +15,5 @@ mod words;
 
 pub use faults::{FaultKind, ReadError, ScriptError, ScriptFault};
 pub use reading::read_text;
-pub use scripts::{ClientBatch, Script, read_script};
-pub use step_files::{Act, read_steps};
+pub use scripts::{ClientBatch, Script, parse_script, read_script};
+pub use step_files::{Act, parse_steps, read_steps};

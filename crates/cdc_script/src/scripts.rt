@@ -1,19 +1,20 @@
 //! Scripts: the batches that clients hand in.
 
-ghost use Rattle.std.specs.Prelude.{◌≡◌, ◌≤◌, [], length, Ok, MatchResult};
+ghost use Rattle.std.specs.Prelude.{◌≡◌, ◌+◌, ◌≤◌, [], length, Ok, Err, IfOk, IfSome, MatchResult};
 ghost use Rattle.std.specs.Str.Lines.{lines};
 ghost use Rattle.cdc_script.specs.Private.Drafts.{script_from};
-ghost use Rattle.cdc_script.specs.Reading.{IsFault};
+ghost use Rattle.cdc_script.specs.Reading.{ConsumesAtMost, IsFault};
 ghost use Rattle.cdc_script.specs.Scripts.{max_bytes, script_of_lines, script_of};
 
 use crate::drafts::Draft;
-use crate::faults::{FaultKind, LineError, ScriptError};
-use crate::reading::fault_at;
+use crate::faults::{FaultKind, LineError, ReadError, ScriptError, ScriptFault};
+use crate::reading::{fault_at, read_text};
 use crate::statements::read_statement;
 use crate::words::next_line;
 use cdc_match::Binding;
 use cdc_types::{Batch, Items, Limits};
 use std::alloc::Global;
+use std::io::Read;
 
 /// A batch, and the client that hands it in.
 #[derive(Drop)]
@@ -57,7 +58,7 @@ fn read_lines(alloc: Global, text: &[u8]) -> Result<Draft, ScriptError>
 }
 
 /// The script that a text writes, or its first fault.
-pub fn read_script(alloc: Global, text: &[u8]) -> Result<Script, ScriptError>
+pub fn parse_script(alloc: Global, text: &[u8]) -> Result<Script, ScriptError>
     ensures { MatchResult result (λ script. script_of text.now ≡ Ok script) (λ error. IsFault error (script_of text.now)) }
 {
     if text.len() > Limits::SCRIPT_BYTES {
@@ -68,4 +69,22 @@ pub fn read_script(alloc: Global, text: &[u8]) -> Result<Script, ScriptError>
         return Err(fault_at(0, FaultKind::NoSubscriber));
     }
     Ok(draft.finish()?)
+}
+
+/// The script that a reader's text writes, or its first fault. It asks for at most one byte more than a script may have,
+/// and for no more after a read that failed.
+pub fn read_script<R: Read>(
+    alloc: Global,
+    reader: &mut R,
+) -> Result<Result<Script, ScriptFault>, ReadError>
+    ensures read { IfSome (R.remaining reader.old) (λ bytes. IfOk result (λ said. MatchResult said
+        (λ script. script_of bytes ≡ Ok script) (λ fault. script_of bytes ≡ Err fault))) }
+    ensures bounded { ConsumesAtMost (max_bytes + 1) (R.remaining reader.old) (R.remaining reader.new) }
+{
+    let text = read_text(alloc, reader)?;
+    match parse_script(alloc, &text) {
+        Ok(script) => Ok(Ok(script)),
+        Err(ScriptError::Fault(fault)) => Ok(Err(fault)),
+        Err(ScriptError::OutOfMemory) => Err(ReadError::OutOfMemory),
+    }
 }

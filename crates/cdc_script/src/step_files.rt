@@ -1,18 +1,19 @@
 //! Step files: what is done of a simulation, one batch or step in a line.
 
-ghost use Rattle.std.specs.Prelude.{◌≡◌, ◌≤◌, ◌++◌, ◌∷◌, [], length, Ok, MatchResult, OnOk};
+ghost use Rattle.std.specs.Prelude.{◌≡◌, ◌+◌, ◌≤◌, ◌++◌, ◌∷◌, [], length, Ok, Err, IfOk, IfSome, MatchResult, OnOk};
 ghost use Rattle.std.specs.Str.Lines.{lines};
-ghost use Rattle.cdc_script.specs.Reading.{IsFault};
+ghost use Rattle.cdc_script.specs.Reading.{ConsumesAtMost, IsFault};
 ghost use Rattle.cdc_script.specs.Scripts.{max_bytes};
 ghost use Rattle.cdc_script.specs.StepFiles.{ack_said, act_said, acts_from, acts_of, line_names};
 ghost use Rattle.cdc_script.specs.Words.{words as words_of};
 
-use crate::faults::{FaultKind, ScriptError};
+use crate::faults::{FaultKind, ReadError, ScriptError, ScriptFault};
 use crate::operands::{at_end, read_lone_number, read_word_number};
-use crate::reading::fault_at;
+use crate::reading::{fault_at, read_text};
 use crate::words::{first_word, is_printable_word, is_word, next_line};
 use cdc_types::{Limits, Step};
 use std::alloc::{AllocError, Global};
+use std::io::Read;
 
 /// What a line of a step file asks for.
 #[derive(Drop)]
@@ -114,11 +115,29 @@ fn add_act(acts: &mut Vec<Act>, act: Act) -> Result<(), AllocError>
 }
 
 /// What a step file of this text says, or its first fault.
-pub fn read_steps(alloc: Global, text: &[u8]) -> Result<Vec<Act>, ScriptError>
+pub fn parse_steps(alloc: Global, text: &[u8]) -> Result<Vec<Act>, ScriptError>
     ensures { MatchResult result (λ acts. acts_of text.now ≡ Ok acts.items) (λ error. IsFault error (acts_of text.now)) }
 {
     if text.len() > Limits::SCRIPT_BYTES {
         return Err(fault_at(0, FaultKind::TooLong));
     }
     read_acts(alloc, text)
+}
+
+/// What a step file of a reader's text says, or its first fault. It asks for at most one byte more than a step file may
+/// have, and for no more after a read that failed.
+pub fn read_steps<R: Read>(
+    alloc: Global,
+    reader: &mut R,
+) -> Result<Result<Vec<Act>, ScriptFault>, ReadError>
+    ensures read { IfSome (R.remaining reader.old) (λ bytes. IfOk result (λ said. MatchResult said
+        (λ acts. acts_of bytes ≡ Ok acts.items) (λ fault. acts_of bytes ≡ Err fault))) }
+    ensures bounded { ConsumesAtMost (max_bytes + 1) (R.remaining reader.old) (R.remaining reader.new) }
+{
+    let text = read_text(alloc, reader)?;
+    match parse_steps(alloc, &text) {
+        Ok(acts) => Ok(Ok(acts)),
+        Err(ScriptError::Fault(fault)) => Ok(Err(fault)),
+        Err(ScriptError::OutOfMemory) => Err(ReadError::OutOfMemory),
+    }
 }

@@ -15,7 +15,7 @@ use crate::endings::Ending;
 use crate::faults::ProgramFault;
 use crate::feeding::{publish_log, push_subscribers};
 use crate::output::{Output, file_fault, print_output};
-use cdc_script::{Script, ScriptError, read_script, read_text};
+use cdc_script::{Script, ScriptError, parse_script, read_text};
 use std::alloc::{AllocError, Global};
 use std::io::{Read, Write};
 
@@ -26,7 +26,7 @@ pub fn books_of(alloc: Global, bytes: &[u8]) -> Result<Output, AllocError>
     ensures output { IfOk result (λ output. outcome_of output ≡ books_outcome bytes.now) }
     ensures ending { IfOk result (λ output. IsScriptEnding output.ending) }
 {
-    match read_script(alloc, bytes) {
+    match parse_script(alloc, bytes) {
         Ok(script) => Ok(Output {
             text: print_books(alloc, script)?,
             ending: Ending::Done,

@@ -15,7 +15,7 @@ use crate::output::{Output, file_fault, print_output};
 use crate::report::push_number;
 use cdc_log::EventLog;
 use cdc_message::{Message, kind_text};
-use cdc_script::{Script, ScriptError, read_script, read_text};
+use cdc_script::{Script, ScriptError, parse_script, read_text};
 use cdc_types::{Event, EventKind, Headers};
 use itoa::Integer;
 use std::alloc::{AllocError, Global};
@@ -28,7 +28,7 @@ pub fn messages_of(alloc: Global, bytes: &[u8]) -> Result<Output, AllocError>
     ensures output { IfOk result (λ output. outcome_of output ≡ messages_outcome bytes.now) }
     ensures ending { IfOk result (λ output. IsScriptEnding output.ending) }
 {
-    match read_script(alloc, bytes) {
+    match parse_script(alloc, bytes) {
         Ok(script) => Ok(Output {
             text: print_messages(alloc, &script)?.into_bytes(),
             ending: Ending::Done,

@@ -11,7 +11,7 @@ use crate::endings::Ending;
 use crate::faults::ProgramFault;
 use crate::output::{Output, file_fault, print_output};
 use crate::simulations::{Simulated, play_script};
-use cdc_script::{ReadError, Script, ScriptError, read_script, read_steps, read_text};
+use cdc_script::{ReadError, Script, ScriptError, parse_script, parse_steps, read_text};
 use std::alloc::Global;
 use std::io::{Read, Write};
 
@@ -29,7 +29,7 @@ pub fn simulation_of(
     ensures output { IfOk result (λ output. SimulationPrints
         (record { window = window; script = Some script.now; steps = Some steps.now }) output.ending output.text.items) }
 {
-    match read_script(alloc, script) {
+    match parse_script(alloc, script) {
         Ok(script) => script_simulation(alloc, script, steps, window),
         Err(ScriptError::Fault(fault)) => Ok(file_fault(alloc, Ending::BadScript(fault))?),
         Err(ScriptError::OutOfMemory) => Err(ProgramFault::OutOfMemory),
@@ -47,7 +47,7 @@ fn script_simulation(
     ensures output { (bytes : List ℕ) → script_of bytes ≡ Ok script → IfOk result (λ output. SimulationPrints
         (record { window = window; script = Some bytes; steps = Some steps.now }) output.ending output.text.items) }
 {
-    let acts = match read_steps(alloc, steps) {
+    let acts = match parse_steps(alloc, steps) {
         Ok(acts) => acts,
         Err(ScriptError::Fault(fault)) => return Ok(file_fault(alloc, Ending::BadSteps(fault))?),
         Err(ScriptError::OutOfMemory) => return Err(ProgramFault::OutOfMemory),
@@ -62,7 +62,7 @@ fn script_simulation(
 
 /// Reads a script and then a step file, and prints what `simulation_of` says of their bytes. A command that gives up
 /// prints why, and nothing else; nothing is written after a write that failed.
-pub fn simulate<R: Read, Q: Read, W: Write>(
+pub fn simulate_command<R: Read, Q: Read, W: Write>(
     alloc: Global,
     script: &mut R,
     steps: &mut Q,
@@ -105,7 +105,7 @@ fn unread_steps(alloc: Global, script: &[u8], error: ReadError) -> Result<Output
     ensures { (window : ℕ) → (steps : Option (List ℕ)) → IfOk result (λ output. SimulationPrints
         (record { window = window; script = Some script.now; steps = steps }) output.ending output.text.items) }
 {
-    match read_script(alloc, script) {
+    match parse_script(alloc, script) {
         Err(ScriptError::Fault(fault)) => Ok(file_fault(alloc, Ending::BadScript(fault))?),
         Err(ScriptError::OutOfMemory) => Err(ProgramFault::OutOfMemory),
         Ok(_) => Err(error.into()),

@@ -1,6 +1,6 @@
 use Rattle.std.proofs.Common.{refl}
 use Rattle.cdc_app.proofs.OutputLemmas.{writes_made}
-use Rattle.cdc_app.proofs.commands.simulate.simulate.Goals as goal
+use Rattle.cdc_app.proofs.commands.simulate.simulate_command.Goals as goal
 
 pub returns-clause-writes : goal.returns-clause-writes
 returns-clause-writes g c =
