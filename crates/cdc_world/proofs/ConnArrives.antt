@@ -6,7 +6,7 @@ use Rattle.std.proofs.lemmas.Bool.{and_parts, cases_Bool, cases_lt, eqb-true}
 use Rattle.std.proofs.lemmas.List.Elements.{Contains-append_left, Contains-push, Contains-push_cases, filter_map-append}
 use Rattle.std.proofs.lemmas.List.Sums.{fold-append}
 use Rattle.std.proofs.lemmas.Option.{cond_some, same_Some}
-use Rattle.cdc_broker.specs.Packets.{current_session, expected_after, expected_tag, is_tag, is_taken, items_of, max_64, packet_item, session_after, tag_after}
+use Rattle.cdc_broker.specs.Packets.{current_session, expected_after, expected_tag, is_tag, is_taken, items_of, packet_item, session_after, tag_after}
 use Rattle.cdc_laws.specs.Line.{line, line_after}
 use Rattle.cdc_world.specs.Connector.{HasTakenUpTo, IsCurrent, IsOfLine, IsOrderly, IsTakenAt, IsTakenBy, held_number, held_timestamp}
 use Rattle.cdc_world.specs.Next.{with_arrival}
@@ -28,6 +28,7 @@ use Rattle.cdc_message.specs.declared.packets.Packet.TheVariants.{Connect, Publi
 use Rattle.cdc_message.specs.Replays.{IsReplay}
 use Rattle.cdc_publisher.specs.Courses.{Course}
 use Rattle.cdc_types.specs.declared.events.Event.{Event}
+use Rattle.cdc_types.specs.Widths.{max_64}
 
 -- ---- where more was taken
 

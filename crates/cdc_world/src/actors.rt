@@ -34,6 +34,7 @@ pub(crate) struct Actors {
 
 impl Model for Actors {
     ghost use Rattle.std.specs.Prelude.{◌≡◌, length, map};
+    ghost use Rattle.cdc_types.specs.declared.bounds.TheConstants.Limits.{WINDOW_TODAY};
     ghost use Rattle.cdc_world.specs.Parts.{ActorParts, subscription_parts};
 
     ghost Value = { ActorParts };
@@ -48,7 +49,7 @@ impl Model for Actors {
       subscriptions = map subscription_parts actors.subscriptions.items;
     } };
 
-    ghost invariant = { λ actors. (actors.window ≡ Limits.WINDOW_TODAY)
+    ghost invariant = { λ actors. (actors.window ≡ WINDOW_TODAY)
         × (length actors.subscriptions.items ≡ length actors.broker.queues) };
 }
 
