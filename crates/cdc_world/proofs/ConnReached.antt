@@ -15,7 +15,7 @@ use Rattle.cdc_message.proofs.ReplayLaws.{IsReplay-nil}
 use Rattle.cdc_progress.specs.declared.errors.StoreError.{StoreError}
 use Rattle.cdc_progress.specs.declared.errors.StoreError.TheVariants as store
 use Rattle.cdc_progress.specs.Records.{Saved}
-use Rattle.cdc_publisher.specs.Courses.{Course, begun, next_packet, progress_of, wanted}
+use Rattle.cdc_publisher.specs.Courses.{Course, begun, next_packet, progress_of, next_poll}
 use Rattle.cdc_types.specs.declared.batches.Batch.{Batch}
 use Rattle.cdc_types.specs.declared.batches.BatchResults.{BatchResults}
 use Rattle.cdc_broker.specs.Packets.{is_taken}
@@ -121,7 +121,7 @@ HasOrder-done w w' Crash did order is =
     subst HasOrder (world_is Done did _ w' course.2) (HasOrder-crashed w order)
 HasOrder-done w w' PollStep did order is =
     let course = there_is w.session is in
-    let poll = there_is (wanted course.0) course.2 in
+    let poll = there_is (next_poll course.0) course.2 in
     subst HasOrder (world_is Done did _ w' poll.2)
     (order.0, IsOrderly-polled order.0 w course.0 poll.0 order.1 course.1 poll.1)
 HasOrder-done w w' PublishStep did order is =

@@ -23,7 +23,7 @@ use Rattle.cdc_message.specs.declared.packets.Packet.{Packet}
 use Rattle.cdc_message.specs.declared.packets.Packet.TheVariants.{Connect, Publish}
 use Rattle.cdc_types.specs.Timestamps.{last_timestamp_from}
 use Rattle.cdc_progress.specs.Records.{Saved}
-use Rattle.cdc_publisher.specs.Courses.{Course, all_sent, begun, confirmed_from, confirmed_timestamp, is_confirmed, is_sent, last_session, may_end, new_course, next_packet, numbers_from, progress_of, publish_packet, tags_sent, takes_confirm, unconfirmed, wanted, with_confirm, with_offer, with_sent}
+use Rattle.cdc_publisher.specs.Courses.{Course, all_sent, begun, confirmed_from, confirmed_timestamp, is_confirmed, is_sent, last_session, may_end, new_course, next_packet, numbers_from, progress_of, publish_packet, tags_sent, takes_confirm, unconfirmed, next_poll, with_confirm, with_offer, with_sent}
 use Rattle.cdc_publisher.specs.declared.session.Poll.{Poll}
 use Rattle.cdc_types.specs.declared.events.Event.{Event}
 use Rattle.cdc_laws.specs.Line.{line_after}
@@ -180,7 +180,7 @@ KeepsTo-offer h taken course poll sound keeps after =
 
 -- so connector and broker stay in order when a session is offered the events that it wants
 pub IsOrderly-polled : (base_of : ℕ → ℕ) (w : WorldState) (course : Course) (poll : Poll) → IsOrderly base_of w
-    → w.session ≡ Some course → wanted course ≡ Some poll → IsOrderly base_of (with_poll w course poll)
+    → w.session ≡ Some course → next_poll course ≡ Some poll → IsOrderly base_of (with_poll w course poll)
 IsOrderly-polled base_of w course poll is there wants =
     let asked =
     cond_some (all_sent course && nat_lt (length (unconfirmed course)) course.window && not course.complete)

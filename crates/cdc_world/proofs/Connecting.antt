@@ -10,7 +10,7 @@ use Rattle.cdc_progress.specs.Records.{Saved}
 use Rattle.cdc_progress.specs.Stores.{MayRefuseSave}
 use Rattle.cdc_progress.specs.declared.errors.StoreError.{StoreError}
 use Rattle.cdc_progress.specs.declared.errors.StoreError.TheVariants as store
-use Rattle.cdc_publisher.specs.Courses.{Course, begun, new_course, next_packet, progress_of, wanted, with_offer, with_sent}
+use Rattle.cdc_publisher.specs.Courses.{Course, begun, new_course, next_packet, progress_of, next_poll, with_offer, with_sent}
 use Rattle.cdc_publisher.specs.Kept.{Kept}
 use Rattle.cdc_publisher.specs.Stands.{StandsFor}
 use Rattle.cdc_publisher.specs.Starts.{HasStarted, MayRefuseStart}
@@ -77,7 +77,7 @@ poll_done a kept kept' is offers = (
   tt,
   λ w st.
       let at = course_of a w kept st is in
-      let found = offered_found a.history kept kept' at.course (wanted at.course) (offers at.course at.stands) in
+      let found = offered_found a.history kept kept' at.course (next_poll at.course) (offers at.course at.stands) in
       let poll = found.0 in (
         with_poll w at.course poll,
         (
@@ -94,7 +94,7 @@ poll_done a kept kept' is offers = (
             subscribers = st.subscribers;
           },
           (
-            ap (λ (s : Option Course). s >>= (λ course. wanted course >>= (λ poll. success
+            ap (λ (s : Option Course). s >>= (λ course. next_poll course >>= (λ poll. success
                 (with_poll w course poll)))) at.is
                 ∙ ap (λ (f : Option Poll). f >>= (λ poll. success (with_poll w at.course poll))) found.1.0,
             refl,

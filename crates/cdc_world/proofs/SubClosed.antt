@@ -8,7 +8,7 @@ use Rattle.cdc_ledger.specs.Submit.{submit}
 use Rattle.cdc_message.specs.declared.items.Delivery.{Delivery}
 use Rattle.cdc_message.specs.declared.packets.Packet.{Packet}
 use Rattle.cdc_progress.specs.Records.{Saved}
-use Rattle.cdc_publisher.specs.Courses.{Course, begun, next_packet, wanted}
+use Rattle.cdc_publisher.specs.Courses.{Course, begun, next_packet, next_poll}
 use Rattle.cdc_subscriber.specs.Heard.{Heard, has_ended}
 use Rattle.cdc_types.specs.declared.batches.BatchResults.{BatchResults}
 use Rattle.cdc_world.specs.declared.steps.Did.{Did}
@@ -104,7 +104,7 @@ AllStay-step w step.Crash =
     Leaves_on (AllStay w) w.session _ (λ course found. AllStay-same w)
 AllStay-step w step.Poll =
     Leaves_on (AllStay w) w.session _ (λ course found.
-    Leaves_on (AllStay w) (wanted course) _ (λ poll wants. AllStay-same w))
+    Leaves_on (AllStay w) (next_poll course) _ (λ poll wants. AllStay-same w))
 AllStay-step w step.Publish =
     Leaves_on (AllStay w) w.session _ (λ course found.
     Leaves_on (AllStay w) (next_packet course) _ (λ packet there. AllStay-same w))

@@ -13,7 +13,7 @@ use Rattle.cdc_message.specs.declared.items.Item.{Item}
 use Rattle.cdc_message.specs.declared.packets.Packet.{Packet}
 use Rattle.cdc_progress.specs.declared.errors.StoreError.TheVariants as store
 use Rattle.cdc_progress.specs.Records.{Saved}
-use Rattle.cdc_publisher.specs.Courses.{Course, begun, next_packet, wanted}
+use Rattle.cdc_publisher.specs.Courses.{Course, begun, next_packet, next_poll}
 use Rattle.cdc_types.specs.declared.batches.BatchResults.{BatchResults}
 use Rattle.cdc_world.specs.declared.steps.Did.{Did}
 use Rattle.cdc_types.specs.declared.steps.Step.{Step}
@@ -166,7 +166,7 @@ AreQueued-step w step.CloseLedger are = are
 AreQueued-step w step.Start are = AreQueued-starting w w.session are
 AreQueued-step w step.Crash are = Leaves_on AreQueued w.session _ (λ course found. are)
 AreQueued-step w step.Poll are =
-    Leaves_on AreQueued w.session _ (λ course found. Leaves_on AreQueued (wanted course) _ (λ poll wants. are))
+    Leaves_on AreQueued w.session _ (λ course found. Leaves_on AreQueued (next_poll course) _ (λ poll wants. are))
 AreQueued-step w step.Publish are =
     Leaves_on AreQueued w.session _ (λ course found. Leaves_on AreQueued (next_packet course) _ (λ packet found. are))
 AreQueued-step w (step.Arrive k) are =

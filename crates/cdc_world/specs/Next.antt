@@ -18,7 +18,7 @@ use Rattle.cdc_message.specs.declared.packets.Packet.TheVariants.{Connect, Publi
 use Rattle.cdc_progress.specs.declared.errors.StoreError.{StoreError}
 use Rattle.cdc_progress.specs.declared.errors.StoreError.TheVariants as store
 use Rattle.cdc_progress.specs.Records.{Saved}
-use Rattle.cdc_publisher.specs.Courses.{Course, begun, new_course, next_packet, progress_of, takes_confirm, wanted, with_confirm, with_offer, with_sent}
+use Rattle.cdc_publisher.specs.Courses.{Course, begun, new_course, next_packet, progress_of, takes_confirm, next_poll, with_confirm, with_offer, with_sent}
 use Rattle.cdc_publisher.specs.declared.session.Poll.{Poll}
 use Rattle.cdc_subscriber.specs.Answers.{answer_to}
 use Rattle.cdc_subscriber.specs.Heard.{kept_of, next as next_heard}
@@ -195,7 +195,7 @@ next w (Submit batch) = with_batch w (submit w.history batch)
 next w CloseLedger = success (with_ledger_closed w)
 next w Start = with_start w w.session
 next w Crash = w.session >>= (λ course. success (with_crash w))
-next w PollStep = w.session >>= (λ course. wanted course >>= (λ poll. success (with_poll w course poll)))
+next w PollStep = w.session >>= (λ course. next_poll course >>= (λ poll. success (with_poll w course poll)))
 next w PublishStep = w.session >>= (λ course. next_packet course >>= (λ packet. success (with_packet w course packet)))
 next w (Arrive k) = numbered w.packets k >>= arrival w
 next w (Answer k) = w.session >>= (λ course. numbered w.confirms k >>= with_answer w course)

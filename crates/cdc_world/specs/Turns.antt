@@ -10,7 +10,7 @@ use Rattle.cdc_match.specs.Arguments.{Arguments}
 use Rattle.cdc_message.specs.declared.items.Delivery.{Delivery}
 use Rattle.cdc_message.specs.declared.packets.Confirm.{Confirm}
 use Rattle.cdc_message.specs.declared.packets.Packet.{Packet}
-use Rattle.cdc_publisher.specs.Courses.{Course, next_packet, wanted, with_offer, with_sent}
+use Rattle.cdc_publisher.specs.Courses.{Course, next_packet, next_poll, with_offer, with_sent}
 use Rattle.cdc_publisher.specs.Kept.{Kept}
 use Rattle.cdc_publisher.specs.Stands.{StandsFor}
 use Rattle.cdc_publisher.specs.declared.session.Poll.{Poll}
@@ -72,7 +72,7 @@ OffersAt h kept course (Some poll) (Err why) kept' = (why ≡ OutOfMemory) × (k
 -- the same, whatever course it stands for
 abbrev pub Offers : History → Kept → Result (Unit {0}) StepError → Kept → Type 0
 Offers h kept answer kept' = (course : Course) → StandsFor kept course
-    → OffersAt h kept course (wanted course) answer kept'
+    → OffersAt h kept course (next_poll course) answer kept'
 
 -- a session that stands for a course sends its next packet, if there is one, to the back of those that were sent
 abbrev pub SendsAt : Kept → List Packet → Course → Option Packet → Result (Unit {0}) StepError → Kept → List Packet
