@@ -2,7 +2,7 @@
 
 use crate::{Subscriber, TakeError, Taking};
 use cdc_message::{DecodeError, Delivery, Item, Message, decode};
-use cdc_types::Event;
+use cdc_types::Balances;
 use std::alloc::{AllocError, Global};
 use std::io;
 use std::io::Write;
@@ -127,7 +127,8 @@ fn bodies_ends_and_closes(rt: HostRuntime) -> Result<(), Fail> {
             let given = hand(rt.alloc(), &mut subscriber, handed)?;
             assert_eq!(rt; given, *answer, "{}", row.what);
         }
-        let printed = print(rt.alloc(), &subscriber)?;
+        let mut printed = Vec::new(rt.alloc());
+        subscriber.print(&mut printed, 1)?;
         assert_eq!(rt; printed.as_slice(), row.printed.as_bytes(), "{}", row.what);
     }
     Ok(())
@@ -135,37 +136,44 @@ fn bodies_ends_and_closes(rt: HostRuntime) -> Result<(), Fail> {
 
 const MANY: u64 = 10_000;
 
-// Hands a subscriber, at this position and timestamp, a movement between the accounts of that number and the next one.
-fn deliver(
-    alloc: Global,
-    subscriber: &mut Subscriber,
-    first: &Event,
-    position: u64,
-) -> Result<Taking, Fail> {
-    let mut event = *first;
-    event.timestamp = position;
-    event.debit_account.id = u128::from(position);
-    event.credit_account.id = u128::from(position).saturating_add(1);
-    let item = Item::Event(Message::of(alloc, &event)?);
-    Ok(subscriber.take(alloc, &Delivery { position, item })?)
-}
-
-// What a subscriber prints.
-fn print(alloc: Global, subscriber: &Subscriber) -> Result<Vec<u8>, Fail> {
-    let mut printed = Vec::new(alloc);
-    subscriber.print(&mut printed, 1)?;
-    Ok(printed)
-}
-
 #[test]
 fn many_deliveries(rt: HostRuntime) -> Result<(), Fail> {
     let mut subscriber = Subscriber::new(rt.alloc());
-    let first = decode(rt.alloc(), FIRST.as_bytes())?;
+    let mut event = decode(rt.alloc(), FIRST.as_bytes())?;
     for position in 1..MANY + 1 {
-        let taken = deliver(rt.alloc(), &mut subscriber, &first, position)?;
-        assert_eq!(rt; taken, Taking::Applied);
+        event.timestamp = position;
+        event.debit_account.id = u128::from(position);
+        event.credit_account.id = u128::from(position) + 1;
+        let item = Item::Event(Message::of(rt.alloc(), &event)?);
+        let delivery = Delivery { position, item };
+        assert_eq!(rt; subscriber.take(rt.alloc(), &delivery), Ok(Taking::Applied));
     }
-    let printed = print(rt.alloc(), &subscriber)?;
+    let end = Delivery {
+        position: MANY + 1,
+        item: Item::EndMark,
+    };
+    assert_eq!(rt; subscriber.take(rt.alloc(), &end), Ok(Taking::Ended));
+    assert_eq!(rt;
+        (subscriber.applied_count(), subscriber.last()),
+        (MANY, MANY)
+    );
+    assert_eq!(rt; (subscriber.ended(), subscriber.closed()), (true, false));
+    let book = subscriber.book();
+    let last = Balances {
+        debits_pending: 0,
+        debits_posted: 0,
+        credits_pending: 0,
+        credits_posted: 100,
+    };
+    assert_eq!(rt; book.len(), 10_001);
+    assert!(rt; !book.is_empty());
+    assert_eq!(rt; (book.get(10_001), book.get(10_002)), (Some(last), None));
+    assert_eq!(rt;
+        (book.at_place(10_000), book.at_place(10_001)),
+        (Some((10_001, last)), None)
+    );
+    let mut printed = Vec::new(rt.alloc());
+    subscriber.print(&mut printed, 1)?;
     assert!(rt; printed.as_slice().ends_with(b"account 10001 0 0 0 100\n"));
     Ok(())
 }
