@@ -336,12 +336,12 @@ pub start_done : (p : Parts) (actors' : ActorParts) (kept : Kept) (held : Option
     (failed' window : ℕ) → p.actors.session ≡ None → actors' ≡ record p.actors { session = Some kept }
     → window ≡ p.actors.window
     → HasStarted (record {
-          honest = p.honest;
-          before = p.held;
-          after = held;
-          failed_before = p.failed;
-          failed_after = failed';
-        }) window kept
+      honest = p.honest;
+      before = p.held;
+      after = held;
+      failed_before = p.failed;
+      failed_after = failed';
+    }) window kept
     → Moves p Start (Ok Done) (record { actors = actors'; held = held; honest = honest; failed = failed' })
 start_done p actors' kept held honest' failed' window down new waits has honest w st =
     let begins : begun w.held ≡ Some has.saved = ap begun (sym st.held) ∙ ap begun (sym (has.given (honest refl)))
@@ -372,12 +372,12 @@ start_done p actors' kept held honest' failed' window down new waits has honest 
 pub start_failed : (p : Parts) (held : Option Saved) (honest : Bool) (why : StartError) (failed failed' : ℕ)
     → p.actors.session ≡ None
     → MayRefuseStart (record {
-          honest = p.honest;
-          before = p.held;
-          after = held;
-          failed_before = failed;
-          failed_after = failed';
-        }) why
+      honest = p.honest;
+      before = p.held;
+      after = held;
+      failed_before = failed;
+      failed_after = failed';
+    }) why
     → Moves p Start (Err (start_refusal why)) (record p { held = held; honest = honest; failed = failed' })
 start_failed p held honest' (start.Store store.ReadFault) failed failed' down may honest w st = (
   w,
