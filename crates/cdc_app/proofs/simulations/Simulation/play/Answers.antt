@@ -1,5 +1,5 @@
-use Rattle.std.proofs.Common.{sym, ◌∙◌}
-use Rattle.std.proofs.lemmas.Option.{slice_get-get_or}
+use Rattle.std.proofs.Common.{refl, sym, ◌∙◌}
+use Rattle.std.proofs.lemmas.Option.{slice_get_read}
 use Rattle.cdc_app.proofs.SimulationLemmas.{stopped, went_on}
 use Rattle.cdc_app.proofs.simulations.Simulation.play.Goals as goal
 
@@ -7,7 +7,7 @@ pub returns-then-is_some-clause-plays : goal.returns-then-is_some-clause-plays
 returns-then-is_some-clause-plays c = λ stage at zero.
     let come = c.loop-done.invariant.come stage at zero in
     stopped c.args.batches.now c.args.acts.now stage c.loop-done.done _ _ _ _
-    (slice_get-get_or c.args.acts.now c.loop-done.done _ c.loop-done-test.true)
+    (slice_get_read c.args.acts.now _ c.loop-done.done _ refl c.loop-done-test.true c.index-acts-done.is)
     (sym c.is_some.ensures ∙ c.if-is_some.true) come (c.in_ok-refusal.ensures.acts come.here come.at)
 
 pub loop-done-preserved : goal.loop-done-preserved
@@ -17,6 +17,6 @@ loop-done-preserved c = record {
   come = λ stage at zero.
       let come = c.loop-done.invariant.come stage at zero in
       went_on c.args.batches.now c.args.acts.now stage c.loop-done.done _ _ _ _
-      (slice_get-get_or c.args.acts.now c.loop-done.done _ c.loop-done-test.true)
+      (slice_get_read c.args.acts.now _ c.loop-done.done _ refl c.loop-done-test.true c.index-acts-done.is)
       (sym c.is_some.ensures ∙ c.if-is_some.false) come (c.in_ok-refusal.ensures.acts come.here come.at);
 }
