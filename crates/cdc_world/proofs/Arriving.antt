@@ -123,7 +123,8 @@ arrive_passed a packet k there takes = (
 )
 
 -- a packet comes to the broker
-pub arrive_done : (a : ActorParts) (packet : Packet) (k : ℕ) (taken : Bool) (b' : BrokerState) (confirms' : List Confirm)
+pub arrive_done : (a : ActorParts) (packet : Packet) (k : ℕ) (taken : Bool) (b' : BrokerState)
+    (confirms' : List Confirm)
     → numbered a.packets k ≡ Some packet → ComesTo a.broker a.confirms packet (Ok taken) b' confirms'
     → ActorsMove a (Arrive k) (Ok (Arrived taken)) (record a { broker = b'; confirms = confirms' })
 arrive_done a packet k true b' confirms' there comes =

@@ -353,7 +353,8 @@ IsOrderly-confirmed base_of w course confirm is there among =
     let next : IsNext w.history (taken_items w) course (after_answer course confirm.session confirm.answer) =
     IsNext-confirmed base_of (held_number w.held) w.history (taken_items w) course confirm.session confirm.answer
     (is.session course there) (is.confirms confirm among) in
-    IsOrderly-course base_of w course (after_answer course confirm.session confirm.answer) is there next.number next.base
+    IsOrderly-course base_of w course
+    (after_answer course confirm.session confirm.answer) is there next.number next.base
     next.keeps
 
 -- ---- it saves its progress

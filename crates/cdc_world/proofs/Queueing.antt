@@ -1,4 +1,5 @@
--- The broker's queues, as they stand for the subscriptions: after an item that was taken, and after one of them changed.
+-- The broker's queues, as they stand for the subscriptions: after an item that was taken, and after one of them
+-- changed.
 use Rattle.std.proofs.Common.{◌≡◌, ℕ, zero, suc, Bool, true, false, List, [], ◌∷◌, ◌++◌, Some, None, refl, sym, ap, ap₂, ◌∙◌, subst, map, append-nil}
 use Rattle.std.specs.Prelude.{Option, slice_get, slice_set, unwrap_or, if◌then◌else◌}
 use Rattle.std.proofs.lemmas.List.Elements.{filter_map-append}

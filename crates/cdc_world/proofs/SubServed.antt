@@ -45,12 +45,14 @@ IsServed-longer items more s served =
     let longer = deliveries-append items more in
     let rest : List Delivery = deliveries_from (1 + length items) more in
     let front : take (s.cursor.next - 1) (deliveries items ++ rest) ≡ take (s.cursor.next - 1) (deliveries items) =
-    take-append-le (s.cursor.next - 1) (deliveries items) rest (omega (arith, length-deliveries items, served.within)) in
+    take-append-le (s.cursor.next - 1) (deliveries items) rest
+    (omega (arith, length-deliveries items, served.within)) in
     record {
       replay = rw longer (IsReplay-longer (sent_to s) (deliveries items) rest served.replay);
       from_one = served.from_one;
       within = omega (arith, length-append items more, served.within);
-      behind = λ d there. served.behind d (subst (λ ds. Contains ds d) (ap (take (s.cursor.next - 1)) longer ∙ front) there);
+      behind = λ d there. served.behind d
+          (subst (λ ds. Contains ds d) (ap (take (s.cursor.next - 1)) longer ∙ front) there);
       acks = served.acks;
       acked = served.acked;
       past = served.past;
@@ -62,7 +64,8 @@ IsServed-longer items more s served =
 
 -- the entry at the cursor goes on its way, so the cursor is still past nothing that wasn't handed out
 pub IsServed-sending : (items : List Item) (s : Subscription) (item : Item) → IsServed items s
-    → slice_get items (s.cursor.next - 1) ≡ Some item → IsServed items (with_delivery (delivery_at s.cursor.next item) s)
+    → slice_get items (s.cursor.next - 1) ≡ Some item
+    → IsServed items (with_delivery (delivery_at s.cursor.next item) s)
 IsServed-sending items s item served found =
     let d : Delivery = delivery_at s.cursor.next item in
     let place : ℕ = s.cursor.next - 1 in

@@ -88,8 +88,8 @@ parts_of s = record { kept = kept_of s.heard; flight = s.flight; acks = s.acks }
 abbrev pub IsHandedOut : ℕ → ℕ → Type 0
 IsHandedOut handed position = (0 < position) × (position ≤ handed)
 
--- a queue's cursor stands at a position, and what is on its way to the subscriber, or was acknowledged by it, was handed
--- out, up to this position
+-- a queue's cursor stands at a position, and what is on its way to the subscriber, or was acknowledged by it, was
+-- handed out, up to this position
 pub record HasHandedOut (handed : ℕ) (s : Subscription) : Type 0 where
   pub first : 0 < s.cursor.next
   pub flight : (d : Delivery) → Contains s.flight d → IsHandedOut handed d.position
