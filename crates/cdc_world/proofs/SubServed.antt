@@ -18,7 +18,6 @@ use Rattle.cdc_world.specs.Queued.{IsServed, sent_to}
 use Rattle.cdc_world.specs.Worlds.{Subscription, new_subscription}
 use Rattle.cdc_laws.proofs.Deliveries.{HasNoneTwice-deliveries, deliveries-append, delivery_at, length-deliveries, position-deliveries, slice_get-deliveries}
 use Rattle.cdc_laws.proofs.Faithful.{IsReplay-heard}
-use Rattle.cdc_laws.proofs.Places.{none_there}
 use Rattle.cdc_laws.proofs.Replays.{Contains-unmap, IsReplay-found}
 
 -- ---- at the start

@@ -1,5 +1,5 @@
 -- What is kept of the actors after a step of a subscriber and its queue.
-use Rattle.std.proofs.Common.{◌≡◌, ℕ, zero, suc, ◌+◌, ◌-◌, ◌<◌, ◌≤◌, ◌==◌, max, Bool, true, false, List, [], ◌∷◌, ◌++◌, Option, Some, None, Result, Ok, Err, refl, sym, ap, ap₂, ◌∙◌, subst, map, length, drop, get_or, inl, inr, arith}
+use Rattle.std.proofs.Common.{◌≡◌, ℕ, zero, suc, ◌+◌, ◌-◌, ◌<◌, ◌==◌, max, Bool, true, false, List, [], ◌∷◌, ◌++◌, Option, Some, None, Result, Ok, Err, refl, sym, ap, ap₂, ◌∙◌, subst, map, length, drop, get_or, inl, inr, arith}
 use Rattle.std.specs.Prelude.{Contains, MatchResult, is_ok, nat_lt, ◌||◌, not, ok_or, option_map, slice_set, unwrap_or, if◌then◌else◌}
 use Rattle.std.specs.List.{slice_get}
 use Rattle.std.proofs.lemmas.List.{length-map, map-set}
@@ -28,7 +28,7 @@ use Rattle.cdc_world.specs.Parts.{ActorParts, SubscriptionParts, subscription_pa
 use Rattle.cdc_world.specs.Stands.{ActorsStand, HasHandedOut, IsHandedOut, QueueView, parts_of, queue_for, view_of}
 use Rattle.cdc_world.specs.Turns.{ActorsMove, HandsAt, HasClosed, HasTaken, TakesAt, place_in}
 use Rattle.cdc_world.specs.Worlds.{Subscription, WorldState, numbered, taken_items}
-use Rattle.cdc_world.proofs.Places.{Contains_numbered, IsPlace, numbered_none, numbered_place, place_is, slice_get_made, subscription_here}
+use Rattle.cdc_world.proofs.Places.{Contains_numbered, IsPlace, numbered_place, place_is, slice_get_made, subscription_here}
 use Rattle.cdc_world.proofs.Queueing.{handed_here, handed_set, set_found, set_same}
 use Rattle.cdc_world.proofs.Stepping.{lacking, tried, unable}
 

@@ -1,6 +1,6 @@
 -- What the connector and the broker keep to, whatever comes: what the broker took is a replay of the ledger's line.
 -- Cited by proofs alone.
-use Rattle.std.specs.Prelude.{◌≡◌, ℕ, ◌<◌, ◌≤◌, true, Option, Some, None, List, [], ◌∷◌, ◌++◌, map, Contains, if◌then◌else◌}
+use Rattle.std.specs.Prelude.{◌≡◌, ℕ, ◌<◌, ◌≤◌, true, Option, Some, None, List, Contains}
 use Rattle.cdc_broker.specs.Packets.{current_session, expected_tag}
 use Rattle.cdc_laws.specs.Line.{line, line_after}
 use Rattle.cdc_world.specs.Worlds.{WorldState, numbered, taken_items}

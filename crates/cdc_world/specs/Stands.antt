@@ -1,6 +1,5 @@
 -- The states of the actors that what a world keeps stands for.
 use Rattle.std.specs.Prelude.{◌≡◌, ◌<◌, ◌≤◌, ℕ, Option, Some, None, List, [], ◌∷◌, Contains, map}
-use Rattle.cdc_broker.specs.Broker.{BrokerState}
 use Rattle.cdc_broker.specs.Cursors.{Cursor}
 use Rattle.cdc_broker.specs.Packets.{current_session, expected_tag, items_of}
 use Rattle.cdc_broker.specs.Queues.{QueueState}
