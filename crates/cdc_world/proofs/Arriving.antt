@@ -14,7 +14,8 @@ use Rattle.cdc_world.specs.Parts.{ActorParts}
 use Rattle.cdc_world.specs.Stands.{ActorsStand, BrokerSide, SubscribersStand, broker_of, broker_parts, queue_for}
 use Rattle.cdc_world.specs.Turns.{ActorsMove, ComesTo}
 use Rattle.cdc_world.specs.Worlds.{Subscription, WorldState, numbered}
-use Rattle.cdc_world.proofs.Queueing.{current_session-push, expected_tag-push, handed_after, items_of-connected, items_of-published, queues_after}
+use Rattle.cdc_laws.proofs.Taking.{current_session-push, expected_tag-push}
+use Rattle.cdc_world.proofs.Queueing.{handed_after, items_of-connected, items_of-published, queues_after}
 use Rattle.cdc_world.proofs.Stepping.{lacking, tried, unable}
 
 -- whether the broker takes a packet

@@ -19,7 +19,8 @@ use Rattle.cdc_publisher.specs.Courses.{Course, begun, next_packet, progress_of,
 use Rattle.cdc_types.specs.declared.batches.Batch.{Batch}
 use Rattle.cdc_types.specs.declared.batches.BatchResults.{BatchResults}
 use Rattle.cdc_laws.specs.Line.{line}
-use Rattle.cdc_world.specs.Connector.{IsOrderly, held_timestamp}
+use Rattle.cdc_laws.specs.Connectors.{held_timestamp}
+use Rattle.cdc_world.specs.Connector.{IsOrderly}
 use Rattle.cdc_world.specs.Next.{AfterFailure, IsAtStart, IsReached, IsTried, Leads, Next, Outcome, first_flight, next, next_delivery, saves, with_batch, with_session, with_start, ◌>>=◌}
 use Rattle.cdc_world.specs.Worlds.{Subscription, WorldState, new_world, numbered, taken_items}
 use Rattle.cdc_laws.proofs.GoingOn.{GoesOn-closed, GoesOn-submit}

@@ -10,7 +10,7 @@ use Rattle.cdc_match.specs.Arguments.{Arguments}
 use Rattle.cdc_message.specs.declared.items.Delivery.{Delivery}
 use Rattle.cdc_message.specs.declared.items.Item.{Item}
 use Rattle.cdc_message.specs.Replays.{IsReplay}
-use Rattle.cdc_message.proofs.ReplayLaws.{IsReplay-Contains, IsReplay-earlier, IsReplay-longer, IsReplay-nil, IsReplay-take}
+use Rattle.cdc_message.proofs.ReplayLaws.{IsReplay-Contains, IsReplay-earlier, IsReplay-in_turn, IsReplay-longer, IsReplay-nil, IsReplay-take}
 use Rattle.cdc_subscriber.specs.Heard.{Heard, has_ended, next}
 use Rattle.cdc_laws.specs.Deliveries.{deliveries, deliveries_from, items_in, positions_in}
 use Rattle.cdc_world.specs.Next.{first_flight, with_ack, with_break, with_close, with_delivery, with_rewind, with_taking}
@@ -18,7 +18,7 @@ use Rattle.cdc_world.specs.Queued.{IsServed, sent_to}
 use Rattle.cdc_world.specs.Worlds.{Subscription, new_subscription}
 use Rattle.cdc_laws.proofs.Deliveries.{HasNoneTwice-deliveries, deliveries-append, delivery_at, length-deliveries, position-deliveries, slice_get-deliveries}
 use Rattle.cdc_laws.proofs.Faithful.{IsReplay-heard}
-use Rattle.cdc_laws.proofs.Replays.{Contains-unmap, IsReplay-found}
+use Rattle.cdc_laws.proofs.Replays.{Contains-unmap}
 
 -- ---- at the start
 
@@ -80,7 +80,7 @@ IsServed-sending items s item served found =
     ∙ ap (λ x. take place (deliveries items) ++ x ∷ []) (get_or_from_slice_get (deliveries items) place d d here) in
     record {
       replay = subst (λ w. IsReplay w (deliveries items)) all
-          (IsReplay-found (sent_to s) (deliveries items) d place served.replay here served.behind);
+          (IsReplay-in_turn (sent_to s) (deliveries items) d place served.replay here served.behind);
       from_one = omega arith;
       within = omega (arith, within, served.from_one);
       behind = λ y there.
