@@ -32,7 +32,7 @@ use Rattle.cdc_types.specs.declared.events.Event.{Event}
 
 -- what holds of the item of each event holds of each item of the line before its end,
 -- so that all before the base of a session are known to have been taken
-each_of_map : (P : Item → Type 0) (es : List Event) → AllByRecursion (λ e. P (OfEvent e)) es
+pub each_of_map : (P : Item → Type 0) (es : List Event) → AllByRecursion (λ e. P (OfEvent e)) es
     → AllByRecursion P (map OfEvent es)
 each_of_map P [] all = tt
 each_of_map P (e ∷ es) all = (all.0, each_of_map P es all.1)

@@ -6,7 +6,6 @@ use Rattle.std.proofs.lemmas.List.Elements.{Contains-get_or}
 use Rattle.std.proofs.lemmas.Option.{slice_get_read}
 use Rattle.cdc_message.specs.Replays.{HaveSame, IsReplay}
 use Rattle.cdc_message.proofs.ReplayLaws.{HaveSame-refl}
-pub use Rattle.cdc_message.proofs.ReplayLaws.{IsReplay-in_turn as IsReplay-found}
 
 -- a list is a replay of itself
 pub IsReplay-same : {X : Type 0} (f : List X) → IsReplay f f

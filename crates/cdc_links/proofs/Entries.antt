@@ -38,7 +38,8 @@ module _ {M N : Type 0} where
   pub of_sender-snoc_other : (j : ℕ) (e : ℕ × (M × N)) (xs : List (ℕ × (M × N))) → e.0 ≢ j
       → of_sender j (xs ++ e ∷ []) ≡ of_sender j xs
   of_sender-snoc_other j e xs apart =
-      of_sender-append j xs (e ∷ []) ∙ (ap (λ l. of_sender j xs ++ l) (of_sender-other j e [] apart) ∙ append-nil (of_sender j xs))
+      of_sender-append j xs (e ∷ [])
+      ∙ (ap (λ l. of_sender j xs ++ l) (of_sender-other j e [] apart) ∙ append-nil (of_sender j xs))
 
   -- a message of this sender in the middle
   pub of_sender-middle : (e : ℕ × (M × N)) (xs ys : List (ℕ × (M × N)))
@@ -50,15 +51,19 @@ module _ {M N : Type 0} where
     pub follow-snoc : (j : ℕ) (before messages : List (M × N)) (m : M × N) → FollowFrom may_follow j before messages
         → may_follow j (before ++ messages) m → FollowFrom may_follow j before (messages ++ m ∷ [])
     follow-snoc j before [] m chain next = (subst (λ l. may_follow j l m) (append-nil before) next, tt)
-    follow-snoc j before (x ∷ xs) m chain next =
-        (chain.0, follow-snoc j (before ++ x ∷ []) xs m chain.1 (subst (λ l. may_follow j l m) (sym (append_assoc before (x ∷ []) xs)) next))
+    follow-snoc j before (x ∷ xs) m chain next = (
+      chain.0,
+      follow-snoc j (before ++ x ∷ []) xs m chain.1
+          (subst (λ l. may_follow j l m) (sym (append_assoc before (x ∷ []) xs)) next),
+    )
 
     -- a message in the middle could follow those before it
     pub follow-middle : (j : ℕ) (before messages : List (M × N)) (m : M × N) (rest : List (M × N))
         → FollowFrom may_follow j before (messages ++ m ∷ rest) → may_follow j (before ++ messages) m
     follow-middle j before [] m rest chain = subst (λ l. may_follow j l m) (sym (append-nil before)) chain.0
     follow-middle j before (x ∷ xs) m rest chain =
-        subst (λ l. may_follow j l m) (append_assoc before (x ∷ []) xs) (follow-middle j (before ++ x ∷ []) xs m rest chain.1)
+        subst (λ l. may_follow j l m) (append_assoc before (x ∷ []) xs)
+        (follow-middle j (before ++ x ∷ []) xs m rest chain.1)
 
     -- a beginning of what could be sent could be sent
     pub follow-prefix : (j : ℕ) (before messages rest : List (M × N))

@@ -65,7 +65,8 @@ unfolding without
 distinct-without j [] h = tt
 distinct-without j (x ∷ xs) h =
     let rest = distinct-without j xs h.1 in
-    by_equal x j (λ b. Distinct (cond b (without j xs) (x ∷ without j xs))) (λ _. rest) (λ _. (away-without x j xs h.0, rest))
+    by_equal x j (λ b. Distinct (cond b (without j xs) (x ∷ without j xs))) (λ _. rest)
+    (λ _. (away-without x j xs h.0, rest))
 
 below-without : (n : ℕ) (xs : List ℕ) → Below (suc n) xs → Below n (without n xs)
 unfolding without
@@ -79,7 +80,8 @@ without-away : (j : ℕ) (xs : List ℕ) → Away j xs → without j xs ≡ xs
 unfolding without
 without-away j [] h = refl
 without-away j (x ∷ xs) h =
-    by_equal x j (λ b. cond b (without j xs) (x ∷ without j xs) ≡ x ∷ xs) (λ e. absurd (h.0 e)) (λ _. ap (λ l. x ∷ l) (without-away j xs h.1))
+    by_equal x j (λ b. cond b (without j xs) (x ∷ without j xs) ≡ x ∷ xs) (λ e. absurd (h.0 e))
+    (λ _. ap (λ l. x ∷ l) (without-away j xs h.1))
 
 length-without : (j : ℕ) (xs : List ℕ) → Distinct xs → length xs ≤ suc (length (without j xs))
 unfolding without
@@ -87,7 +89,8 @@ length-without j [] h = omega arith
 length-without j (x ∷ xs) h =
     let rest : length xs ≤ suc (length (without j xs)) = length-without j xs h.1 in
     by_equal x j (λ b. suc (length xs) ≤ suc (length (cond b (without j xs) (x ∷ without j xs))))
-    (λ e. let n : length (without j xs) ≡ length xs = ap length (without-away j xs (subst (λ k. Away k xs) e h.0)) in omega arith)
+    (λ e. let n : length (without j xs) ≡ length xs = ap length (without-away j xs (subst (λ k. Away k xs) e h.0)) in
+    omega arith)
     (λ _. omega arith)
 
 -- there are no more different numbers below n than n
@@ -103,7 +106,9 @@ at_most (suc n) xs h below =
 -- n different numbers below n are all of them
 pub all_there : (n : ℕ) (xs : List ℕ) → Distinct xs → Below n xs → length xs ≡ n → (j : ℕ) → j < n → In j xs
 all_there n xs h below many j less =
-    ⊎_elim (λ i. i) (λ away. let more : suc (length xs) ≤ n = at_most n (j ∷ xs) (away, h) (less, below) in absurd (omega arith)) (in_or_away j xs)
+    ⊎_elim (λ i. i)
+    (λ away. let more : suc (length xs) ≤ n = at_most n (j ∷ xs) (away, h) (less, below) in absurd (omega arith))
+    (in_or_away j xs)
 
 -- a number isn't among those that it is none of
 not_both : (j x : ℕ) (xs : List ℕ) → x ≡ j → Away x xs → In j xs → ⊥
@@ -125,4 +130,5 @@ hits-once j (x ∷ xs) h (inl e) =
     let rest = hits-away j xs (subst (λ k. Away k xs) e h.0) in
     by_equal j x (λ b. cond b 1 0 + hits j xs ≡ 1) (λ _. omega arith) (λ ne. absurd (ne (sym e)))
 hits-once j (x ∷ xs) h (inr i) =
-    by_equal j x (λ b. cond b 1 0 + hits j xs ≡ 1) (λ e. absurd (not_both j x xs (sym e) h.0 i)) (λ _. let rest = hits-once j xs h.1 i in omega arith)
+    by_equal j x (λ b. cond b 1 0 + hits j xs ≡ 1) (λ e. absurd (not_both j x xs (sym e) h.0 i))
+    (λ _. let rest = hits-once j xs h.1 i in omega arith)

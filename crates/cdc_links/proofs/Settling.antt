@@ -95,7 +95,8 @@ module _ {M N : Type 0} where
       let ns : List ℕ = numbers handed in
       let once = numbers-distinct handed s.once in
       let there =
-      all_there into.senders ns once (numbers-below entries into.senders handed s.whole) (numbers-length handed ∙ many) in (
+      all_there into.senders ns once (numbers-below entries into.senders handed s.whole)
+      (numbers-length handed ∙ many) in (
         s.left,
         (
           all_whole entries into.senders handed s.whole,
@@ -112,4 +113,5 @@ module _ {M N : Type 0} where
       let x : ℕ × List (M × N) = (end.number, end.sent) in
       let more : joined_of (ends ++ end ∷ []) ≡ joined_of ends ++ x ∷ [] =
       map-append (λ e. (e.number, e.sent)) ends (end ∷ []) in
-      is ∙ ((λ i. receiving ((was i).received) ((was i).given) ((was i).joined ++ x ∷ [])) ∙ ap (receiving v.received v.given) (sym more))
+      is ∙ ((λ i. receiving ((was i).received) ((was i).given) ((was i).joined ++ x ∷ []))
+      ∙ ap (receiving v.received v.given) (sym more))

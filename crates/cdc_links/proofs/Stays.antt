@@ -14,12 +14,19 @@ use Rattle.cdc_links.proofs.Steps.{lawful-sent, sends}
 
 module _ {M N : Type 0} where
   -- the receiver's end shows one message more
-  pub received_end : (table after_table : TableId) (slots after_slots : Badge (Key (Parcel M))) (v w : Knowledge M N) (e : ℕ × (M × N))
+  pub received_end : (table after_table : TableId) (slots after_slots : Badge (Key (Parcel M))) (v w : Knowledge M N)
+      (e : ℕ × (M × N))
       → after_table ≡ table → after_slots ≡ slots → w ≡ receiving (v.received ++ e ∷ []) v.given v.joined
-      → ◌≡◌ {A = Incoming M N} (record { link = record { table = after_table; slots = after_slots }; senders = w.given; received = w.received })
-      (with_received (record { link = record { table = table; slots = slots }; senders = v.given; received = v.received }) e)
+      → ◌≡◌ {A = Incoming M N} (record
+      { link = record { table = after_table; slots = after_slots }; senders = w.given; received = w.received })
+      (with_received
+      (record { link = record { table = table; slots = slots }; senders = v.given; received = v.received }) e)
   received_end table after_table slots after_slots v w e same_table same_slots is =
-      λ i. record { link = record { table = same_table i; slots = same_slots i }; senders = (is i).given; received = (is i).received }
+      λ i. record {
+        link = record { table = same_table i; slots = same_slots i };
+        senders = (is i).given;
+        received = (is i).received;
+      }
 
   -- one sender more
   pub fresh_more : (link : LinkId M) (n : ℕ)
@@ -30,10 +37,12 @@ module _ {M N : Type 0} where
     -- a send under the number of the end
     pub sends_as : (n pass number : ℕ) (v : Knowledge M N) (m : M) (name : N) → v ≡ sending number v.sent false
         → may_follow number v.sent (m, name)
-        → Pushes (IsRuled may_follow) n pass v (record { sender = number; value = m }) (λ w. w ≡ sending v.number (v.sent ++ (m, name) ∷ []) false)
+        → Pushes (IsRuled may_follow) n pass v (record { sender = number; value = m })
+        (λ w. w ≡ sending v.number (v.sent ++ (m, name) ∷ []) false)
     sends_as n pass number v m name is =
         subst (λ k. may_follow k v.sent (m, name)
-        → Pushes (IsRuled may_follow) n pass v (record { sender = k; value = m }) (λ w. w ≡ sending v.number (v.sent ++ (m, name) ∷ []) false))
+        → Pushes (IsRuled may_follow) n pass v (record { sender = k; value = m })
+        (λ w. w ≡ sending v.number (v.sent ++ (m, name) ∷ []) false))
         (ap (λ u. u.number) is) (sends may_follow n pass v m name (ap (λ u. u.sends) is))
 
     -- a sender's end after a send
@@ -53,31 +62,42 @@ module _ {M N : Type 0} where
         → v ≡ receiving v.received v.given []
         → count ≡ length v.received → ((j : ℕ) → CanSend may_follow j (of_sender j v.received))
         → Received may_follow v x w
-        → (w ≡ receiving w.received w.given []) × (count + 1 ≡ length w.received) × ((j : ℕ) → CanSend may_follow j (of_sender j w.received))
+        → (w ≡ receiving w.received w.given []) × (count + 1 ≡ length w.received)
+        × ((j : ℕ) → CanSend may_follow j (of_sender j w.received))
     received_stays count v x w is n lawful told =
         let e : ℕ × (M × N) = (x.sender, (x.value, told.0)) in
         let received : w.received ≡ v.received ++ e ∷ [] = ap (λ u. u.received) told.3 in
         let given : w.given ≡ v.given = ap (λ u. u.given) told.3 in (
           told.3 ∙ (λ i. receiving (sym received i) (sym given i) ((is i).joined)),
           omega (arith, ap length received, length-append v.received (e ∷ [])),
-          λ j. subst (λ l. CanSend may_follow j (of_sender j l)) (sym received) (lawful-sent may_follow v.received e told.2 lawful j),
+          λ j. subst (λ l. CanSend may_follow j (of_sender j l)) (sym received)
+              (lawful-sent may_follow v.received e told.2 lawful j),
         )
 
     -- what a receive answers, of the end as it was shown before
-    pub received_answer : (table after_table : TableId) (slots after_slots : Badge (Key (Parcel M))) (v w : Knowledge M N) (x : Parcel M)
+    pub received_answer : (table after_table : TableId) (slots after_slots : Badge (Key (Parcel M)))
+        (v w : Knowledge M N) (x : Parcel M)
         (before : Incoming M N) → after_table ≡ table → after_slots ≡ slots → Received may_follow v x w
-        → ◌≡◌ {A = Incoming M N} (record { link = record { table = table; slots = slots }; senders = v.given; received = v.received }) before
+        → ◌≡◌ {A = Incoming M N}
+        (record { link = record { table = table; slots = slots }; senders = v.given; received = v.received }) before
         → (j : ℕ) × (name : N) × (j < before.senders) × may_follow j (of_sender j before.received) (x.value, name)
-        × (◌≡◌ {A = Incoming M N} (record { link = record { table = after_table; slots = after_slots }; senders = w.given; received = w.received })
+        × (◌≡◌ {A = Incoming M N} (record
+        { link = record { table = after_table; slots = after_slots }; senders = w.given; received = w.received })
         (with_received before (j, (x.value, name))))
     received_answer table after_table slots after_slots v w x before same_table same_slots told shown =
         let after : Incoming M N =
-        record { link = record { table = after_table; slots = after_slots }; senders = w.given; received = w.received } in
-        subst (λ (o : Incoming M N). (j : ℕ) × (name : N) × (j < o.senders) × may_follow j (of_sender j o.received) (x.value, name)
+        record {
+          link = record { table = after_table; slots = after_slots };
+          senders = w.given;
+          received = w.received;
+        } in
+        subst (λ (o : Incoming M N). (j : ℕ) × (name : N) × (j < o.senders)
+        × may_follow j (of_sender j o.received) (x.value, name)
         × (after ≡ with_received o (j, (x.value, name)))) shown (
           x.sender,
           told.0,
           told.1,
           told.2,
-          received_end table after_table slots after_slots v w (x.sender, (x.value, told.0)) same_table same_slots told.3,
+          received_end table after_table slots after_slots v w
+              (x.sender, (x.value, told.0)) same_table same_slots told.3,
         )

@@ -48,7 +48,8 @@ module _ {V : Type 0} where
 module _ {M N : Type 0} where
   -- the message at the front, with what it names
   front : (held : List (ℕ × (M × N))) (x : Parcel M) (items : List (Parcel M)) → map parcel_of held ≡ x ∷ items
-      → (e : ℕ × (M × N)) × (rest : List (ℕ × (M × N))) × (held ≡ e ∷ rest) × (parcel_of e ≡ x) × (map parcel_of rest ≡ items)
+      → (e : ℕ × (M × N)) × (rest : List (ℕ × (M × N))) × (held ≡ e ∷ rest) × (parcel_of e ≡ x)
+      × (map parcel_of rest ≡ items)
   front [] x items is = absurd (cons≢nil (sym is))
   front (e ∷ rest) x items is = (e, rest, refl, head-eq_of_cons-eq is, tail-eq_of_cons-eq is)
 
@@ -83,7 +84,8 @@ module _ {M N : Type 0} where
           whole = tt;
           once = tt;
           known = λ j u e. ⊎_elim (λ none. absurd (some-ne-none u (sym none)))
-              (λ (last : (j ≡ 0) × (v ≡ u)). subst (λ (y : ℕ × Knowledge M N). F y.0 y.1) (λ i. (sym last.0 i, last.1 i)) at_first) (at_end [] v u j e);
+              (λ (last : (j ≡ 0) × (v ≡ u)). subst (λ (y : ℕ × Knowledge M N). F y.0 y.1)
+              (λ i. (sym last.0 i, last.1 i)) at_first) (at_end [] v u j e);
         }
 
     -- what a sender has sent could be sent, also with one message more
@@ -93,13 +95,15 @@ module _ {M N : Type 0} where
     lawful-sent all e next lawful j =
         dite (ℕ_discrete e.0 j)
         (λ is. subst (λ k. CanSend may_follow k (of_sender k (all ++ e ∷ []))) is
-        (subst (CanSend may_follow e.0) (sym (of_sender-snoc_own e all)) (follow-snoc may_follow e.0 [] (of_sender e.0 all) e.1 (lawful e.0) next)))
+        (subst (CanSend may_follow e.0) (sym (of_sender-snoc_own e all))
+        (follow-snoc may_follow e.0 [] (of_sender e.0 all) e.1 (lawful e.0) next)))
         (λ ne. subst (CanSend may_follow j) (sym (of_sender-snoc_other j e all ne)) (lawful j))
 
     -- send: the message goes to the back, and the sender's pass knows that it was sent
     pub sends : (n pass : ℕ) (v : Knowledge M N) (m : M) (name : N) → v.sends ≡ true
         → may_follow v.number v.sent (m, name)
-        → Pushes Rule n pass v (record { sender = v.number; value = m }) (λ w. w ≡ sending v.number (v.sent ++ (m, name) ∷ []) false)
+        → Pushes Rule n pass v (record { sender = v.number; value = m })
+        (λ w. w ≡ sending v.number (v.sent ++ (m, name) ∷ []) false)
     sends n pass v m name may follow items views _ h at =
         let e : ℕ × (M × N) = (v.number, (m, name)) in
         let w : Knowledge M N = sending v.number (v.sent ++ (m, name) ∷ []) false in
@@ -109,8 +113,10 @@ module _ {M N : Type 0} where
         subst (λ l. may_follow v.number l (m, name)) mine.3 follow in
         let F : ℕ → Knowledge M N → Type 0 = Fits h.all h.log h.given h.joined h.reader h.seat in
         let G : ℕ → Knowledge M N → Type 0 = Fits (h.all ++ e ∷ []) h.log h.given h.joined h.reader h.seat in
-        let own : G pass w =
-        ((λ _. (mine.0, mine.1, mine.2, ap (λ l. l ++ (m, name) ∷ []) mine.3 ∙ sym (of_sender-snoc_own e h.all))), λ p. absurd (not_so p)) in
+        let own : G pass w = (
+          (λ _. (mine.0, mine.1, mine.2, ap (λ l. l ++ (m, name) ∷ []) mine.3 ∙ sym (of_sender-snoc_own e h.all))),
+          λ p. absurd (not_so p),
+        ) in
         let others : (j : ℕ) (u : Knowledge M N) → j ≢ pass → F j u → G j u =
         λ j u ne f. (
           (λ p.
@@ -152,9 +158,11 @@ module _ {M N : Type 0} where
         ap (of_sender e.0) split ∙ of_sender-middle e h.log rest in
         let follows : may_follow e.0 (of_sender e.0 v.received) e.1 =
         subst (λ l. may_follow e.0 (of_sender e.0 l) e.1) (sym mine.1)
-        (follow-middle may_follow e.0 [] (of_sender e.0 h.log) e.1 (of_sender e.0 rest) (subst (CanSend may_follow e.0) own_part (h.lawful e.0))) in
+        (follow-middle may_follow e.0 [] (of_sender e.0 h.log) e.1 (of_sender e.0 rest)
+        (subst (CanSend may_follow e.0) own_part (h.lawful e.0))) in
         let below : e.0 < v.given =
-        lt_of_not-le (λ le. some_there (of_sender e.0 h.log) (of_sender e.0 rest) e.1 (sym own_part ∙ h.fresh e.0 (subst (λ k. k ≤ e.0) mine.2 le))) in
+        lt_of_not-le (λ le. some_there (of_sender e.0 h.log) (of_sender e.0 rest) e.1
+        (sym own_part ∙ h.fresh e.0 (subst (λ k. k ≤ e.0) mine.2 le))) in
         let F : ℕ → Knowledge M N → Type 0 = Fits h.all h.log h.given h.joined h.reader h.seat in
         let G : ℕ → Knowledge M N → Type 0 = Fits h.all (h.log ++ e ∷ []) h.given h.joined h.reader h.seat in
         let own : G pass w = ((λ p. absurd (not_so p)), λ _. (mine.0, ap (λ l. l ++ e ∷ []) mine.1, mine.2, mine.3)) in
@@ -198,8 +206,12 @@ module _ {M N : Type 0} where
           (λ p.
               let s = f.0 p in
               let below : u.number < h.given = s.1 in
-              let apart : u.number ≢ v.given = λ is. absurd (omega arith) in
-              (s.0 ∙ sym (ap (λ b. cond b (length vs) (h.seat u.number)) (ne_eqb u.number v.given apart)), omega arith, s.2, s.3)),
+              let apart : u.number ≢ v.given = λ is. absurd (omega arith) in (
+                s.0 ∙ sym (ap (λ b. cond b (length vs) (h.seat u.number)) (ne_eqb u.number v.given apart)),
+                omega arith,
+                s.2,
+                s.3,
+              )),
           λ p. absurd (ne ((f.1 p).0 ∙ sym mine.0)),
         ) in
         let fresh : G (length vs) right = (
@@ -226,7 +238,8 @@ module _ {M N : Type 0} where
           whole = whole-given h.all h.given (v.given + 1) h.joined (omega arith) h.whole;
           once = h.once;
           known = λ j u e. ⊎_elim (λ old. each-set F G views pass left h.known own others j u old)
-              (λ (new : (j ≡ length vs) × (right ≡ u)). subst (λ (y : ℕ × Knowledge M N). G y.0 y.1) (λ i. (sym new.0 i, new.1 i)) fresh)
+              (λ (new : (j ≡ length vs) × (right ≡ u)). subst (λ (y : ℕ × Knowledge M N). G y.0 y.1)
+              (λ i. (sym new.0 i, new.1 i)) fresh)
               (at_end vs right u j e);
         }
 
@@ -255,7 +268,8 @@ module _ {M N : Type 0} where
           whole = h.whole;
           once = h.once;
           known = λ j u e. ⊎_elim (λ old. each-set F F views pass left h.known own (λ k y _ f. f) j u old)
-              (λ (new : (j ≡ length vs) × (nobody ≡ u)). subst (λ (y : ℕ × Knowledge M N). F y.0 y.1) (λ i. (sym new.0 i, new.1 i)) spent)
+              (λ (new : (j ≡ length vs) × (nobody ≡ u)). subst (λ (y : ℕ × Knowledge M N). F y.0 y.1)
+              (λ i. (sym new.0 i, new.1 i)) spent)
               (at_end vs nobody u j e);
         }
 
@@ -300,7 +314,8 @@ module _ {M N : Type 0} where
           whole = whole-snoc h.all h.given h.joined x h.whole (sym theirs.3) theirs.1;
           once = once-snoc h.joined x h.once theirs.2;
           known =
-              each-set Now G vs other nobody (each-set F Now views pass both h.known own others) spent (λ j y ne f. f ne);
+              each-set Now G vs other nobody (each-set F Now views pass both h.known own others) spent
+              (λ j y ne f. f ne);
         }
 
     -- what the receiver's pass learns
@@ -311,7 +326,8 @@ module _ {M N : Type 0} where
         record {
           left = h.held;
           whole =
-              subst (λ (y : List (ℕ × (M × N)) × ℕ × List (ℕ × List (M × N))). AreWhole y.0 y.1 y.2) (λ i. (all i, sym mine.2 i, sym mine.3 i)) h.whole;
+              subst (λ (y : List (ℕ × (M × N)) × ℕ × List (ℕ × List (M × N))). AreWhole y.0 y.1 y.2)
+              (λ i. (all i, sym mine.2 i, sym mine.3 i)) h.whole;
           once = subst AreApart (sym mine.3) h.once;
           fresh = λ j le. ap (of_sender j) (sym all) ∙ h.fresh j (subst (λ k. k ≤ j) mine.2 le);
         }

@@ -60,8 +60,8 @@ module _ {M N : Type 0} where
     abbrev pub CanSend : ℕ → List (M × N) → Type 0
     CanSend j messages = FollowFrom j [] messages
 
-    -- what a receive says of the receiver's end before and after: some sender of the link has sent the message, under some
-    -- name, it could follow what was received of that sender before, and it is what was received last
+    -- what a receive says of the receiver's end before and after: some sender of the link has sent the message, under
+    -- some name, it could follow what was received of that sender before, and it is what was received last
     abbrev pub Takes : Incoming M N → M → Incoming M N → Type 0
     Takes before value after =
         (j : ℕ)
@@ -70,8 +70,8 @@ module _ {M N : Type 0} where
         × may_follow j (of_sender j before.received) (value, name)
         × (after ≡ with_received before (j, (value, name)))
 
-  -- what stands when all senders have handed back: with what was left in the link, what was received makes up what each of
-  -- them has sent, in its order; each of them is there; and there is nothing of anyone else
+  -- what stands when all senders have handed back: with what was left in the link, what was received makes up what each
+  -- of them has sent, in its order; each of them is there; and there is nothing of anyone else
   abbrev pub IsAccount : Incoming M N → List (Outgoing M N) → List (ℕ × (M × N)) → Type 0
   IsAccount into handed left =
       All (λ end. of_sender end.number (into.received ++ left) ≡ end.sent) handed

@@ -24,17 +24,45 @@ module _ {M N : Type 0} where
   -- what a sender's pass knows: its number, what it has sent, and whether it was handed back
   abbrev pub sending : ℕ → List (M × N) → Bool → Knowledge M N
   sending number sent closed =
-      record { sends = true; closed = closed; number = number; sent = sent; receives = false; received = []; given = 0; joined = [] }
+      record {
+        sends = true;
+        closed = closed;
+        number = number;
+        sent = sent;
+        receives = false;
+        received = [];
+        given = 0;
+        joined = [];
+      }
 
-  -- what the receiver's pass knows: what it has received, how many senders there are, and what the ones taken in have sent
+  -- what the receiver's pass knows: what it has received, how many senders there are, and what the ones taken in have
+  -- sent
   abbrev pub receiving : List (ℕ × (M × N)) → ℕ → List (ℕ × List (M × N)) → Knowledge M N
   receiving received given joined =
-      record { sends = false; closed = false; number = 0; sent = []; receives = true; received = received; given = given; joined = joined }
+      record {
+        sends = false;
+        closed = false;
+        number = 0;
+        sent = [];
+        receives = true;
+        received = received;
+        given = given;
+        joined = joined;
+      }
 
   -- what a spent pass knows
   abbrev pub nobody : Knowledge M N
   nobody =
-      record { sends = false; closed = false; number = 0; sent = []; receives = false; received = []; given = 0; joined = [] }
+      record {
+        sends = false;
+        closed = false;
+        number = 0;
+        sent = [];
+        receives = false;
+        received = [];
+        given = 0;
+        joined = [];
+      }
 
   -- the parcel in which a message travels: its name is left behind
   abbrev pub parcel_of : ℕ × (M × N) → Parcel M
@@ -59,12 +87,13 @@ module _ {M N : Type 0} where
   AreWhole entries given [] = Unit {0}
   AreWhole entries given (x ∷ xs) = (of_sender x.0 entries ≡ x.1) × (x.0 < given) × AreWhole entries given xs
 
-  -- what the pass of this number knows is so: a sender's has its own number, and what it has sent; the receiver's is the
-  -- only one, and knows what was received, how many senders there are, and which of them were taken in
+  -- what the pass of this number knows is so: a sender's has its own number, and what it has sent; the receiver's is
+  -- the only one, and knows what was received, how many senders there are, and which of them were taken in
   abbrev pub Fits : List (ℕ × (M × N)) → List (ℕ × (M × N)) → ℕ → List (ℕ × List (M × N)) → ℕ → (ℕ → ℕ) → ℕ
       → Knowledge M N → Type 0
   Fits all log given joined reader seat pass v =
-      (v.sends ≡ true → (pass ≡ seat v.number) × (v.number < given) × IsApart v.number joined × (v.sent ≡ of_sender v.number all))
+      (v.sends ≡ true → (pass ≡ seat v.number) × (v.number < given) × IsApart v.number joined
+      × (v.sent ≡ of_sender v.number all))
       × (v.receives ≡ true → (pass ≡ reader) × (v.received ≡ log) × (v.given ≡ given) × (v.joined ≡ joined))
 
   -- what the rule shows of the receiver's view, once it was learned: what the link still holds, and that after what was
@@ -76,8 +105,8 @@ module _ {M N : Type 0} where
     pub fresh : (j : ℕ) → v.given ≤ j → of_sender j (v.received ++ left) ≡ []
 
   module _ (may_follow : ℕ → List (M × N) → M × N → Type 0) where
-    -- the rule, over the parcels that the link holds and what the passes know. All that was ever sent is what was received
-    -- and what the link holds; the pass of each sender is known by its number
+    -- the rule, over the parcels that the link holds and what the passes know. All that was ever sent is what was
+    -- received and what the link holds; the pass of each sender is known by its number
     pub record IsRuled (items : List (Parcel M)) (views : List (Knowledge M N)) : Type 0 where
       pub all : List (ℕ × (M × N))
       pub log : List (ℕ × (M × N))
@@ -95,8 +124,8 @@ module _ {M N : Type 0} where
       pub known : (pass : ℕ) (v : Knowledge M N) → get_elem? views pass ≡ some v
           → Fits all log given joined reader seat pass v
 
-    -- what a receive tells: some sender has sent the message, under some name, and it could follow what was received of that
-    -- sender before
+    -- what a receive tells: some sender has sent the message, under some name, and it could follow what was received of
+    -- that sender before
     abbrev pub Received : Knowledge M N → Parcel M → Knowledge M N → Type 0
     Received v x w =
         (name : N)
@@ -143,8 +172,8 @@ module _ {M N : Type 0} where
   with_all_joined v ends = receiving v.received v.given (joined_of ends)
 
   module _ (may_follow : ℕ → List (M × N) → M × N → Type 0) where
-    -- what a sender's end keeps: its pass is of its channel, and knows its number and what it has sent, which is counted, and
-    -- could be sent
+    -- what a sender's end keeps: its pass is of its channel, and knows its number and what it has sent, which is
+    -- counted, and could be sent
     abbrev pub KeepsOut : {Q K L A B : Type 0} → Bool → Sending (LinkChannel M (Knowledge M N) Q K L A) B
         → Pass (Parcel M) (Knowledge M N) → ℕ → ℕ → Type 0
     KeepsOut closed sender pass number count =
@@ -153,8 +182,8 @@ module _ {M N : Type 0} where
         × (count ≡ length (view pass).sent)
         × CanSend may_follow number (view pass).sent
 
-    -- what the receiver's end keeps: its pass is of its channel, has taken no sender in, and knows what was received, which is
-    -- counted, and could be sent by each sender
+    -- what the receiver's end keeps: its pass is of its channel, has taken no sender in, and knows what was received,
+    -- which is counted, and could be sent by each sender
     abbrev pub KeepsIn : {Q K L A B : Type 0} → Receiving (LinkChannel M (Knowledge M N) Q K L A) B
         → Pass (Parcel M) (Knowledge M N) → ℕ → Type 0
     KeepsIn receiver pass count =

@@ -169,7 +169,8 @@ fn two_senders<R: Threads + Wait + Abort + Sync>(
         { send_notes(rt, first, 0, count) },
         move ||
             requires { second.number ≡ 1 }
-            ensures { (result.0.link ≡ second.link) × (result.1.link ≡ into.link) × (result.1.senders ≡ into.senders) }
+            ensures { (result.0.link ≡ second.link)
+                × (result.1.link ≡ into.link) × (result.1.senders ≡ into.senders) }
         { beside(rt, second, into, count) },
     );
     all.push_reserved(first);
@@ -185,7 +186,8 @@ fn beside<R: Threads + Wait + Abort + Sync>(
     count: u64,
 ) -> (Handed<Note>, LinkIn<Note>)
     requires { second.number ≡ 1 }
-    ensures { (result.0.link ≡ second.link) × (result.1.link ≡ into.link) × (result.1.senders ≡ into.senders) }
+    ensures { (result.0.link ≡ second.link)
+        × (result.1.link ≡ into.link) × (result.1.senders ≡ into.senders) }
 {
     thread::join(
         rt,

@@ -5,7 +5,8 @@ use Rattle.cdc_types.specs.Timestamps.{RiseFrom}
 use Rattle.cdc_types.specs.declared.events.Event.{Event}
 use Rattle.cdc_publisher.specs.declared.session.Poll.{Poll}
 
--- what may be offered to one that wants these events: at most as many, rising from there, none above the greatest timestamp
+-- what may be offered to one that wants these events: at most as many, rising from there, none above the greatest
+-- timestamp
 pub record IsReply (poll : Poll) (events : List Event) : Type 0 where
   pub count : length events ≤ poll.limit
   pub rising : RiseFrom poll.after events

@@ -2,7 +2,6 @@
 use Rattle.std.proofs.Common.{◌≡◌, ℕ, Bool, true, false, List, [], ◌∷◌, ◌++◌, Option, Some, None, Ok, Err, refl, sym, ap, ap₂, ◌∙◌, subst, map}
 use Rattle.cdc_broker.specs.Broker.{BrokerState, after_packet, takes_packet}
 use Rattle.cdc_broker.specs.Packets.{expected_after, is_taken, is_taken_at, items_of, session_after}
-use Rattle.cdc_broker.specs.Queues.{QueueState}
 use Rattle.cdc_message.specs.declared.items.Item.{Item}
 use Rattle.cdc_message.specs.declared.packets.Confirm.{Confirm}
 use Rattle.cdc_message.specs.declared.packets.Packet.{Packet}
@@ -12,10 +11,11 @@ use Rattle.cdc_world.specs.declared.steps.Did.TheVariants.{Arrived}
 use Rattle.cdc_world.specs.declared.steps.StepError.TheVariants.{NotEnabled, OutOfMemory}
 use Rattle.cdc_world.specs.Next.{◌>>=◌, arrival, confirms_of, next, with_arrival}
 use Rattle.cdc_world.specs.Parts.{ActorParts}
-use Rattle.cdc_world.specs.Stands.{ActorsStand, BrokerSide, HaveHandedOut, SubscribersStand, broker_of, broker_parts, queue_for, view_of}
+use Rattle.cdc_world.specs.Stands.{ActorsStand, BrokerSide, SubscribersStand, broker_of, broker_parts, queue_for}
 use Rattle.cdc_world.specs.Turns.{ActorsMove, ComesTo}
 use Rattle.cdc_world.specs.Worlds.{Subscription, WorldState, numbered}
-use Rattle.cdc_world.proofs.Queueing.{current_session-push, expected_tag-push, handed_after, items_of-connected, items_of-published, queues_after}
+use Rattle.cdc_laws.proofs.Taking.{current_session-push, expected_tag-push}
+use Rattle.cdc_world.proofs.Queueing.{handed_after, items_of-connected, items_of-published, queues_after}
 use Rattle.cdc_world.proofs.Stepping.{lacking, tried, unable}
 
 -- whether the broker takes a packet
@@ -123,7 +123,8 @@ arrive_passed a packet k there takes = (
 )
 
 -- a packet comes to the broker
-pub arrive_done : (a : ActorParts) (packet : Packet) (k : ℕ) (taken : Bool) (b' : BrokerState) (confirms' : List Confirm)
+pub arrive_done : (a : ActorParts) (packet : Packet) (k : ℕ) (taken : Bool) (b' : BrokerState)
+    (confirms' : List Confirm)
     → numbered a.packets k ≡ Some packet → ComesTo a.broker a.confirms packet (Ok taken) b' confirms'
     → ActorsMove a (Arrive k) (Ok (Arrived taken)) (record a { broker = b'; confirms = confirms' })
 arrive_done a packet k true b' confirms' there comes =

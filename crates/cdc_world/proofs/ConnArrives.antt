@@ -1,19 +1,20 @@
 -- A packet that comes to the broker.
-use Rattle.std.proofs.Common.{◌≡◌, ℕ, ◌+◌, ◌-◌, ◌<◌, ◌≤◌, true, List, [], ◌∷◌, ◌++◌, length, map, sym, ap, ◌∙◌, subst, inl, inr, append-nil, arith}
-use Rattle.std.specs.Prelude.{◌==◌, nat_lt, Option, Some, None, Contains, slice_get}
+use Rattle.std.proofs.Common.{◌≡◌, ℕ, ◌+◌, ◌-◌, ◌<◌, ◌≤◌, true, List, [], ◌∷◌, ◌++◌, map, sym, ap, ◌∙◌, subst, inl, inr, append-nil, arith}
+use Rattle.std.specs.Prelude.{◌==◌, Some, Contains, slice_get}
 use Rattle.std.specs.List.{AllByRecursion}
 use Rattle.std.proofs.lemmas.Bool.{and_parts, cases_Bool, cases_lt, eqb-true}
-use Rattle.std.proofs.lemmas.List.Elements.{Contains-append_left, Contains-push, Contains-push_cases, filter_map-append}
-use Rattle.std.proofs.lemmas.List.Sums.{fold-append}
-use Rattle.std.proofs.lemmas.Option.{cond_some, same_Some}
-use Rattle.cdc_broker.specs.Packets.{current_session, expected_after, expected_tag, is_tag, is_taken, items_of, packet_item, session_after, tag_after}
+use Rattle.std.proofs.lemmas.List.Elements.{Contains-append_left, Contains-push, Contains-push_cases}
+use Rattle.std.proofs.lemmas.Option.{same_Some}
+use Rattle.cdc_broker.specs.Packets.{current_session, expected_tag, is_tag, is_taken, items_of}
 use Rattle.cdc_laws.specs.Line.{line, line_after}
-use Rattle.cdc_world.specs.Connector.{HasTakenUpTo, IsCurrent, IsOfLine, IsOrderly, IsTakenAt, IsTakenBy, held_number, held_timestamp}
+use Rattle.cdc_laws.specs.Connectors.{held_number, held_timestamp}
+use Rattle.cdc_world.specs.Connector.{HasTakenUpTo, IsCurrent, IsOfLine, IsOrderly, IsTakenAt, IsTakenBy}
 use Rattle.cdc_world.specs.Next.{with_arrival}
 use Rattle.cdc_world.specs.Worlds.{WorldState, numbered, taken_items}
+use Rattle.cdc_laws.proofs.Arrivals.{IsReplay-behind, each_of_map}
 use Rattle.cdc_laws.proofs.Lines.{line_splits, split_events}
-use Rattle.cdc_laws.proofs.Places.{Contains_slice_get, each_from, each_has, slice_get-before, slice_get-behind}
-use Rattle.cdc_laws.proofs.Replays.{IsReplay-found, from_places}
+use Rattle.cdc_laws.proofs.Places.{each_from, each_has}
+use Rattle.cdc_laws.proofs.Taking.{current_session-push, expected_tag-push, is_tag-some, items_of-push, tag_after-is}
 use Rattle.cdc_world.proofs.Places.{numbered_from, numbered_parts}
 use Rattle.cdc_ledger.specs.Events.{events}
 use Rattle.cdc_ledger.specs.History.{History}
@@ -28,7 +29,6 @@ use Rattle.cdc_message.specs.declared.packets.Packet.TheVariants.{Connect, Publi
 use Rattle.cdc_message.specs.Replays.{IsReplay}
 use Rattle.cdc_publisher.specs.Courses.{Course}
 use Rattle.cdc_types.specs.declared.events.Event.{Event}
-use Rattle.cdc_types.specs.Widths.{max_64}
 
 -- ---- where more was taken
 
@@ -61,72 +61,20 @@ module _ (before after : List Item) (more : (item : Item) → Contains before it
     };
   }
 
--- ---- what a taken packet makes of those before it
-
--- a packet that the broker takes adds its item, if it has one, behind those taken before
-items_of-push : (packets : List Packet) (packet : Packet)
-    → items_of (packets ++ packet ∷ []) ≡ items_of packets ++ items_of (packet ∷ [])
-items_of-push packets packet = filter_map-append packet_item packets (packet ∷ [])
-
--- a connect that is taken makes its session the current one, and a publish leaves it
-current_session-push : (packets : List Packet) (packet : Packet)
-    → current_session (packets ++ packet ∷ []) ≡ session_after (current_session packets) packet
-current_session-push packets packet = fold-append session_after 0 packets (packet ∷ [])
-
--- a connect that is taken begins the tags at 1 again, and a publish makes the tag after its own the next
-expected_tag-push : (packets : List Packet) (packet : Packet)
-    → expected_tag (packets ++ packet ∷ []) ≡ expected_after (expected_tag packets) packet
-expected_tag-push packets packet = fold-append expected_after None packets (packet ∷ [])
-
--- the tag that is taken next
-is_tag-some : (expected : Option ℕ) (tag : ℕ) → is_tag expected tag ≡ true → expected ≡ Some tag
-is_tag-some None tag is = cc
-is_tag-some (Some next) tag is = ap (λ n. Some n) (eqb-true next tag is)
-
--- tags count up by one, so no tag is passed over between two items that are taken
-tag_after-is : (tag next : ℕ) → tag_after tag ≡ Some next → next ≡ tag + 1
-tag_after-is tag next is = sym (cond_some (nat_lt (tag + 1) max_64) (tag + 1) next is).1
-
 -- ---- the item of a publish that is taken comes in turn
-
--- what holds of the item of each event holds of each item of the line before its end,
--- so that all before the base of a session are known to have been taken
-each_of_map : (P : Item → Type 0) (es : List Event) → AllByRecursion (λ e. P (OfEvent e)) es
-    → AllByRecursion P (map OfEvent es)
-each_of_map P [] all = tt
-each_of_map P (e ∷ es) all = (all.0, each_of_map P es all.1)
 
 -- the item at a place behind the first items is the one under that number
 IsReplay-taken : (all f front rest : List Item) (tag : ℕ) (item : Item) → IsReplay all f → f ≡ front ++ rest
     → AllByRecursion (Contains all) front → numbered rest tag ≡ Some item
     → ((k : ℕ) → 0 < k → k < tag → IsTakenAt all rest k) → IsReplay (all ++ item ∷ []) f
 IsReplay-taken all f front rest tag item replay whole has there earlier =
-    let place : ℕ = length front + (tag - 1) in
     let parts = numbered_parts rest tag item there in
-    let here : slice_get f place ≡ Some item =
-    ap (λ items. slice_get items place) whole
-    ∙ slice_get-behind front rest place (omega arith)
-    ∙ ap (λ n. slice_get rest n) (omega arith)
-    ∙ parts.1 in
-    let before : (i : ℕ) (y : Item) → i < place → slice_get f i ≡ Some y → Contains all y =
-    λ i y below is. elim (cases_lt i (length front)) [
-      | inl early ↦
-          each_has (Contains all) front y has
-          (Contains_slice_get front i y
-          (sym (slice_get-before front rest i early) ∙ ap (λ items. slice_get items i) (sym whole) ∙ is))
-      | inr late ↦
-          let k : ℕ = i - length front + 1 in
-          let taken = earlier k (omega arith) (omega (arith, parts.0)) in
-          let at : slice_get rest (k - 1) ≡ Some y =
-          ap (λ n. slice_get rest n) (omega arith)
-          ∙ sym (slice_get-behind front rest i late)
-          ∙ ap (λ items. slice_get items i) (sym whole)
-          ∙ is in
-          let same : taken.0 ≡ y =
-          same_Some taken.0 y (sym taken.1 ∙ numbered_from rest k y (omega arith) at) in
-          subst (Contains all) same taken.2
-    ] in
-    IsReplay-found all f item place replay here (from_places (Contains all) place f before)
+    IsReplay-behind all f front rest (tag - 1) item replay whole has parts.1 (λ i y below is.
+    let taken = earlier (i + 1) (omega arith) (omega (arith, parts.0, below)) in
+    let at : slice_get rest (i + 1 - 1) ≡ Some y = ap (λ n. slice_get rest n) (omega arith) ∙ is in
+    let same : taken.0 ≡ y =
+    same_Some taken.0 y (sym taken.1 ∙ numbered_from rest (i + 1) y (omega arith) at) in
+    subst (Contains all) same taken.2)
 
 -- every event up to a moment was taken
 pub front_taken : (h : History) (all : List Item) (t : ℕ) (front back : List Event) → events h ≡ front ++ back

@@ -1,5 +1,5 @@
 -- Whatever steps are taken, what the broker took is a replay of the ledger's line.
-use Rattle.std.proofs.Common.{◌≡◌, ℕ, ◌+◌, ◌≤◌, Bool, true, false, List, [], ◌∷◌, refl, sym, ap, subst, inl, inr, arith}
+use Rattle.std.proofs.Common.{◌≡◌, ℕ, ◌≤◌, true, List, [], ◌∷◌, refl, sym, ap, subst, inl, inr, arith}
 use Rattle.std.specs.Prelude.{Option, Some, None, Result, Ok, Err}
 use Rattle.std.specs.Option.{option_map}
 use Rattle.std.proofs.lemmas.Option.{none-some, same_Some}
@@ -18,9 +18,9 @@ use Rattle.cdc_progress.specs.Records.{Saved}
 use Rattle.cdc_publisher.specs.Courses.{Course, begun, next_packet, progress_of, next_poll}
 use Rattle.cdc_types.specs.declared.batches.Batch.{Batch}
 use Rattle.cdc_types.specs.declared.batches.BatchResults.{BatchResults}
-use Rattle.cdc_broker.specs.Packets.{is_taken}
 use Rattle.cdc_laws.specs.Line.{line}
-use Rattle.cdc_world.specs.Connector.{IsOrderly, held_timestamp}
+use Rattle.cdc_laws.specs.Connectors.{held_timestamp}
+use Rattle.cdc_world.specs.Connector.{IsOrderly}
 use Rattle.cdc_world.specs.Next.{AfterFailure, IsAtStart, IsReached, IsTried, Leads, Next, Outcome, first_flight, next, next_delivery, saves, with_batch, with_session, with_start, ◌>>=◌}
 use Rattle.cdc_world.specs.Worlds.{Subscription, WorldState, new_world, numbered, taken_items}
 use Rattle.cdc_laws.proofs.GoingOn.{GoesOn-closed, GoesOn-submit}

@@ -27,7 +27,8 @@ use Rattle.cdc_publisher.specs.Courses.{Course, all_sent, begun, confirmed_from,
 use Rattle.cdc_publisher.specs.declared.session.Poll.{Poll}
 use Rattle.cdc_types.specs.declared.events.Event.{Event}
 use Rattle.cdc_laws.specs.Line.{line_after}
-use Rattle.cdc_world.specs.Connector.{HasTakenUpTo, IsCurrent, IsOfLine, IsOrderly, IsTakenAt, IsTakenBy, KeepsTo, held_number, held_timestamp, session_of}
+use Rattle.cdc_laws.specs.Connectors.{held_number, held_timestamp}
+use Rattle.cdc_world.specs.Connector.{HasTakenUpTo, IsCurrent, IsOfLine, IsOrderly, IsTakenAt, IsTakenBy, KeepsTo, session_of}
 use Rattle.cdc_world.specs.Next.{after_answer, none_follow, with_packet, with_poll}
 use Rattle.cdc_world.specs.Worlds.{WorldState, numbered, taken_items}
 use Rattle.cdc_laws.proofs.Lines.{events_past, split_events}
@@ -353,7 +354,8 @@ IsOrderly-confirmed base_of w course confirm is there among =
     let next : IsNext w.history (taken_items w) course (after_answer course confirm.session confirm.answer) =
     IsNext-confirmed base_of (held_number w.held) w.history (taken_items w) course confirm.session confirm.answer
     (is.session course there) (is.confirms confirm among) in
-    IsOrderly-course base_of w course (after_answer course confirm.session confirm.answer) is there next.number next.base
+    IsOrderly-course base_of w course
+    (after_answer course confirm.session confirm.answer) is there next.number next.base
     next.keeps
 
 -- ---- it saves its progress

@@ -116,8 +116,8 @@ tells_all : shown (run_of start whole_way) ≡ (
 tells_all = refl
 
 -- why a step isn't done: a closed ledger refuses a batch; a session runs already, or there is no further number for
--- one; there is no packet, confirm, subscriber or acknowledgement of that number; nothing is on its way; or a step of the
--- connector comes while it is down
+-- one; there is no packet, confirm, subscriber or acknowledgement of that number; nothing is on its way; or a step of
+-- the connector comes while it is down
 abbrev refused : WorldState → List Step → ℕ × Option StepError
 refused w steps = (run_of w steps).0
 

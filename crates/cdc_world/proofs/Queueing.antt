@@ -1,12 +1,12 @@
--- The broker's queues, as they stand for the subscriptions: after an item that was taken, and after one of them changed.
+-- The broker's queues, as they stand for the subscriptions: after an item that was taken, and after one of them
+-- changed.
 use Rattle.std.proofs.Common.{◌≡◌, ℕ, zero, suc, Bool, true, false, List, [], ◌∷◌, ◌++◌, Some, None, refl, sym, ap, ap₂, ◌∙◌, subst, map, append-nil}
 use Rattle.std.specs.Prelude.{Option, slice_get, slice_set, unwrap_or, if◌then◌else◌}
-use Rattle.std.proofs.lemmas.List.Elements.{filter_map-append}
-use Rattle.std.proofs.lemmas.List.Sums.{fold-append}
 use Rattle.std.proofs.lemmas.Option.{same_Some}
-use Rattle.cdc_broker.specs.Packets.{current_session, expected_after, expected_tag, items_of, packet_item, session_after}
+use Rattle.cdc_broker.specs.Packets.{items_of}
 use Rattle.cdc_broker.specs.Queues.{QueueState, queued, with_item, item_for}
 use Rattle.cdc_broker.proofs.Accepted.{filter_push}
+use Rattle.cdc_laws.proofs.Taking.{items_of-push}
 use Rattle.cdc_match.specs.Queue.{takes_item}
 use Rattle.cdc_message.specs.declared.items.Item.{Item}
 use Rattle.cdc_message.specs.declared.packets.Packet.{Packet}
@@ -109,20 +109,10 @@ handed_here (suc k) (q ∷ queues) (t ∷ subscriptions) items none s same found
 -- the items after one more
 pub items_of-published : (accepted : List Packet) (session tag : ℕ) (item : Item)
     → items_of (accepted ++ Publish session tag item ∷ []) ≡ items_of accepted ++ item ∷ []
-items_of-published accepted session tag item = filter_map-append packet_item accepted (Publish session tag item ∷ [])
+items_of-published accepted session tag item = items_of-push accepted (Publish session tag item)
 
 -- a connect has no item, so nothing joins the queues
 pub items_of-connected : (accepted : List Packet) (session : ℕ)
     → items_of (accepted ++ Connect session ∷ []) ≡ items_of accepted
 items_of-connected accepted session =
-    filter_map-append packet_item accepted (Connect session ∷ []) ∙ append-nil (items_of accepted)
-
--- the session and the tag after one more packet
-pub current_session-push : (accepted : List Packet) (packet : Packet)
-    → current_session (accepted ++ packet ∷ []) ≡ session_after (current_session accepted) packet
-current_session-push accepted packet = fold-append session_after 0 accepted (packet ∷ [])
-
--- the same of the tag that is taken next
-pub expected_tag-push : (accepted : List Packet) (packet : Packet)
-    → expected_tag (accepted ++ packet ∷ []) ≡ expected_after (expected_tag accepted) packet
-expected_tag-push accepted packet = fold-append expected_after None accepted (packet ∷ [])
+    items_of-push accepted (Connect session) ∙ append-nil (items_of accepted)

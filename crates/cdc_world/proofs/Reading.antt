@@ -1,5 +1,5 @@
 -- The events of a log that are read after a moment.
-use Rattle.std.proofs.Common.{◌≡◌, ℕ, ◌-◌, ◌<◌, ◌≤◌, ◌^◌, Bool, true, false, List, [], ◌∷◌, Option, Some, None, Result, Ok, Err, zero, suc, refl, sym, ap, ap₂, ◌∙◌, map, length, take, get_or, arith, length-take, subst}
+use Rattle.std.proofs.Common.{◌≡◌, ℕ, ◌-◌, ◌<◌, ◌≤◌, Bool, true, false, List, [], ◌∷◌, Option, Some, None, Result, Ok, Err, zero, suc, refl, sym, ap, ap₂, ◌∙◌, map, length, take, get_or, arith, length-take, subst}
 use Rattle.std.specs.Prelude.{IfOk, nat_le, nat_lt, max, ◌&&◌}
 use Rattle.std.specs.List.{AllByRecursion, slice_get}
 use Rattle.cdc_ledger.specs.Events.{events}

@@ -1,5 +1,5 @@
 -- What is kept of the actors after a step that leaves the store alone, and the state that it stands for.
-use Rattle.std.proofs.Common.{◌≡◌, ℕ, true, IsTrue, List, [], ◌∷◌, Option, Some, None, Result, Ok, Err, refl, sym, ap, ap₂, ◌∙◌, subst, map, length, replicate, arith}
+use Rattle.std.proofs.Common.{◌≡◌, ℕ, true, IsTrue, List, [], ◌∷◌, Option, Result, Ok, Err, refl, sym, ap, ◌∙◌, subst, map, length, replicate, arith}
 use Rattle.std.specs.Result.{IsErrAnd}
 use Rattle.std.proofs.lemmas.List.{length-map, length-replicate}
 use Rattle.cdc_broker.specs.Broker.{BrokerState, empty_broker}
@@ -23,7 +23,7 @@ use Rattle.cdc_world.specs.declared.subscriptions.Subscription.{Subscription as 
 use Rattle.cdc_world.specs.Parts.{ActorParts, Parts, subscription_parts}
 use Rattle.cdc_world.specs.Stands.{ActorsStand, HaveHandedOut, Stands, parts_of, queue_for, view_of}
 use Rattle.cdc_world.specs.Turns.{ActorsMove, IsNotOfStore, IsOfActors, empty_actors, empty_subscription}
-use Rattle.cdc_world.specs.Worlds.{Subscription, WorldState, new_subscription, new_world}
+use Rattle.cdc_world.specs.Worlds.{WorldState, new_subscription, new_world}
 
 -- ---- of every step
 

@@ -10,7 +10,7 @@ use Rattle.cdc_match.specs.Arguments.{Arguments}
 use Rattle.cdc_message.specs.declared.items.Delivery.{Delivery}
 use Rattle.cdc_message.specs.declared.items.Item.{Item}
 use Rattle.cdc_message.specs.Replays.{IsReplay}
-use Rattle.cdc_message.proofs.ReplayLaws.{IsReplay-Contains, IsReplay-earlier, IsReplay-longer, IsReplay-nil, IsReplay-take}
+use Rattle.cdc_message.proofs.ReplayLaws.{IsReplay-Contains, IsReplay-earlier, IsReplay-in_turn, IsReplay-longer, IsReplay-nil, IsReplay-take}
 use Rattle.cdc_subscriber.specs.Heard.{Heard, has_ended, next}
 use Rattle.cdc_laws.specs.Deliveries.{deliveries, deliveries_from, items_in, positions_in}
 use Rattle.cdc_world.specs.Next.{first_flight, with_ack, with_break, with_close, with_delivery, with_rewind, with_taking}
@@ -18,8 +18,7 @@ use Rattle.cdc_world.specs.Queued.{IsServed, sent_to}
 use Rattle.cdc_world.specs.Worlds.{Subscription, new_subscription}
 use Rattle.cdc_laws.proofs.Deliveries.{HasNoneTwice-deliveries, deliveries-append, delivery_at, length-deliveries, position-deliveries, slice_get-deliveries}
 use Rattle.cdc_laws.proofs.Faithful.{IsReplay-heard}
-use Rattle.cdc_laws.proofs.Places.{none_there}
-use Rattle.cdc_laws.proofs.Replays.{Contains-unmap, IsReplay-found}
+use Rattle.cdc_laws.proofs.Replays.{Contains-unmap}
 
 -- ---- at the start
 
@@ -45,12 +44,14 @@ IsServed-longer items more s served =
     let longer = deliveries-append items more in
     let rest : List Delivery = deliveries_from (1 + length items) more in
     let front : take (s.cursor.next - 1) (deliveries items ++ rest) ≡ take (s.cursor.next - 1) (deliveries items) =
-    take-append-le (s.cursor.next - 1) (deliveries items) rest (omega (arith, length-deliveries items, served.within)) in
+    take-append-le (s.cursor.next - 1) (deliveries items) rest
+    (omega (arith, length-deliveries items, served.within)) in
     record {
       replay = rw longer (IsReplay-longer (sent_to s) (deliveries items) rest served.replay);
       from_one = served.from_one;
       within = omega (arith, length-append items more, served.within);
-      behind = λ d there. served.behind d (subst (λ ds. Contains ds d) (ap (take (s.cursor.next - 1)) longer ∙ front) there);
+      behind = λ d there. served.behind d
+          (subst (λ ds. Contains ds d) (ap (take (s.cursor.next - 1)) longer ∙ front) there);
       acks = served.acks;
       acked = served.acked;
       past = served.past;
@@ -62,7 +63,8 @@ IsServed-longer items more s served =
 
 -- the entry at the cursor goes on its way, so the cursor is still past nothing that wasn't handed out
 pub IsServed-sending : (items : List Item) (s : Subscription) (item : Item) → IsServed items s
-    → slice_get items (s.cursor.next - 1) ≡ Some item → IsServed items (with_delivery (delivery_at s.cursor.next item) s)
+    → slice_get items (s.cursor.next - 1) ≡ Some item
+    → IsServed items (with_delivery (delivery_at s.cursor.next item) s)
 IsServed-sending items s item served found =
     let d : Delivery = delivery_at s.cursor.next item in
     let place : ℕ = s.cursor.next - 1 in
@@ -78,7 +80,7 @@ IsServed-sending items s item served found =
     ∙ ap (λ x. take place (deliveries items) ++ x ∷ []) (get_or_from_slice_get (deliveries items) place d d here) in
     record {
       replay = subst (λ w. IsReplay w (deliveries items)) all
-          (IsReplay-found (sent_to s) (deliveries items) d place served.replay here served.behind);
+          (IsReplay-in_turn (sent_to s) (deliveries items) d place served.replay here served.behind);
       from_one = omega arith;
       within = omega (arith, within, served.from_one);
       behind = λ y there.

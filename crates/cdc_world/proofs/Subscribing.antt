@@ -1,5 +1,5 @@
 -- What is kept of the actors after a step of a subscriber and its queue.
-use Rattle.std.proofs.Common.{◌≡◌, ℕ, zero, suc, ◌+◌, ◌-◌, ◌<◌, ◌≤◌, ◌==◌, max, Bool, true, false, List, [], ◌∷◌, ◌++◌, Option, Some, None, Result, Ok, Err, refl, sym, ap, ap₂, ◌∙◌, subst, map, length, drop, get_or, inl, inr, arith}
+use Rattle.std.proofs.Common.{◌≡◌, ℕ, zero, suc, ◌+◌, ◌-◌, ◌<◌, ◌==◌, max, Bool, true, false, List, [], ◌∷◌, ◌++◌, Option, Some, None, Result, Ok, Err, refl, sym, ap, ap₂, ◌∙◌, subst, map, length, drop, get_or, inl, inr, arith}
 use Rattle.std.specs.Prelude.{Contains, MatchResult, is_ok, nat_lt, ◌||◌, not, ok_or, option_map, slice_set, unwrap_or, if◌then◌else◌}
 use Rattle.std.specs.List.{slice_get}
 use Rattle.std.proofs.lemmas.List.{length-map, map-set}
@@ -28,7 +28,7 @@ use Rattle.cdc_world.specs.Parts.{ActorParts, SubscriptionParts, subscription_pa
 use Rattle.cdc_world.specs.Stands.{ActorsStand, HasHandedOut, IsHandedOut, QueueView, parts_of, queue_for, view_of}
 use Rattle.cdc_world.specs.Turns.{ActorsMove, HandsAt, HasClosed, HasTaken, TakesAt, place_in}
 use Rattle.cdc_world.specs.Worlds.{Subscription, WorldState, numbered, taken_items}
-use Rattle.cdc_world.proofs.Places.{Contains_numbered, IsPlace, numbered_none, numbered_place, place_is, slice_get_made, subscription_here}
+use Rattle.cdc_world.proofs.Places.{Contains_numbered, IsPlace, numbered_place, place_is, slice_get_made, subscription_here}
 use Rattle.cdc_world.proofs.Queueing.{handed_here, handed_set, set_found, set_same}
 use Rattle.cdc_world.proofs.Stepping.{lacking, tried, unable}
 
@@ -195,14 +195,16 @@ send_done a i s s' b' above here hands =
           let position : delivery.position ≡ q.cursor.next =
           position_from q.cursor (slice_get q.items (q.cursor.next - 1)) delivery found.1.0 in
           let same : s' ≡ parts_of (with_delivery delivery sub) =
-          found.1.1.1 ∙ ap (λ (t : SubscriptionParts). record t { flight = t.flight ++ delivery ∷ [] }) (sym of.parts) in (
+          found.1.1.1 ∙ ap (λ (t : SubscriptionParts). record t { flight = t.flight ++ delivery ∷ [] })
+          (sym of.parts) in (
             with_subscription i (with_delivery delivery sub) w,
             (
               subst (λ (b : BrokerState). ActorsStand (record a {
                 broker = b;
                 subscriptions = slice_set a.subscriptions (i - 1) s';
               }) (with_subscription i (with_delivery delivery sub) w)) (sym found.1.1.0)
-                  (one_changes a w i sub (with_delivery delivery sub) (with_delivery_of (Some delivery) q) s' st of.there
+                  (one_changes a w i sub (with_delivery delivery sub)
+                  (with_delivery_of (Some delivery) q) s' st of.there
                   (ap (λ (v : QueueView). record v { cursor = after_delivery v.cursor }) seen) same
                   (handed_more q.handed q.cursor sub delivery cursor position)),
               (sends_next w i sub (Some delivery) of.numbered_so next_is, refl),
@@ -452,7 +454,8 @@ untaken a i s s' [] why above here is takes = (
 )
 untaken a i s s' (delivery ∷ rest) why above here is takes = (
   takes.1,
-  subst (λ (e : StepError). ActorsMove a (Take i) (Err e) a) (sym takes.0) (untaken_some a i s delivery rest above here is),
+  subst (λ (e : StepError). ActorsMove a (Take i) (Err e) a) (sym takes.0)
+      (untaken_some a i s delivery rest above here is),
 )
 
 -- a subscriber doesn't take anything
@@ -506,10 +509,12 @@ ack_done a i k s position b' counted above here there answer state = (
       state ∙ ap (λ (b : Bool). if b then with_queue i (acknowledged position q) a.broker else a.broker) is in (
         with_subscription i (with_ack position sub) w,
         (
-          subst (λ (b : BrokerState). ActorsStand (record a { broker = b }) (with_subscription i (with_ack position sub) w))
+          subst (λ (b : BrokerState). ActorsStand (record a { broker = b })
+              (with_subscription i (with_ack position sub) w))
               (sym broker)
               (queue_changes a w i s sub (with_ack position sub) (acknowledged position q) st here of.there
-              (ap (λ (v : QueueView). record v { cursor = after_ack position v.cursor }) (queue_is a w i sub st of.there))
+              (ap (λ (v : QueueView). record v { cursor = after_ack position v.cursor })
+              (queue_is a w i sub st of.there))
               (sym of.parts) (handed_acked q.handed sub position)),
           (
             acks_next w i k sub (Some position) of.numbered_so given
@@ -562,7 +567,8 @@ close_done a i s s' above here has = (
 -- ---- by the place that the code finds
 
 -- where no place is found, the step isn't enabled
-refused_none : (place : Option ℕ) (why : StepError) → ok_or place NotEnabled ≡ Err why → (place ≡ None) × (why ≡ NotEnabled)
+refused_none : (place : Option ℕ) (why : StepError) → ok_or place NotEnabled ≡ Err why
+    → (place ≡ None) × (why ≡ NotEnabled)
 refused_none None why is = (refl, cc)
 refused_none (Some place) why is = cc
 
@@ -683,7 +689,8 @@ module _ (a : ActorParts) (i count place : ℕ) (items : List Kept_subscription)
       (take_refused a i (subscription_parts s) (subscription_parts s') why is_at.above kept_at takes)
 
   -- an acknowledgement that it gave comes to its queue
-  pub ack_at : (k position : ℕ) (b' : BrokerState) (counts : Bool) → numbered (subscription_parts s).acks k ≡ Some position
+  pub ack_at : (k position : ℕ) (b' : BrokerState) (counts : Bool)
+      → numbered (subscription_parts s).acks k ≡ Some position
       → counts ≡ not (is_unknown (queue_of a.broker (place + 1)) position)
       → b' ≡ (if counts then with_queue (place + 1) (acknowledged position (queue_of a.broker (place + 1))) a.broker
       else a.broker)

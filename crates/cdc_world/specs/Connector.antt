@@ -1,7 +1,8 @@
 -- What the connector and the broker keep to, whatever comes: what the broker took is a replay of the ledger's line.
 -- Cited by proofs alone.
-use Rattle.std.specs.Prelude.{◌≡◌, ℕ, ◌<◌, ◌≤◌, true, Option, Some, None, List, [], ◌∷◌, ◌++◌, map, Contains, if◌then◌else◌}
+use Rattle.std.specs.Prelude.{◌≡◌, ℕ, ◌<◌, ◌≤◌, true, Some, List, Contains}
 use Rattle.cdc_broker.specs.Packets.{current_session, expected_tag}
+use Rattle.cdc_laws.specs.Connectors.{held_number, held_timestamp}
 use Rattle.cdc_laws.specs.Line.{line, line_after}
 use Rattle.cdc_world.specs.Worlds.{WorldState, numbered, taken_items}
 use Rattle.cdc_ledger.specs.Events.{events}
@@ -16,19 +17,8 @@ use Rattle.cdc_message.specs.declared.packets.Confirm.{Confirm}
 use Rattle.cdc_message.specs.declared.packets.Packet.{Packet}
 use Rattle.cdc_message.specs.declared.packets.Packet.TheVariants.{Connect, Publish}
 use Rattle.cdc_message.specs.Replays.{IsPrefix, IsReplay}
-use Rattle.cdc_progress.specs.Records.{Saved}
 use Rattle.cdc_publisher.specs.Courses.{Course, is_confirmed}
 use Rattle.cdc_types.specs.declared.events.Event.{Event}
-
--- the number of the last session that was saved, or 0
-abbrev pub held_number : Option Saved → ℕ
-held_number None = 0
-held_number (Some saved) = saved.session
-
--- the timestamp up to which everything is known to be confirmed, or 0
-abbrev pub held_timestamp : Option Saved → ℕ
-held_timestamp None = 0
-held_timestamp (Some saved) = saved.timestamp
 
 -- the session of a packet
 abbrev pub session_of : Packet → ℕ

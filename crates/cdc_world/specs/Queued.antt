@@ -1,5 +1,5 @@
 -- What holds of a subscriber and its queue after whatever steps. Cited by proofs alone.
-use Rattle.std.specs.Prelude.{◌≡◌, ◌⊎◌, ℕ, ◌+◌, ◌-◌, ◌<◌, ◌≤◌, false, Some, List, [], ◌∷◌, ◌++◌, Contains, length, map, take}
+use Rattle.std.specs.Prelude.{◌≡◌, ◌⊎◌, ℕ, ◌+◌, ◌-◌, ◌<◌, ◌≤◌, false, Some, List, ◌++◌, Contains, length, take}
 use Rattle.cdc_message.specs.declared.items.Delivery.{Delivery}
 use Rattle.cdc_laws.specs.Deliveries.{deliveries, items_in, positions_in}
 use Rattle.cdc_message.specs.declared.items.Item.{Item}

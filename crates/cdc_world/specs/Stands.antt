@@ -1,6 +1,5 @@
 -- The states of the actors that what a world keeps stands for.
 use Rattle.std.specs.Prelude.{◌≡◌, ◌<◌, ◌≤◌, ℕ, Option, Some, None, List, [], ◌∷◌, Contains, map}
-use Rattle.cdc_broker.specs.Broker.{BrokerState}
 use Rattle.cdc_broker.specs.Cursors.{Cursor}
 use Rattle.cdc_broker.specs.Packets.{current_session, expected_tag, items_of}
 use Rattle.cdc_broker.specs.Queues.{QueueState}
@@ -88,8 +87,8 @@ parts_of s = record { kept = kept_of s.heard; flight = s.flight; acks = s.acks }
 abbrev pub IsHandedOut : ℕ → ℕ → Type 0
 IsHandedOut handed position = (0 < position) × (position ≤ handed)
 
--- a queue's cursor stands at a position, and what is on its way to the subscriber, or was acknowledged by it, was handed
--- out, up to this position
+-- a queue's cursor stands at a position, and what is on its way to the subscriber, or was acknowledged by it, was
+-- handed out, up to this position
 pub record HasHandedOut (handed : ℕ) (s : Subscription) : Type 0 where
   pub first : 0 < s.cursor.next
   pub flight : (d : Delivery) → Contains s.flight d → IsHandedOut handed d.position

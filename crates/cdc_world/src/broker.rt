@@ -20,7 +20,8 @@ pub(crate) fn take_in(
     confirms: &mut Vec<Confirm>,
     packet: &Packet,
 ) -> Result<bool, AllocError>
-    ensures { ComesTo broker.old confirms.old.items packet.now result broker.new confirms.new.items }
+    ensures { ComesTo broker.old confirms.old.items packet.now result
+        broker.new confirms.new.items }
 {
     match packet {
         Packet::Connect { session } => Ok(broker.connect(*session)),
@@ -66,7 +67,8 @@ pub(crate) fn hand_out(
     requires first { 0 < i }
     requires last { i ≤ length broker.old.queues }
     ensures { HandsAt i broker.old (subscription_parts subscription.old)
-        (next_delivery (queue_of broker.old i)) result broker.new (subscription_parts subscription.new) }
+        (next_delivery (queue_of broker.old i)) result
+        broker.new (subscription_parts subscription.new) }
 {
     if !broker.has_next(i) {
         return Err(StepError::NotEnabled);

@@ -50,7 +50,8 @@ impl Subscription {
 
     /// What is on its way to the subscriber is lost.
     pub(crate) fn lose_flight(&mut self)
-        ensures { subscription_parts self.new ≡ record (subscription_parts self.old) { flight = [] } }
+        ensures { subscription_parts self.new
+            ≡ record (subscription_parts self.old) { flight = [] } }
     {
         self.flight.clear();
     }
@@ -68,7 +69,8 @@ pub(crate) fn empty_subscriptions(
     alloc: Global,
     count: usize,
 ) -> Result<Vec<Subscription>, AllocError>
-    ensures { IfOk result (λ subscriptions. map subscription_parts subscriptions.items ≡ replicate count empty_subscription) }
+    ensures { IfOk result (λ subscriptions. map subscription_parts subscriptions.items
+        ≡ replicate count empty_subscription) }
 {
     let mut subscriptions = Vec::with_capacity(alloc, count)?;
     for _ in 0..count {

@@ -65,7 +65,8 @@ impl<S: ProgressStore + Drop> World<S> {
         store: S,
     ) -> Result<World<S>, AllocError>
         requires { window ≡ Limits.WINDOW_TODAY }
-        ensures stands { IfOk result (λ world. Stands world (new_world bindings.items window (S.held store))) }
+        ensures stands { IfOk result
+            (λ world. Stands world (new_world bindings.items window (S.held store))) }
         ensures honest { IfOk result (λ world. world.honest ≡ S.is_honest store) }
     {
         Ok(World {
@@ -139,7 +140,8 @@ impl<S: ProgressStore> World<S> {
     /// How many subscribers there are.
     pub fn subscriber_count(&self) -> usize
         ensures count { result ≡ length self.now.actors.subscriptions }
-        ensures subscriptions { (w : WorldState) → Stands self.now w → result ≡ length w.subscriptions }
+        ensures subscriptions { (w : WorldState) → Stands self.now w
+            → result ≡ length w.subscriptions }
     {
         self.actors.subscription_count()
     }
@@ -148,7 +150,8 @@ impl<S: ProgressStore> World<S> {
     pub fn progress(&mut self) -> Result<Option<Progress>, StoreError>
         ensures held { IsTrue self.old.honest → (w : WorldState) → Stands self.old w
             → IfOk result (λ held. held ≡ w.held) }
-        ensures kept { IsTrue self.old.honest → self.new ≡ record self.old { failed = self.new.failed } }
+        ensures kept { IsTrue self.old.honest
+            → self.new ≡ record self.old { failed = self.new.failed } }
         ensures counted { IfErr result (MayRefuseLoad self.old.failed self.new.failed) }
         ensures uncounted { OnOk result (self.new.failed ≡ self.old.failed) }
         ensures record { IsTrue self.old.honest → ¬ (result ≡ Err StoreError.BadRecord) }

@@ -10,8 +10,10 @@ pub loop-end-preserved : goal.loop-end-preserved
 loop-end-preserved g c =
     let kept = c.loop-end.invariant in
     let joined =
-    joined_more (known c.args.pass.now) (known c.loop-end.pass) (known c.join.new.pass) c.loop-end.yielded c.in-Some.end kept.3
+    joined_more (known c.args.pass.now) (known c.loop-end.pass)
+    (known c.join.new.pass) c.loop-end.yielded c.in-Some.end kept.3
     c.join.ensures.joined in
     let lawful =
-    All-push (λ end. CanSend g.M.Message.may_follow end.number end.sent) c.loop-end.yielded c.in-Some.end kept.6 c.join.ensures.lawful in
+    All-push (λ end. CanSend g.M.Message.may_follow end.number end.sent) c.loop-end.yielded c.in-Some.end kept.6
+    c.join.ensures.lawful in
     (search rules, search rules, search rules, joined, grind (arith, common_steps), search rules, lawful)

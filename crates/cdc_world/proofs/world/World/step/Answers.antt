@@ -1,4 +1,4 @@
-use Rattle.std.proofs.Common.{Result, sym, ap, subst}
+use Rattle.std.proofs.Common.{sym, ap, subst}
 use Rattle.cdc_types.specs.declared.steps.Step.{Step}
 use Rattle.cdc_types.specs.declared.steps.Step.TheVariants.{Save}
 use Rattle.cdc_world.specs.Moves.{StepFixesClosed}
