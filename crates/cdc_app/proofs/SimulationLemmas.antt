@@ -59,8 +59,8 @@ printed_whole place subscriptions text whole none before =
 
 -- acts up to this place were done: the simulation is at a stage with so many, and what the acts that are left lead to
 -- from there is what all lead to from the beginning
-pub record HasCome (batches : List ClientBatch) (acts : List Act) (before : Stage) (place : ℕ) (simulation : SimulationParts)
-    : Type 0 where
+pub record HasCome (batches : List ClientBatch) (acts : List Act) (before : Stage) (place : ℕ)
+    (simulation : SimulationParts) : Type 0 where
   pub here : Stage
   pub at : IsAt simulation here
   pub done : here.done ≡ place
@@ -74,8 +74,9 @@ acts_count before None after answers = absurd answers
 acts_count before (Some want) after answers = ap (λ (x : Stage). x.done) answers.2.1
 
 -- an act is done
-pub HasCome-more : (batches : List ClientBatch) (acts : List Act) (before : Stage) (place : ℕ) (old new : SimulationParts)
-    (a : Act) (after : Stage) → slice_get acts place ≡ Some a → (come : HasCome batches acts before place old)
+pub HasCome-more : (batches : List ClientBatch) (acts : List Act) (before : Stage) (place : ℕ)
+    (old new : SimulationParts) (a : Act) (after : Stage)
+    → slice_get acts place ≡ Some a → (come : HasCome batches acts before place old)
     → IsAt new after → ActsTo batches come.here a None after → HasCome batches acts before (place + 1) new
 HasCome-more batches acts before place old new a after found come at acted = record {
   here = after;
@@ -136,8 +137,8 @@ went_on batches acts before place old new a None found none come acted =
 went_on batches acts before place old new a (Some why) found none come acted = cc
 
 -- what a step that was taken says of an act that asks for it
-pub act_answered : (batches : List ClientBatch) (stage : Stage) (a : Act) (want : Option (Step × ℕ)) (new : SimulationParts)
-    (result : Result (Option StepError) AllocError) → want ≡ step_for batches stage.batches a
+pub act_answered : (batches : List ClientBatch) (stage : Stage) (a : Act) (want : Option (Step × ℕ))
+    (new : SimulationParts) (result : Result (Option StepError) AllocError) → want ≡ step_for batches stage.batches a
     → IfOk result (λ refusal. (after : Stage) × (IsAt new after × AnswersTo stage want refusal after))
     → IfOk result (λ refusal. (after : Stage) × (IsAt new after × ActsTo batches stage a refusal after))
 act_answered batches stage a want new result is answered =
