@@ -148,7 +148,8 @@ IsTaking-none i old subscriber untaken new = record {
 }
 
 -- what is handed out next at a place that is there
-next_at : (q : QueueState) (counter : ℕ) (item : Item) → q.cursor.next ≡ counter + 1 → slice_get q.items counter ≡ Some item
+next_at : (q : QueueState) (counter : ℕ) (item : Item) → q.cursor.next ≡ counter + 1
+    → slice_get q.items counter ≡ Some item
     → next_delivery q ≡ Some (record { position = q.cursor.next; item = item })
 next_at q counter item at found =
     let place : q.cursor.next - 1 ≡ counter = omega (arith, at) in
@@ -174,7 +175,8 @@ IsTaking-more i counter old now new before after item inside taking found takes 
       queue = with_delivery (Some (record { position = q.cursor.next; item = item })) q;
       now_is = takes.0
           ∙ ap₂ (λ (d : Option Delivery) (x : QueueState). with_queue i (with_delivery d x) now) given this
-          ∙ ap (λ (s : BrokerState). with_queue i (with_delivery (Some (record { position = q.cursor.next; item = item })) q) s)
+          ∙ ap (λ (s : BrokerState).
+          with_queue i (with_delivery (Some (record { position = q.cursor.next; item = item })) q) s)
           taking.now_is
           ∙ with_queue_twice old i q _;
       items = taking.items;

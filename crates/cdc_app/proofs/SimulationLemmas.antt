@@ -1,6 +1,6 @@
 -- Simulations, act by act, and the subscribers of a world, one after another.
 use Rattle.std.proofs.Common.{◌≡◌, ◌∙◌, ℕ, ◌+◌, ◌-◌, List, [], ◌∷◌, ◌++◌, Some, None, true, false, drop, append_assoc, append-nil, refl, sym, ap, ap₂, subst, inl, inr, arith, rules}
-use Rattle.std.specs.Prelude.{IfOk, Option, Ok, Err, Result, ◌==◌, is_some, option_map, string_bytes}
+use Rattle.std.specs.Prelude.{IfOk, Option, Ok, Err, Result, ◌==◌, is_some, option_map}
 use Rattle.std.specs.declared.alloc.AllocError.{AllocError}
 use Rattle.std.specs.List.{slice_get}
 use Rattle.std.proofs.lemmas.List.{drop_more}
@@ -18,10 +18,9 @@ use Rattle.cdc_world.specs.Parts.{Parts}
 use Rattle.cdc_world.specs.Stands.{Stands}
 use Rattle.cdc_world.specs.Worlds.{Subscription, WorldState, numbered}
 use Rattle.cdc_script.specs.declared.scripts.ClientBatch.{ClientBatch}
-use Rattle.cdc_app.specs.declared.simulations.Simulation.{Simulation}
 use Rattle.cdc_script.specs.declared.step_files.Act.{Act}
 use Rattle.cdc_script.specs.declared.step_files.Act.TheVariants as act
-use Rattle.cdc_app.specs.Private.Stages.{IsAt}
+use Rattle.cdc_app.specs.Private.Stages.{IsAt, SimulationParts}
 use Rattle.cdc_app.specs.Simulations.{ActsTo, AnswersTo, PlaysActs, Stage, after_act, did_text, step_for, progress_line, refusal_line, simulation_text, steps_line, subscriptions_text}
 use Rattle.cdc_app.proofs.TextLemmas.{pieces}
 
@@ -60,8 +59,8 @@ printed_whole place subscriptions text whole none before =
 
 -- acts up to this place were done: the simulation is at a stage with so many, and what the acts that are left lead to
 -- from there is what all lead to from the beginning
-pub record HasCome (batches : List ClientBatch) (acts : List Act) (before : Stage) (place : ℕ) (simulation : Simulation)
-    : Type 0 where
+pub record HasCome (batches : List ClientBatch) (acts : List Act) (before : Stage) (place : ℕ)
+    (simulation : SimulationParts) : Type 0 where
   pub here : Stage
   pub at : IsAt simulation here
   pub done : here.done ≡ place
@@ -75,8 +74,9 @@ acts_count before None after answers = absurd answers
 acts_count before (Some want) after answers = ap (λ (x : Stage). x.done) answers.2.1
 
 -- an act is done
-pub HasCome-more : (batches : List ClientBatch) (acts : List Act) (before : Stage) (place : ℕ) (old new : Simulation)
-    (a : Act) (after : Stage) → slice_get acts place ≡ Some a → (come : HasCome batches acts before place old)
+pub HasCome-more : (batches : List ClientBatch) (acts : List Act) (before : Stage) (place : ℕ)
+    (old new : SimulationParts) (a : Act) (after : Stage)
+    → slice_get acts place ≡ Some a → (come : HasCome batches acts before place old)
     → IsAt new after → ActsTo batches come.here a None after → HasCome batches acts before (place + 1) new
 HasCome-more batches acts before place old new a after found come at acted = record {
   here = after;
@@ -87,7 +87,7 @@ HasCome-more batches acts before place old new a after found come at acted = rec
 }
 
 -- an act is refused
-pub played_to : (batches : List ClientBatch) (acts : List Act) (before : Stage) (place : ℕ) (old : Simulation)
+pub played_to : (batches : List ClientBatch) (acts : List Act) (before : Stage) (place : ℕ) (old : SimulationParts)
     (a : Act) (why : StepError) (end : Stage) → slice_get acts place ≡ Some a
     → (come : HasCome batches acts before place old) → ActsTo batches come.here a (Some why) end
     → PlaysActs batches before acts (Some why) end
@@ -102,14 +102,14 @@ refused_count before None why after answers = ap (λ (x : Stage). x.done) answer
 refused_count before (Some want) why after answers = ap (λ (x : Stage). x.done) answers.1.1
 
 -- so where a simulation stops, it has done the acts up to the one that was refused
-pub stopped_count : (batches : List ClientBatch) (acts : List Act) (before : Stage) (place : ℕ) (old : Simulation)
+pub stopped_count : (batches : List ClientBatch) (acts : List Act) (before : Stage) (place : ℕ) (old : SimulationParts)
     (a : Act) (why : StepError) (end : Stage) → (come : HasCome batches acts before place old)
     → ActsTo batches come.here a (Some why) end → end.done ≡ place
 stopped_count batches acts before place old a why end come acted =
     refused_count come.here (step_for batches come.here.batches a) why end acted ∙ come.done
 
 -- the loop ends at a refusal
-pub stopped : (batches : List ClientBatch) (acts : List Act) (before : Stage) (place : ℕ) (old new : Simulation)
+pub stopped : (batches : List ClientBatch) (acts : List Act) (before : Stage) (place : ℕ) (old new : SimulationParts)
     (a : Act) (refusal : Option StepError) → slice_get acts place ≡ Some a → is_some refusal ≡ true
     → (come : HasCome batches acts before place old)
     → ((after : Stage) × (IsAt new after × ActsTo batches come.here a refusal after))
@@ -127,7 +127,7 @@ stopped batches acts before place old new a (Some why) found some come acted = (
 )
 
 -- the loop goes on where nothing is refused
-pub went_on : (batches : List ClientBatch) (acts : List Act) (before : Stage) (place : ℕ) (old new : Simulation)
+pub went_on : (batches : List ClientBatch) (acts : List Act) (before : Stage) (place : ℕ) (old new : SimulationParts)
     (a : Act) (refusal : Option StepError) → slice_get acts place ≡ Some a → is_some refusal ≡ false
     → (come : HasCome batches acts before place old)
     → ((after : Stage) × (IsAt new after × ActsTo batches come.here a refusal after))
@@ -137,8 +137,8 @@ went_on batches acts before place old new a None found none come acted =
 went_on batches acts before place old new a (Some why) found none come acted = cc
 
 -- what a step that was taken says of an act that asks for it
-pub act_answered : (batches : List ClientBatch) (stage : Stage) (a : Act) (want : Option (Step × ℕ)) (new : Simulation)
-    (result : Result (Option StepError) AllocError) → want ≡ step_for batches stage.batches a
+pub act_answered : (batches : List ClientBatch) (stage : Stage) (a : Act) (want : Option (Step × ℕ))
+    (new : SimulationParts) (result : Result (Option StepError) AllocError) → want ≡ step_for batches stage.batches a
     → IfOk result (λ refusal. (after : Stage) × (IsAt new after × AnswersTo stage want refusal after))
     → IfOk result (λ refusal. (after : Stage) × (IsAt new after × ActsTo batches stage a refusal after))
 act_answered batches stage a want new result is answered =
@@ -153,9 +153,9 @@ next_batch batches n m b found same =
     ∙ ap (λ k. step_for batches k act.Batch) same
 
 -- a step that is done
-pub step_done : (old new : Simulation) (stage : Stage) (taken : Step) (n : ℕ) (did : Did) → IsAt old stage
+pub step_done : (old new : SimulationParts) (stage : Stage) (taken : Step) (n : ℕ) (did : Did) → IsAt old stage
     → ((w : WorldState) × (Stands new.world w × Next stage.world taken (Ok did) w)) → new.batches ≡ n
-    → string_bytes new.lines ≡ string_bytes old.lines ++ did_text (old.batches + 1) did
+    → new.lines ≡ old.lines ++ did_text (old.batches + 1) did
     → (after : Stage) × (IsAt new after × AnswersTo stage (Some (taken, n)) None after)
 step_done old new stage taken n did at moved count lines = (
   after_act stage n did moved.0,
@@ -170,9 +170,9 @@ step_done old new stage taken n did at moved count lines = (
 )
 
 -- a step that is refused
-pub step_refused : (old new : Simulation) (stage : Stage) (taken : Step) (n : ℕ) (why : StepError) → IsAt old stage
+pub step_refused : (old new : SimulationParts) (stage : Stage) (taken : Step) (n : ℕ) (why : StepError) → IsAt old stage
     → ((w : WorldState) × (Stands new.world w × Next stage.world taken (Err why) w)) → new.batches ≡ old.batches
-    → string_bytes new.lines ≡ string_bytes old.lines
+    → new.lines ≡ old.lines
     → (after : Stage) × (IsAt new after × AnswersTo stage (Some (taken, n)) (Some why) after)
 step_refused old new stage taken n why at moved count lines = (
   record stage { world = moved.0 },
@@ -183,9 +183,9 @@ step_refused old new stage taken n why at moved count lines = (
 )
 
 -- the text of a world, piece by piece
-pub world_text : (simulation : Simulation) (stage : Stage) (done all : ℕ) (refusal : Option StepError)
+pub world_text : (simulation : SimulationParts) (stage : Stage) (done all : ℕ) (refusal : Option StepError)
     (held : Option Saved) (with_steps with_refusal with_progress bytes text : List ℕ) → IsAt simulation stage
-    → stage.done ≡ done → with_steps ≡ string_bytes simulation.lines ++ steps_line done all
+    → stage.done ≡ done → with_steps ≡ simulation.lines ++ steps_line done all
     → with_refusal ≡ with_steps ++ refusal_line done refusal → held ≡ stage.world.held
     → with_progress ≡ with_refusal ++ progress_line held → bytes ≡ with_progress
     → text ≡ bytes ++ subscriptions_text 1 stage.world.subscriptions → text ≡ simulation_text all refusal stage

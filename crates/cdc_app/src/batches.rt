@@ -23,7 +23,8 @@ pub struct Taken {
 /// Hands the batches of a script to a ledger, in the order of their lines, and closes it.
 pub fn take_batches(alloc: Global, script: &Script) -> Result<Taken, AllocError>
     ensures ledger { IfOk result (λ taken. taken.ledger ≡ history_of script.now) }
-    ensures lines { IfOk result (λ taken. string_bytes taken.lines ≡ batch_lines 1 empty_history script.now.batches) }
+    ensures lines { IfOk result (λ taken. string_bytes taken.lines
+        ≡ batch_lines 1 empty_history script.now.batches) }
 {
     let mut ledger = Ledger::new(alloc);
     let mut lines = String::new(alloc);
@@ -39,7 +40,8 @@ fn push_batches(
     lines: &mut String,
     batches: &[ClientBatch],
 ) -> Result<(), AllocError>
-    ensures lines { OnOk result (string_bytes lines.new ≡ string_bytes lines.old ++ batch_lines 1 ledger.old batches.now) }
+    ensures lines { OnOk result (string_bytes lines.new ≡
+        string_bytes lines.old ++ batch_lines 1 ledger.old batches.now) }
     ensures history { OnOk result (ledger.new ≡ history_after ledger.old batches.now) }
 {
     for (place, item) in batches.iter().enumerate() {
@@ -56,7 +58,8 @@ fn hand_in(
     batch: &Batch,
 ) -> Result<Result<BatchResults, BatchError>, AllocError>
     ensures answer { IfOk result (λ given. given ≡ answer (submit ledger.old batch.now)) }
-    ensures history { OnOk result (ledger.new ≡ history_or ledger.old (submit ledger.old batch.now)) }
+    ensures history { OnOk result (ledger.new
+        ≡ history_or ledger.old (submit ledger.old batch.now)) }
 {
     match ledger.submit(alloc, batch) {
         Ok(results) => Ok(Ok(results)),

@@ -6,7 +6,8 @@ ghost use Rattle.cdc_subscriber.specs.Heard.{kept_of};
 ghost use Rattle.cdc_subscriber.specs.Lines.{subscriber_text};
 ghost use Rattle.cdc_laws.specs.Line.{told};
 ghost use Rattle.cdc_app.specs.Feeds.{hearing};
-ghost use Rattle.cdc_app.specs.Private.Queues.{ChangesQueue, IsUntaken, TakesNext, filled_queues, takers_text};
+ghost use Rattle.cdc_app.specs.Private.Queues.{ChangesQueue, IsUntaken, TakesNext};
+ghost use Rattle.cdc_app.specs.Private.Queues.{filled_queues, takers_text};
 
 use cdc_broker::Broker;
 use cdc_log::EventLog;
@@ -25,7 +26,8 @@ pub fn publish_log(
     log: &EventLog,
 ) -> Result<Broker, AllocError>
     requires { length log.now.events < 2 ^ 63 }
-    ensures { IfOk result (λ broker. broker.queues ≡ filled_queues (told log.now.events true) bindings.items) }
+    ensures { IfOk result (λ broker. broker.queues
+        ≡ filled_queues (told log.now.events true) bindings.items) }
 {
     let mut broker = Broker::new(alloc, bindings)?;
     broker.connect(CONNECTION);
@@ -70,7 +72,8 @@ fn take_queue(alloc: Global, broker: &mut Broker, i: usize) -> Result<Subscriber
     requires first { 0 < i }
     requires last { i ≤ length broker.old.queues }
     requires untaken { IsUntaken (queue_of broker.old i) }
-    ensures subscriber { IfOk result (λ subscriber. subscriber ≡ kept_of (hearing (queue_of broker.old i).items)) }
+    ensures subscriber { IfOk result (λ subscriber. subscriber
+        ≡ kept_of (hearing (queue_of broker.old i).items)) }
     ensures others { OnOk result (ChangesQueue i broker.old broker.new) }
 {
     let mut subscriber = Subscriber::new(alloc);
@@ -108,7 +111,8 @@ pub fn print_subscriber(
     subscriber: &Subscriber,
     number: u64,
 ) -> Result<(), AllocError>
-    ensures { OnOk result (text.new.items ≡ text.old.items ++ subscriber_text number subscriber.now) }
+    ensures { OnOk result (text.new.items ≡
+        text.old.items ++ subscriber_text number subscriber.now) }
 {
     subscriber.print(text, number).map_err(|_| AllocError)
 }

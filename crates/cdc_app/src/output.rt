@@ -23,7 +23,8 @@ pub struct Output {
 
 /// What a command prints that ends with the fault of a file: its line.
 pub fn file_fault(alloc: Global, ending: Ending) -> Result<Output, AllocError>
-    ensures { IfOk result (λ output. outcome_of output ≡ record { text = file_fault_line ending; ending = ending }) }
+    ensures { IfOk result (λ output. outcome_of output
+        ≡ record { text = file_fault_line ending; ending = ending }) }
 {
     let mut text = String::new(alloc);
     push_file_fault(&mut text, ending)?;

@@ -23,7 +23,8 @@ pub fn push_number<I: Integer>(text: &mut String, number: I) -> Result<(), Alloc
 
 /// Writes a space and a number.
 pub fn push_spaced<I: Integer>(text: &mut String, number: I) -> Result<(), AllocError>
-    ensures { OnOk result (string_bytes text.new ≡ string_bytes text.old ++ (codes " " ++ I.text number)) }
+    ensures { OnOk result (string_bytes text.new ≡
+        string_bytes text.old ++ (codes " " ++ I.text number)) }
 {
     text.push_str(" ")?;
     push_number(text, number)
@@ -35,7 +36,8 @@ pub fn push_batch(
     number: u64,
     answer: &Result<BatchResults, BatchError>,
 ) -> Result<(), AllocError>
-    ensures { OnOk result (string_bytes text.new ≡ string_bytes text.old ++ batch_line number answer.now) }
+    ensures { OnOk result (string_bytes text.new ≡
+        string_bytes text.old ++ batch_line number answer.now) }
 {
     text.push_str("batch ")?;
     push_number(text, number)?;
@@ -48,7 +50,8 @@ fn push_answer(
     text: &mut String,
     answer: &Result<BatchResults, BatchError>,
 ) -> Result<(), AllocError>
-    ensures { OnOk result (string_bytes text.new ≡ string_bytes text.old ++ answer_text answer.now) }
+    ensures { OnOk result (string_bytes text.new ≡
+        string_bytes text.old ++ answer_text answer.now) }
 {
     match answer {
         Ok(BatchResults::Accounts(results)) => push_account_results(text, results.as_slice()),
@@ -64,7 +67,8 @@ fn push_answer(
 /// A space and a number for each account that was asked for.
 fn push_account_results(text: &mut String, results: &[AccountResult]) -> Result<(), AllocError>
     ensures { OnOk result (string_bytes text.new ≡
-        string_bytes text.old ++ (codes ":" ++ flat_map (λ r. spaced (account_number r)) results.now)) }
+        string_bytes text.old ++
+        (codes ":" ++ flat_map (λ r. spaced (account_number r)) results.now)) }
 {
     text.push_str(":")?;
     for result in results {
@@ -76,7 +80,8 @@ fn push_account_results(text: &mut String, results: &[AccountResult]) -> Result<
 /// A space and a number for each transfer that was asked for.
 fn push_transfer_results(text: &mut String, results: &[TransferResult]) -> Result<(), AllocError>
     ensures { OnOk result (string_bytes text.new ≡
-        string_bytes text.old ++ (codes ":" ++ flat_map (λ r. spaced (transfer_number r)) results.now)) }
+        string_bytes text.old ++
+        (codes ":" ++ flat_map (λ r. spaced (transfer_number r)) results.now)) }
 {
     text.push_str(":")?;
     for result in results {
@@ -87,7 +92,8 @@ fn push_transfer_results(text: &mut String, results: &[TransferResult]) -> Resul
 
 /// Why a batch was refused as a whole.
 fn push_refusal(text: &mut String, refusal: BatchError) -> Result<(), AllocError>
-    ensures { OnOk result (string_bytes text.new ≡ string_bytes text.old ++ answer_text (Err refusal)) }
+    ensures { OnOk result (string_bytes text.new ≡
+        string_bytes text.old ++ answer_text (Err refusal)) }
 {
     text.push_str(" refused:")?;
     push_spaced(text, refusal.number())?;
@@ -97,7 +103,8 @@ fn push_refusal(text: &mut String, refusal: BatchError) -> Result<(), AllocError
 
 /// The line of the bad file that a command ends with; nothing where it ends otherwise.
 pub fn push_file_fault(text: &mut String, ending: Ending) -> Result<(), AllocError>
-    ensures { OnOk result (string_bytes text.new ≡ string_bytes text.old ++ file_fault_line ending) }
+    ensures { OnOk result (string_bytes text.new ≡
+        string_bytes text.old ++ file_fault_line ending) }
 {
     match ending {
         Ending::BadScript(fault) => push_fault(text, "fault: script line", fault),
@@ -109,7 +116,8 @@ pub fn push_file_fault(text: &mut String, ending: Ending) -> Result<(), AllocErr
 /// The line of a fault of a file, with the words that stand before the number of its line.
 fn push_fault(text: &mut String, words: &str, fault: ScriptFault) -> Result<(), AllocError>
     ensures { OnOk result (string_bytes text.new ≡ string_bytes text.old
-        ++ (words.now ++ (spaced fault.line ++ (codes ": " ++ (kind_name fault.kind ++ codes "\n"))))) }
+        ++ (words.now ++ (spaced fault.line
+        ++ (codes ": " ++ (kind_name fault.kind ++ codes "\n"))))) }
 {
     text.push_str(words)?;
     push_spaced(text, fault.line)?;
@@ -120,7 +128,8 @@ fn push_fault(text: &mut String, words: &str, fault: ScriptFault) -> Result<(), 
 
 /// The last word of a line.
 pub fn push_line_end(text: &mut String, word: &str) -> Result<(), AllocError>
-    ensures { OnOk result (string_bytes text.new ≡ string_bytes text.old ++ (word.now ++ codes "\n")) }
+    ensures { OnOk result (string_bytes text.new ≡
+        string_bytes text.old ++ (word.now ++ codes "\n")) }
 {
     text.push_str(word)?;
     text.push_str("\n")

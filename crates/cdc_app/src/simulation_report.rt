@@ -1,7 +1,8 @@
 //! What `simulate` prints: the lines of batches, of the steps, of the saved progress and of the subscribers.
 
 ghost use Rattle.std.specs.Prelude.{◌≡◌, ◌++◌, ◌^◌, ◌<◌, OnOk, string_bytes};
-ghost use Rattle.cdc_app.specs.Simulations.{did_text, progress_line, refusal_line, steps_line, subscriptions_text};
+ghost use Rattle.cdc_app.specs.Simulations.{did_text, progress_line, refusal_line, steps_line};
+ghost use Rattle.cdc_app.specs.Simulations.{subscriptions_text};
 ghost use Rattle.cdc_world.specs.Stands.{Stands};
 ghost use Rattle.cdc_world.specs.Worlds.{WorldState};
 
@@ -35,7 +36,8 @@ pub fn push_steps(text: &mut String, done: usize, all: usize) -> Result<(), Allo
 /// The line of the step that was refused, if one was.
 pub fn push_refusal(text: &mut String, played: Played) -> Result<(), AllocError>
     requires { played.done < 2 ^ 63 }
-    ensures { OnOk result (string_bytes text.new ≡ string_bytes text.old ++ refusal_line played.done played.refusal) }
+    ensures { OnOk result (string_bytes text.new ≡
+        string_bytes text.old ++ refusal_line played.done played.refusal) }
 {
     let Some(refusal) = played.refusal else {
         return Ok(());

@@ -1,9 +1,10 @@
 //! Simulations: a world over the batches of a script, moved by the acts of a step file.
 
-ghost use Rattle.std.specs.Prelude.{◌≡◌, ◌^◌, ◌<◌, ◌≤◌, ℕ, true, IfErr, IfOk, OnOk, Some, length};
+ghost use Rattle.std.specs.Prelude.{◌≡◌, ◌^◌, ◌<◌, ◌≤◌, ℕ, IfErr, IfOk, OnOk, Some, length};
 ghost use Rattle.cdc_app.specs.Options.{IsWindow};
 ghost use Rattle.cdc_app.specs.Private.Stages.{IsAt, IsSimulationFault};
-ghost use Rattle.cdc_app.specs.Simulations.{ActsTo, AnswersTo, PlaysActs, Simulates, Stage, at_start, simulation_text};
+ghost use Rattle.cdc_app.specs.Simulations.{ActsTo, AnswersTo, PlaysActs, Simulates, Stage};
+ghost use Rattle.cdc_app.specs.Simulations.{at_start, simulation_text};
 
 use crate::faults::ProgramFault;
 use crate::simulation_report::{
@@ -14,6 +15,7 @@ use cdc_progress::MemoryStore;
 use cdc_script::{Act, ClientBatch, Script};
 use cdc_world::{Played, Step, StepError, World};
 use std::alloc::{AllocError, Global};
+use std::marker::Model;
 
 /// What is printed of a simulation, and why a step was refused, if one was.
 #[derive(Drop)]
@@ -24,7 +26,7 @@ pub struct Simulated {
     pub refusal: Option<StepError>,
 }
 
-/// A world on its way.
+/// A world on its way, whose store is honest. A clause sees the world, how many batches are done, and the lines' bytes.
 #[derive(Drop)]
 pub struct Simulation {
     /// The world.
@@ -33,6 +35,21 @@ pub struct Simulation {
     batches: usize,
     /// A line for each of them.
     lines: String,
+}
+
+impl Model for Simulation {
+    ghost use Rattle.std.specs.Prelude.{◌≡◌, true, string_bytes};
+    ghost use Rattle.cdc_app.specs.Private.Stages.{SimulationParts};
+
+    ghost Value = { SimulationParts };
+
+    ghost view = { λ simulation. record {
+      world = simulation.world;
+      batches = simulation.batches;
+      lines = string_bytes simulation.lines;
+    } };
+
+    ghost invariant = { λ simulation. simulation.world.honest ≡ true };
 }
 
 /// What is printed of a script that is taken step by step.
@@ -44,7 +61,8 @@ pub fn play_script(
 ) -> Result<Simulated, ProgramFault>
     requires { IsWindow window }
     ensures prints { IfOk result (λ simulated. Simulates
-        (record { script = script; window = window; acts = acts.now }) simulated.refusal simulated.text.items) }
+        (record { script = script; window = window; acts = acts.now })
+        simulated.refusal simulated.text.items) }
     ensures fault { IfErr result IsSimulationFault }
 {
     let Script { bindings, batches } = script;
@@ -61,8 +79,8 @@ impl Simulation {
     /// A world in which nothing has happened.
     fn new(alloc: Global, bindings: Vec<Binding>, window: usize) -> Result<Simulation, AllocError>
         requires { IsWindow window }
-        ensures stage { IfOk result (λ simulation. IsAt simulation (at_start bindings.items window)) }
-        ensures honest { IfOk result (λ simulation. simulation.world.honest ≡ true) }
+        ensures stage { IfOk result (λ simulation.
+            IsAt simulation (at_start bindings.items window)) }
         ensures none { IfOk result (λ simulation. simulation.batches ≡ 0) }
     {
         Ok(Simulation {
@@ -79,12 +97,10 @@ impl Simulation {
         batches: &[ClientBatch],
         acts: &[Act],
     ) -> Result<Played, AllocError>
-        requires honest { self.old.world.honest ≡ true }
         requires none { self.old.batches ≡ 0 }
-        ensures plays { (stage : Stage) → IsAt self.old stage → stage.done ≡ 0 → IfOk result (λ played.
-            (end : Stage) × (IsAt self.new end × ((end.done ≡ played.done)
+        ensures plays { (stage : Stage) → IsAt self.old stage → stage.done ≡ 0
+            → IfOk result (λ played. (end : Stage) × (IsAt self.new end × ((end.done ≡ played.done)
             × PlaysActs batches.now stage acts.now played.refusal end))) }
-        ensures honest { OnOk result (self.new.world.honest ≡ true) }
         ensures count { IfOk result (λ played. played.done ≤ length acts.now) }
     {
         for (done, act) in acts.iter().enumerate() {
@@ -106,11 +122,10 @@ impl Simulation {
         batches: &[ClientBatch],
         act: &Act,
     ) -> Result<Option<StepError>, AllocError>
-        requires honest { self.old.world.honest ≡ true }
         requires within { self.old.batches ≤ length batches.now }
         ensures acts { (stage : Stage) → IsAt self.old stage → IfOk result (λ refusal.
-            (after : Stage) × (IsAt self.new after × ActsTo batches.now stage act.now refusal after)) }
-        ensures honest { OnOk result (self.new.world.honest ≡ true) }
+            (after : Stage) × (IsAt self.new after
+            × ActsTo batches.now stage act.now refusal after)) }
         ensures within { OnOk result (self.new.batches ≤ length batches.now) }
     {
         match act {
@@ -136,12 +151,10 @@ impl Simulation {
         step: &Step,
         batches_done: usize,
     ) -> Result<Option<StepError>, AllocError>
-        requires honest { self.old.world.honest ≡ true }
         requires few { self.old.batches < 2 ^ 63 }
         ensures answers { (stage : Stage) → IsAt self.old stage → IfOk result (λ refusal.
             (after : Stage) × (IsAt self.new after
             × AnswersTo stage (Some (step.now, batches_done)) refusal after)) }
-        ensures honest { OnOk result (self.new.world.honest ≡ true) }
         ensures within { (most : ℕ) → self.old.batches ≤ most → batches_done ≤ most
             → OnOk result (self.new.batches ≤ most) }
     {
@@ -157,7 +170,6 @@ impl Simulation {
 
     /// What is printed of the world, once so many acts of all are played.
     fn into_text(self, played: Played, all: usize) -> Result<Vec<u8>, ProgramFault>
-        requires honest { self.world.honest ≡ true }
         requires few { played.done < 2 ^ 63 }
         ensures text { (stage : Stage) → IsAt self stage → stage.done ≡ played.done
             → IfOk result (λ text. text.items ≡ simulation_text all played.refusal stage) }

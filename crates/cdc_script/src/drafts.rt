@@ -4,7 +4,8 @@ ghost use Rattle.std.specs.Prelude.{◌≡◌, List, [], ◌∷◌, ◌++◌, If
 ghost use Rattle.cdc_script.specs.declared.statements.Statement.{Statement as Says};
 ghost use Rattle.cdc_script.specs.declared.statements.Statement.TheVariants as says;
 ghost use Rattle.cdc_script.specs.declared.drafts.OpenBatch.TheVariants as joined;
-ghost use Rattle.cdc_script.specs.Private.Drafts.{context_of, open_kind, completed, completed_batch, completed_bindings, Takes};
+ghost use Rattle.cdc_script.specs.Private.Drafts.{context_of, open_kind, Takes};
+ghost use Rattle.cdc_script.specs.Private.Drafts.{completed, completed_batch, completed_bindings};
 ghost use Rattle.cdc_script.specs.Scripts.{at_top, batches_of, bindings_of};
 ghost use Rattle.cdc_script.specs.Private.Suited.{IsSuited, HasBatch};
 
@@ -174,7 +175,8 @@ impl Draft {
 
     /// Ends the open batch, if there is one.
     pub fn close(&mut self) -> Result<(), AllocError>
-        ensures others { IfOk result (λ u. self.new ≡ record self.old { open_batch = joined.Closed; batches = self.new.batches }) }
+        ensures others { IfOk result (λ u. self.new
+            ≡ record self.old { open_batch = joined.Closed; batches = self.new.batches }) }
         ensures batches { IfOk result (λ u. self.new.batches.items ≡
             self.old.batches.items ++ completed_batch self.old.client self.old.open_batch []) }
     {
@@ -193,7 +195,8 @@ impl Draft {
 
     /// Adds a batch that no item can join.
     fn push(&mut self, batch: Batch) -> Result<(), AllocError>
-        ensures others { IfOk result (λ u. self.new ≡ record self.old { batches = self.new.batches }) }
+        ensures others { IfOk result (λ u. self.new
+            ≡ record self.old { batches = self.new.batches }) }
         ensures batches { IfOk result (λ u. self.new.batches.items ≡
             self.old.batches.items ++ record { client = self.old.client; batch = batch } ∷ []) }
     {

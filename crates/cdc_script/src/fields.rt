@@ -4,7 +4,8 @@ ghost use Rattle.std.specs.Prelude.{◌≡◌, ◌≤◌, MatchResult};
 ghost use Rattle.std.specs.Option.{option_map};
 ghost use Rattle.cdc_match.specs.Parts.{parted};
 ghost use Rattle.cdc_script.specs.Fields as spec;
-ghost use Rattle.cdc_script.specs.Fields.{key_name, key_place, keys_of, key_named, greatest_of, field_of, fields_of};
+ghost use Rattle.cdc_script.specs.Fields.{key_name, key_place, keys_of, key_named};
+ghost use Rattle.cdc_script.specs.Fields.{greatest_of, field_of, fields_of};
 ghost use Rattle.cdc_script.specs.Words.{words as words_of};
 
 use crate::faults::FaultKind;

@@ -17,9 +17,12 @@ const PIECE: usize = 8192;
 /// Reads the bytes of a script or a step file, one more than it may have at most. No read follows one that failed.
 /// What such a text says is what all bytes of the reader say.
 pub fn read_text<R: Read>(alloc: Global, reader: &mut R) -> Result<Vec<u8>, ReadError>
-    ensures bounded { ConsumesAtMost (max_bytes + 1) (R.remaining reader.old) (R.remaining reader.new) }
-    ensures text { IfOk result (λ text. Consumes (R.remaining reader.old) (R.remaining reader.new) text.items) }
-    ensures whole { IfOk result (λ text. length text.items ≤ max_bytes → IsAtEnd (R.remaining reader.new)) }
+    ensures bounded { ConsumesAtMost (max_bytes + 1)
+        (R.remaining reader.old) (R.remaining reader.new) }
+    ensures text { IfOk result (λ text. Consumes
+        (R.remaining reader.old) (R.remaining reader.new) text.items) }
+    ensures whole { IfOk result (λ text. length text.items ≤ max_bytes
+        → IsAtEnd (R.remaining reader.new)) }
     ensures script { IfSome (R.remaining reader.old) (λ bytes.
         IfOk result (λ text. script_of text.items ≡ script_of bytes)) }
     ensures steps { IfSome (R.remaining reader.old) (λ bytes.
@@ -30,9 +33,12 @@ pub fn read_text<R: Read>(alloc: Global, reader: &mut R) -> Result<Vec<u8>, Read
 
 /// Reads such bytes piece by piece.
 fn read_pieces<R: Read>(alloc: Global, reader: &mut R) -> Result<Vec<u8>, ReadError>
-    ensures bounded { ConsumesAtMost (max_bytes + 1) (R.remaining reader.old) (R.remaining reader.new) }
-    ensures text { IfOk result (λ text. Consumes (R.remaining reader.old) (R.remaining reader.new) text.items) }
-    ensures whole { IfOk result (λ text. length text.items ≤ max_bytes → IsAtEnd (R.remaining reader.new)) }
+    ensures bounded { ConsumesAtMost (max_bytes + 1)
+        (R.remaining reader.old) (R.remaining reader.new) }
+    ensures text { IfOk result (λ text. Consumes
+        (R.remaining reader.old) (R.remaining reader.new) text.items) }
+    ensures whole { IfOk result (λ text. length text.items ≤ max_bytes
+        → IsAtEnd (R.remaining reader.new)) }
 {
     let mut text = Vec::new(alloc);
     let mut piece = [0u8; PIECE];

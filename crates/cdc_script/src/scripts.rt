@@ -59,7 +59,8 @@ fn read_lines(alloc: Global, text: &[u8]) -> Result<Draft, ScriptError>
 
 /// The script that a text writes, or its first fault.
 pub fn parse_script(alloc: Global, text: &[u8]) -> Result<Script, ScriptError>
-    ensures { MatchResult result (λ script. script_of text.now ≡ Ok script) (λ error. IsFault error (script_of text.now)) }
+    ensures { MatchResult result (λ script. script_of text.now ≡ Ok script)
+        (λ error. IsFault error (script_of text.now)) }
 {
     if text.len() > Limits::SCRIPT_BYTES {
         return Err(fault_at(0, FaultKind::TooLong));
@@ -79,7 +80,8 @@ pub fn read_script<R: Read>(
 ) -> Result<Result<Script, ScriptFault>, ReadError>
     ensures read { IfSome (R.remaining reader.old) (λ bytes. IfOk result (λ said. MatchResult said
         (λ script. script_of bytes ≡ Ok script) (λ fault. script_of bytes ≡ Err fault))) }
-    ensures bounded { ConsumesAtMost (max_bytes + 1) (R.remaining reader.old) (R.remaining reader.new) }
+    ensures bounded { ConsumesAtMost (max_bytes + 1)
+        (R.remaining reader.old) (R.remaining reader.new) }
 {
     let text = read_text(alloc, reader)?;
     match parse_script(alloc, &text) {

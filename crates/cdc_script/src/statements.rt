@@ -1,11 +1,13 @@
 //! What each line of a script says.
 
-ghost use Rattle.std.specs.Prelude.{◌≡◌, false, true, codes, map, Ok, Err, IfOk, IfSome, MatchOption, MatchResult};
+ghost use Rattle.std.specs.Prelude.{◌≡◌, false, true, codes, map, Ok, Err};
+ghost use Rattle.std.specs.Prelude.{IfOk, IfSome, MatchOption, MatchResult};
 ghost use Rattle.std.specs.List.{list_all, take_while};
 ghost use Rattle.std.specs.Str.{bytes_eq};
 ghost use Rattle.cdc_match.specs.Parsing.{arguments_of};
 ghost use Rattle.cdc_script.specs.Private.Lines.{IsLineFault};
-ghost use Rattle.cdc_script.specs.Statements.{binding_line, readable, subscriber_line, client_line, account_line, transfer_line, meaning, line_says};
+ghost use Rattle.cdc_script.specs.Statements.{account_line, binding_line, client_line, line_says};
+ghost use Rattle.cdc_script.specs.Statements.{meaning, readable, subscriber_line, transfer_line};
 ghost use Rattle.cdc_script.specs.Private.Suited.{IsSuited, IsNoItem, HasBatch};
 ghost use Rattle.cdc_script.specs.Words.{words as words_of, is_printable};
 
@@ -68,7 +70,8 @@ fn read_words(
     rest: &[u8],
     context: Context,
 ) -> Result<Statement, LineError>
-    ensures says { MatchResult result (λ said. meaning context first.now (words_of rest.now) ≡ Ok said)
+    ensures says { MatchResult result
+        (λ said. meaning context first.now (words_of rest.now) ≡ Ok said)
         (λ error. IsLineFault error (meaning context first.now (words_of rest.now))) }
     ensures suited { IfOk result (IsSuited context) }
 {
@@ -106,7 +109,8 @@ fn read_other_words(first: &[u8], rest: &[u8], context: Context) -> Result<State
 
 /// A subscriber line. Where a script has as many subscribers as it may have, the binding isn't looked at.
 fn read_subscriber(alloc: Global, words: &[u8], subscribers: usize) -> Result<Statement, LineError>
-    ensures says { MatchResult result (λ said. subscriber_line subscribers (words_of words.now) ≡ Ok said)
+    ensures says { MatchResult result
+        (λ said. subscriber_line subscribers (words_of words.now) ≡ Ok said)
         (λ error. IsLineFault error (subscriber_line subscribers (words_of words.now))) }
     ensures no_item { IfOk result IsNoItem }
 {
@@ -136,7 +140,8 @@ fn read_binding(alloc: Global, words: &[u8]) -> Result<Statement, LineError>
 
 /// The binding that texts say.
 fn parse_binding(alloc: Global, texts: &[&str]) -> Result<Binding, LineError>
-    ensures says { MatchResult result (λ binding. readable (arguments_of (map (λ text. text.now) texts.now)) ≡ Ok binding)
+    ensures says { MatchResult result
+        (λ binding. readable (arguments_of (map (λ text. text.now) texts.now)) ≡ Ok binding)
         (λ error. IsLineFault error (readable (arguments_of (map (λ text. text.now) texts.now)))) }
 {
     Ok(Binding::parse(alloc, texts)?)
@@ -153,8 +158,10 @@ struct LeadingWords<'a> {
 
 /// The words before the first one that isn't printable.
 fn leading_words<'a>(alloc: Global, words: &'a [u8]) -> Result<LeadingWords<'a>, AllocError>
-    ensures texts { IfOk result (λ leading. map (λ text. text.now) leading.texts.items ≡ take_while is_printable (words_of words.now)) }
-    ensures are_all { IfOk result (λ leading. leading.are_all ≡ list_all is_printable (words_of words.now)) }
+    ensures texts { IfOk result (λ leading. map (λ text. text.now) leading.texts.items
+        ≡ take_while is_printable (words_of words.now)) }
+    ensures are_all { IfOk result (λ leading. leading.are_all
+        ≡ list_all is_printable (words_of words.now)) }
 {
     let mut texts = Vec::new(alloc);
     let mut rest = words;

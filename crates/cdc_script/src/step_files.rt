@@ -1,6 +1,7 @@
 //! Step files: what is done of a simulation, one batch or step in a line.
 
-ghost use Rattle.std.specs.Prelude.{◌≡◌, ◌+◌, ◌≤◌, ◌++◌, ◌∷◌, [], length, Ok, Err, IfOk, IfSome, MatchResult, OnOk};
+ghost use Rattle.std.specs.Prelude.{◌≡◌, ◌+◌, ◌≤◌, ◌++◌, ◌∷◌, [], length};
+ghost use Rattle.std.specs.Prelude.{Ok, Err, IfOk, IfSome, MatchResult, OnOk};
 ghost use Rattle.std.specs.Str.Lines.{lines};
 ghost use Rattle.cdc_script.specs.Reading.{ConsumesAtMost, IsFault};
 ghost use Rattle.cdc_script.specs.Scripts.{max_bytes};
@@ -116,7 +117,8 @@ fn add_act(acts: &mut Vec<Act>, act: Act) -> Result<(), AllocError>
 
 /// What a step file of this text says, or its first fault.
 pub fn parse_steps(alloc: Global, text: &[u8]) -> Result<Vec<Act>, ScriptError>
-    ensures { MatchResult result (λ acts. acts_of text.now ≡ Ok acts.items) (λ error. IsFault error (acts_of text.now)) }
+    ensures { MatchResult result (λ acts. acts_of text.now ≡ Ok acts.items)
+        (λ error. IsFault error (acts_of text.now)) }
 {
     if text.len() > Limits::SCRIPT_BYTES {
         return Err(fault_at(0, FaultKind::TooLong));
@@ -132,7 +134,8 @@ pub fn read_steps<R: Read>(
 ) -> Result<Result<Vec<Act>, ScriptFault>, ReadError>
     ensures read { IfSome (R.remaining reader.old) (λ bytes. IfOk result (λ said. MatchResult said
         (λ acts. acts_of bytes ≡ Ok acts.items) (λ fault. acts_of bytes ≡ Err fault))) }
-    ensures bounded { ConsumesAtMost (max_bytes + 1) (R.remaining reader.old) (R.remaining reader.new) }
+    ensures bounded { ConsumesAtMost (max_bytes + 1)
+        (R.remaining reader.old) (R.remaining reader.new) }
 {
     let text = read_text(alloc, reader)?;
     match parse_steps(alloc, &text) {

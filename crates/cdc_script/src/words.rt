@@ -1,6 +1,7 @@
 //! Lines and words.
 
-ghost use Rattle.std.specs.Prelude.{◌≡◌, ◌==◌, ◌∷◌, ◌<◌, [], false, true, length, position, IfSome, MatchOption};
+ghost use Rattle.std.specs.Prelude.{◌≡◌, ◌==◌, ◌∷◌, ◌<◌, [], false, true};
+ghost use Rattle.std.specs.Prelude.{length, position, IfSome, MatchOption};
 ghost use Rattle.std.specs.List.{slice_split};
 ghost use Rattle.std.specs.Str.{bytes_eq};
 ghost use Rattle.std.specs.Str.Lines.{lines, strip_carriage_return};
@@ -17,8 +18,10 @@ fn position_of(bytes: &[u8], wanted: u8) -> Option<usize>
 
 /// What stands before the first such byte, and what stands after it.
 fn split_once(bytes: &[u8], separator: u8) -> Option<(&[u8], &[u8])>
-    ensures splits { MatchOption result (slice_split (λ b. b == separator) bytes.now ≡ bytes.now ∷ [])
-        (λ parts. slice_split (λ b. b == separator) bytes.now ≡ parts.0.now ∷ slice_split (λ b. b == separator) parts.1.now) }
+    ensures splits { MatchOption result
+        (slice_split (λ b. b == separator) bytes.now ≡ bytes.now ∷ [])
+        (λ parts. slice_split (λ b. b == separator) bytes.now
+        ≡ parts.0.now ∷ slice_split (λ b. b == separator) parts.1.now) }
     ensures shorter { IfSome result (λ parts. length parts.1.now < length bytes.now) }
 {
     match position_of(bytes, separator) {
@@ -30,8 +33,10 @@ fn split_once(bytes: &[u8], separator: u8) -> Option<(&[u8], &[u8])>
 /// The first line of a text, without its end, and the text after it. A line's end is its line feed, with a carriage
 /// return right in front of it where there is one. The last line may end with the text.
 pub fn next_line(text: &[u8]) -> Option<(&[u8], &[u8])>
-    ensures line { MatchOption result (lines text.now ≡ []) (λ found. lines text.now ≡ found.0.now ∷ lines found.1.now) }
-    ensures shorter { MatchOption result (text.now ≡ []) (λ found. length found.1.now < length text.now) }
+    ensures line { MatchOption result (lines text.now ≡ [])
+        (λ found. lines text.now ≡ found.0.now ∷ lines found.1.now) }
+    ensures shorter { MatchOption result (text.now ≡ [])
+        (λ found. length found.1.now < length text.now) }
 {
     match split_once(text, b'\n') {
         Some((line, after)) => Some((without_return(line), after)),
@@ -52,8 +57,10 @@ fn without_return(line: &[u8]) -> &[u8]
 
 /// The first word of a line, and the rest of the line.
 pub fn next_word(line: &[u8]) -> Option<(&[u8], &[u8])>
-    ensures word { MatchOption result (words line.now ≡ []) (λ found. words line.now ≡ found.0.now ∷ words found.1.now) }
-    ensures shorter { MatchOption result (words line.now ≡ []) (λ found. length found.1.now < length line.now) }
+    ensures word { MatchOption result (words line.now ≡ [])
+        (λ found. words line.now ≡ found.0.now ∷ words found.1.now) }
+    ensures shorter { MatchOption result (words line.now ≡ [])
+        (λ found. length found.1.now < length line.now) }
 {
     let mut rest = line;
     while let Some((word, after)) = split_once(rest, b' ') {
@@ -71,7 +78,8 @@ pub fn next_word(line: &[u8]) -> Option<(&[u8], &[u8])>
 
 /// The first word of a line that is no comment, and the rest of the line.
 pub fn first_word(line: &[u8]) -> Option<(&[u8], &[u8])>
-    ensures { MatchOption result (spoken line.now ≡ []) (λ found. spoken line.now ≡ found.0.now ∷ words found.1.now) }
+    ensures { MatchOption result (spoken line.now ≡ [])
+        (λ found. spoken line.now ≡ found.0.now ∷ words found.1.now) }
 {
     if let [b'#', ..] = line {
         return None;

@@ -7,7 +7,8 @@ ghost use Rattle.cdc_script.specs.Reading.{ConsumesAtMost};
 ghost use Rattle.cdc_script.specs.Scripts.{max_bytes};
 ghost use Rattle.cdc_script.specs.declared.scripts.Script.{Script as Said};
 ghost use Rattle.cdc_app.specs.Held.{HasWholeFeed, ListsBalances};
-ghost use Rattle.cdc_app.specs.Outcomes.{IsScriptEnding, MayFailScript, PrintsOutcome, Writes, outcome_of};
+ghost use Rattle.cdc_app.specs.Outcomes.{IsScriptEnding, MayFailScript, PrintsOutcome, Writes};
+ghost use Rattle.cdc_app.specs.Outcomes.{outcome_of};
 ghost use Rattle.cdc_app.specs.Printed.{books_outcome, history_of, printed_books};
 
 use crate::batches::{Taken, take_batches};
@@ -41,9 +42,12 @@ pub fn books_of(alloc: Global, bytes: &[u8]) -> Result<Output, AllocError>
 pub fn books<R: Read, W: Write>(alloc: Global, reader: &mut R, writer: &mut W) -> Ending
     ensures writes { Writes (PrintsOutcome books_outcome (R.remaining reader.old))
         (W.contents writer.old) (W.contents writer.new) result }
-    ensures whole { (script : Said) → (binding : Arguments) → HasWholeFeed (history_of script) binding }
-    ensures holds { (script : Said) → (binding : Arguments) → ListsBalances (history_of script) binding }
-    ensures bounded { ConsumesAtMost (max_bytes + 1) (R.remaining reader.old) (R.remaining reader.new) }
+    ensures whole { (script : Said) → (binding : Arguments)
+        → HasWholeFeed (history_of script) binding }
+    ensures holds { (script : Said) → (binding : Arguments)
+        → ListsBalances (history_of script) binding }
+    ensures bounded { ConsumesAtMost (max_bytes + 1)
+        (R.remaining reader.old) (R.remaining reader.new) }
 {
     print_output(writer, read_books(alloc, reader))
 }
@@ -54,7 +58,8 @@ fn read_books<R: Read>(alloc: Global, reader: &mut R) -> Result<Output, ProgramF
         IfOk result (λ output. outcome_of output ≡ books_outcome bytes)) }
     ensures ending { IfOk result (λ output. IsScriptEnding output.ending) }
     ensures fault { IfErr result MayFailScript }
-    ensures bounded { ConsumesAtMost (max_bytes + 1) (R.remaining reader.old) (R.remaining reader.new) }
+    ensures bounded { ConsumesAtMost (max_bytes + 1)
+        (R.remaining reader.old) (R.remaining reader.new) }
 {
     let bytes = read_text(alloc, reader)?;
     Ok(books_of(alloc, &bytes)?)

@@ -5,7 +5,8 @@ ghost use Rattle.std.specs.List.{flat_map};
 ghost use Rattle.cdc_script.specs.Reading.{ConsumesAtMost};
 ghost use Rattle.cdc_script.specs.Scripts.{max_bytes};
 ghost use Rattle.cdc_app.specs.Messages.{kind_header, headers_line, message_lines};
-ghost use Rattle.cdc_app.specs.Outcomes.{IsScriptEnding, MayFailScript, PrintsOutcome, Writes, outcome_of};
+ghost use Rattle.cdc_app.specs.Outcomes.{IsScriptEnding, MayFailScript, PrintsOutcome, Writes};
+ghost use Rattle.cdc_app.specs.Outcomes.{outcome_of};
 ghost use Rattle.cdc_app.specs.Printed.{messages_outcome, printed_messages};
 
 use crate::batches::take_batches;
@@ -43,7 +44,8 @@ pub fn messages_of(alloc: Global, bytes: &[u8]) -> Result<Output, AllocError>
 pub fn messages<R: Read, W: Write>(alloc: Global, reader: &mut R, writer: &mut W) -> Ending
     ensures writes { Writes (PrintsOutcome messages_outcome (R.remaining reader.old))
         (W.contents writer.old) (W.contents writer.new) result }
-    ensures bounded { ConsumesAtMost (max_bytes + 1) (R.remaining reader.old) (R.remaining reader.new) }
+    ensures bounded { ConsumesAtMost (max_bytes + 1)
+        (R.remaining reader.old) (R.remaining reader.new) }
 {
     print_output(writer, read_messages(alloc, reader))
 }
@@ -54,7 +56,8 @@ fn read_messages<R: Read>(alloc: Global, reader: &mut R) -> Result<Output, Progr
         IfOk result (λ output. outcome_of output ≡ messages_outcome bytes)) }
     ensures ending { IfOk result (λ output. IsScriptEnding output.ending) }
     ensures fault { IfErr result MayFailScript }
-    ensures bounded { ConsumesAtMost (max_bytes + 1) (R.remaining reader.old) (R.remaining reader.new) }
+    ensures bounded { ConsumesAtMost (max_bytes + 1)
+        (R.remaining reader.old) (R.remaining reader.new) }
 {
     let bytes = read_text(alloc, reader)?;
     Ok(messages_of(alloc, &bytes)?)
@@ -83,7 +86,8 @@ fn event_lines(alloc: Global, log: &EventLog) -> Result<String, AllocError>
 
 /// The lines of an event.
 fn push_message(alloc: Global, text: &mut String, event: &Event) -> Result<(), AllocError>
-    ensures { OnOk result (string_bytes text.new ≡ string_bytes text.old ++ message_lines event.now) }
+    ensures { OnOk result (string_bytes text.new ≡
+        string_bytes text.old ++ message_lines event.now) }
 {
     let message = Message::of(alloc, event)?;
     push_headers(text, message.headers(), message.properties().timestamp)?;
@@ -94,7 +98,8 @@ fn push_message(alloc: Global, text: &mut String, event: &Event) -> Result<(), A
 
 /// The line of what a message is routed by, and of its timestamp in seconds.
 fn push_headers(text: &mut String, headers: Headers, seconds: u64) -> Result<(), AllocError>
-    ensures { OnOk result (string_bytes text.new ≡ string_bytes text.old ++ headers_line headers seconds) }
+    ensures { OnOk result (string_bytes text.new ≡
+        string_bytes text.old ++ headers_line headers seconds) }
 {
     push_kind(text, headers.kind)?;
     push_header(text, " ledger=", headers.ledger)?;
@@ -117,7 +122,8 @@ fn push_kind(text: &mut String, kind: EventKind) -> Result<(), AllocError>
 
 /// The name of a header, with its equals sign, and its number.
 fn push_header<I: Integer>(text: &mut String, name: &str, value: I) -> Result<(), AllocError>
-    ensures { OnOk result (string_bytes text.new ≡ string_bytes text.old ++ (name.now ++ I.text value)) }
+    ensures { OnOk result (string_bytes text.new ≡
+        string_bytes text.old ++ (name.now ++ I.text value)) }
 {
     text.push_str(name)?;
     push_number(text, value)

@@ -27,7 +27,8 @@ pub fn simulation_of(
 ) -> Result<Output, ProgramFault>
     requires { IsWindow window }
     ensures output { IfOk result (λ output. SimulationPrints
-        (record { window = window; script = Some script.now; steps = Some steps.now }) output.ending output.text.items) }
+        (record { window = window; script = Some script.now; steps = Some steps.now })
+        output.ending output.text.items) }
 {
     match parse_script(alloc, script) {
         Ok(script) => script_simulation(alloc, script, steps, window),
@@ -44,8 +45,10 @@ fn script_simulation(
     window: usize,
 ) -> Result<Output, ProgramFault>
     requires { IsWindow window }
-    ensures output { (bytes : List ℕ) → script_of bytes ≡ Ok script → IfOk result (λ output. SimulationPrints
-        (record { window = window; script = Some bytes; steps = Some steps.now }) output.ending output.text.items) }
+    ensures output { (bytes : List ℕ) → script_of bytes ≡ Ok script
+        → IfOk result (λ output. SimulationPrints
+        (record { window = window; script = Some bytes; steps = Some steps.now })
+        output.ending output.text.items) }
 {
     let acts = match parse_steps(alloc, steps) {
         Ok(acts) => acts,
@@ -71,9 +74,14 @@ pub fn simulate_command<R: Read, Q: Read, W: Write>(
 ) -> Ending
     requires { IsWindow window }
     ensures writes { Writes (SimulationPrints
-        (record { window = window; script = R.remaining script.old; steps = Q.remaining steps.old }))
+        (record {
+          window = window;
+          script = R.remaining script.old;
+          steps = Q.remaining steps.old;
+        }))
         (W.contents writer.old) (W.contents writer.new) result }
-    ensures script { ConsumesAtMost (max_bytes + 1) (R.remaining script.old) (R.remaining script.new) }
+    ensures script { ConsumesAtMost (max_bytes + 1)
+        (R.remaining script.old) (R.remaining script.new) }
     ensures steps { ConsumesAtMost (max_bytes + 1) (Q.remaining steps.old) (Q.remaining steps.new) }
 {
     print_output(writer, read_simulation(alloc, script, steps, window))
@@ -90,7 +98,8 @@ fn read_simulation<R: Read, Q: Read>(
     ensures output { IfOk result (λ output. SimulationPrints
         (record { window = window; script = R.remaining script.old; steps = Q.remaining steps.old })
         output.ending output.text.items) }
-    ensures script { ConsumesAtMost (max_bytes + 1) (R.remaining script.old) (R.remaining script.new) }
+    ensures script { ConsumesAtMost (max_bytes + 1)
+        (R.remaining script.old) (R.remaining script.new) }
     ensures steps { ConsumesAtMost (max_bytes + 1) (Q.remaining steps.old) (Q.remaining steps.new) }
 {
     let script = read_text(alloc, script)?;
@@ -103,7 +112,8 @@ fn read_simulation<R: Read, Q: Read>(
 /// What the command prints for the bytes of a script where its step file can't be read. The script is judged first.
 fn unread_steps(alloc: Global, script: &[u8], error: ReadError) -> Result<Output, ProgramFault>
     ensures { (window : ℕ) → (steps : Option (List ℕ)) → IfOk result (λ output. SimulationPrints
-        (record { window = window; script = Some script.now; steps = steps }) output.ending output.text.items) }
+        (record { window = window; script = Some script.now; steps = steps })
+        output.ending output.text.items) }
 {
     match parse_script(alloc, script) {
         Err(ScriptError::Fault(fault)) => Ok(file_fault(alloc, Ending::BadScript(fault))?),

@@ -32,5 +32,6 @@ returns c =
     ≡ subscribers_text 1 (line (history_of c.args.script)) c.args.script.bindings =
     ap (takers_text 1) c.in_ok-broker.ensures
     ∙ takers_text-filled 1 (told c.log.result.now.events true) c.into_vec.result.items
-    ∙ ap₂ (λ (es : List Event) (bs : List Arguments). subscribers_text 1 (told es true) bs) events_are c.into_vec.ensures in
+    ∙ ap₂ (λ (es : List Event) (bs : List Arguments). subscribers_text 1 (told es true) bs)
+    events_are c.into_vec.ensures in
     c.in_ok-push_subscribers.ensures ∙ ap₂ (λ (a b : List ℕ). a ++ b) lines takers

@@ -1,15 +1,17 @@
 use Rattle.std.proofs.Common.{ap, sym, subst}
 use Rattle.cdc_world.specs.Parts.{Parts}
 use Rattle.cdc_world.specs.Stands.{Stands}
+use Rattle.cdc_app.specs.Private.Stages.{IsAt}
 use Rattle.cdc_app.proofs.SimulationLemmas.{stands_counted, world_text}
 use Rattle.cdc_app.proofs.simulations.Simulation.into_text.Goals as goal
 
 pub returns-clause-text : goal.returns-clause-text
 returns-clause-text c = λ stage at done.
+    let here = subst (λ x. IsAt x stage) (sym c.self.view_is) at in
     let stands : Stands c.progress.new.self stage.world =
-    subst (λ (p : Parts). Stands p stage.world) (sym (c.in_ok-progress.ensures.kept c.requires.honest))
-    (stands_counted c.args.self.world stage.world c.progress.new.self.failed at.world) in
-    world_text c.args.self stage c.args.played.done c.args.all c.args.played.refusal c.in_ok-progress.field-0 _ _ _ _ _
-    at done c.in_ok-push_steps.ensures c.in_ok-push_refusal.ensures
-    (c.in_ok-progress.ensures.held c.requires.honest stage.world at.world) c.in_ok-push_progress.ensures
+    subst (λ (p : Parts). Stands p stage.world) (sym (c.in_ok-progress.ensures.kept c.self.invariant))
+    (stands_counted c.self.inside.world stage.world c.progress.new.self.failed here.world) in
+    world_text _ stage c.args.played.done c.args.all c.args.played.refusal c.in_ok-progress.field-0 _ _ _ _ _
+    here done c.in_ok-push_steps.ensures c.in_ok-push_refusal.ensures
+    (c.in_ok-progress.ensures.held c.self.invariant stage.world here.world) c.in_ok-push_progress.ensures
     (ap (λ v. v.items) c.into_bytes-bytes.ensures.value) (c.in_ok-push_subscriptions.ensures stage.world stands)

@@ -12,7 +12,6 @@ returns-then-is_some-clause-plays c = λ stage at zero.
 
 pub loop-done-preserved : goal.loop-done-preserved
 loop-done-preserved c = record {
-  honest = c.in_ok-refusal.ensures.honest;
   within = c.in_ok-refusal.ensures.within;
   come = λ stage at zero.
       let come = c.loop-done.invariant.come stage at zero in

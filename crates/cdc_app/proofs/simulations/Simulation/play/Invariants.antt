@@ -1,4 +1,4 @@
-use Rattle.std.proofs.Common.{◌≡◌, ◌≤◌, true, length}
+use Rattle.std.proofs.Common.{◌≡◌, ◌≤◌, length}
 use Rattle.cdc_app.specs.Private.Stages.{IsAt}
 use Rattle.cdc_app.specs.Simulations.{Stage}
 use Rattle.cdc_app.proofs.SimulationLemmas.{HasCome}
@@ -6,7 +6,6 @@ use Rattle.cdc_app.proofs.simulations.Simulation.play.Given as goal
 
 abbrev pub invariant-loop-done : goal.invariant-loop-done
 invariant-loop-done l = record {
-  honest : l.self.world.honest ≡ true;
   within : l.self.batches ≤ length l.batches;
   come : (stage : Stage) → IsAt l.fn.self stage → stage.done ≡ 0 → HasCome l.batches l.acts stage l.done l.self;
 }
