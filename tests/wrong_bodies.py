@@ -414,8 +414,9 @@ class Trial:
                 left.insert(0, group.pop())
                 spare = self.spare(group, first)
             if not group:
+                # no function is left for the two statements that test a group: each goes alone
                 for it in left:
-                    self.put(it, False, "CANNOT BE TOLD: no function is left for the two edits that test its group")
+                    self.try_alone(it)
                 return
             yield group, spare
             edits = left
