@@ -38,6 +38,13 @@ name=$(basename "$PWD")
 echo "$name: $*" >>"$CALLS"
 case "$1" in
 lib)
+    # the real one waits where another works in a crate of the same tree
+    for folder in ../*/; do
+        exec {held}<"$folder"
+        flock -n "$held" || echo "$name: waits for another" >>"$CALLS"
+    done
+    mkdir -p out
+    echo "$name" >>out/kept
     # one that is named in SLOW waits for the other that is named there, and at most so many seconds
     if [ -f "$SLOW" ] && grep -q "^$name " "$SLOW"; then
         read -r _ other seconds < <(grep "^$name " "$SLOW")
@@ -81,6 +88,8 @@ call() { # runs the script; $out, $err, $status and $calls say what came of it
 built='low: lib --jobs 1
 high: lib --jobs 1
 cdc_app: run -- --version'
+# one job at a time, where nothing else is said
+export RT_JOBS=1
 
 call "$room/top/relayplum" books x
 check 'the first call builds each crate in its order' "$built" "$calls"
@@ -88,6 +97,8 @@ check 'the first call then runs the program' 'run with books x' "$out"
 has 'it says what it waits for' '^relayplum: proving low, 1 of 3$' "$err"
 has 'it says what is proved' '^relayplum: high proved, 2 of 3, [0-9]* s$' "$err"
 has 'it says that of the program too' '^relayplum: cdc_app proved, 3 of 3, [0-9]* s$' "$err"
+check 'what a crate kept is in its place' 'low high' "$(cat "$room/top/crates"/{low,high}/out/kept | tr '\n' ' ' | sed 's/ $//')"
+check 'no room is left' '' "$(find "$room/top" -name rooms)"
 
 call "$room/top/relayplum" books x
 check 'the second call builds nothing' '' "$calls"
@@ -146,7 +157,8 @@ RT_JOBS=2 call "$room/top/relayplum" books x
 check 'side by side: the program runs' 'run with books x' "$out"
 check 'side by side: each has begun before the other ends' "$(printf '%s\n' 'low: lib --jobs 1' 'side: lib --jobs 1')" \
     "$(head -n 2 <<<"$calls" | LC_ALL=C sort)"
-check 'side by side: what stands on both comes after them' "$(printf '%s\n' 'low: done' 'side: done' 'high: lib --jobs 1' \
+check 'side by side: neither waits in the tree of the other' '' "$(grep waits <<<"$calls")"
+check 'side by side: what stands on both comes after them' "$(printf '%s\n' 'low: done' 'side: done' 'high: lib --jobs 2' \
     'cdc_app: run -- --version')" "$(tail -n +3 <<<"$calls" | sed '1,2{s/^side: done$/low: done/;}' | sed '2s/low/side/')"
 has 'side by side: it says what it waits for' '^relayplum: proving side, 2 of 4$' "$err"
 has 'side by side: the last' '^relayplum: cdc_app proved, 4 of 4, [0-9]* s$' "$err"
@@ -169,10 +181,16 @@ sleep 6
 check 'side by side: the other is ended too' '' "$(grep 'side: done' "$CALLS")"
 rm "$REFUSED" "$SLOW"
 
-printf 'low: side\nside: low\nhigh:\ncdc_app: high\n' >"$room/top/crates.txt"
+mkdir -p "$room/top/crates/alone/src"
+printf 'low:\nalone: low\nhigh: low\ncdc_app: high\n' >"$room/top/crates.txt"
+call "$room/top/relayplum" books x
+check 'a crate on which the program does not stand is not proved' "$built" "$calls"
+rm -r "$room/top/crates/alone"
+
+printf 'low: side\nside: low\nhigh:\ncdc_app: high low\n' >"$room/top/crates.txt"
 call "$room/top/relayplum" books x
 check 'crates that wait for one another: the script ends' 1 "$status"
-has 'crates that wait for one another: it says so' '^relayplum: crates.txt: these wait for one another: low side side low$' "$err"
+has 'crates that wait for one another: it says so' '^relayplum: crates.txt: these wait for one another: low side side low cdc_app high low$' "$err"
 printf 'low:\nhigh: low\ncdc_app: low high clap\n' >"$room/top/crates.txt"
 call "$room/top/relayplum" books x
 check 'and then the program runs again' 'run with books x' "$out"
