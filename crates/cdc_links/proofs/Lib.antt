@@ -1,4 +1,4 @@
-mod Entries
+pub mod Entries
 mod Joined
 mod Places
 mod Settling

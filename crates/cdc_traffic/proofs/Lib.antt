@@ -1,0 +1,4 @@
+mod Continuing
+mod Ends
+mod Named
+mod WholeReads

@@ -1,0 +1,101 @@
+-- A read of the log has all that is later than its moment where its last event is the log's last.
+use Rattle.std.proofs.Common.{◌≡◌, ℕ, ◌-◌, ◌<◌, ◌≤◌, Bool, true, false, Some, None, List, [], ◌∷◌, ◌++◌, zero, suc, refl, sym, ap, ap₂, ◌∙◌, append-nil, length, take, arith}
+use Rattle.std.specs.Prelude.{nat_le, ◌&&◌}
+use Rattle.std.specs.List.{AllByRecursion, slice_get}
+use Rattle.std.proofs.lemmas.Bool.Decides.{nat_tests}
+use Rattle.cdc_laws.proofs.Splits.{split_at}
+use Rattle.cdc_ledger.specs.Events.{events}
+use Rattle.cdc_ledger.specs.History.{History}
+use Rattle.cdc_log.specs.Log.{RiseFrom, events_after}
+use Rattle.cdc_traffic.specs.Answering.{none_follow}
+use Rattle.cdc_traffic.specs.declared.polls.Poll.{Poll}
+use Rattle.cdc_types.specs.declared.events.Event.{Event}
+use Rattle.cdc_types.proofs.Rising.{last_timestamp_from-slice_get}
+use Rattle.cdc_types.specs.Timestamps.{last_timestamp, last_timestamp_from}
+
+-- the last of rising events isn't below the moment that they rise from
+last_rises : (t : ℕ) (es : List Event) → RiseFrom t es → t ≤ last_timestamp_from t es
+last_rises t [] rise = omega arith
+last_rises t (e ∷ es) rise = omega (arith, last_rises e.timestamp es rise.1, rise.0)
+
+-- one event less, and one less to read, changes nothing
+le_suc : (a b : ℕ) → nat_le (suc a) (suc b) ≡ nat_le a b
+le_suc a b = grind (arith, nat_tests)
+
+-- rising events aren't more than n where the last of the first n is the last of all
+take_whole : (t n : ℕ) (es : List Event) → RiseFrom t es
+    → nat_le (last_timestamp_from t es) (last_timestamp_from t (take n es)) ≡ nat_le (length es) n
+take_whole t zero [] rise = grind (arith, nat_tests)
+take_whole t (suc n) [] rise = grind (arith, nat_tests)
+take_whole t zero (e ∷ es) rise =
+    let up = last_rises e.timestamp es rise.1 in
+    let late : t < last_timestamp_from e.timestamp es = omega (arith, rise.0) in
+    let left : nat_le (last_timestamp_from e.timestamp es) t ≡ false = grind (arith, nat_tests) in
+    let right : nat_le (suc (length es)) 0 ≡ false = grind (arith, nat_tests) in
+    left ∙ sym right
+take_whole t (suc n) (e ∷ es) rise = take_whole e.timestamp n es rise.1 ∙ sym (le_suc (length es) n)
+
+-- the last of a list whose front is up to a moment, and whose back is later
+last_of_front : (s t : ℕ) (front : List Event) → s ≤ t → AllByRecursion (λ e. e.timestamp ≤ t) front
+    → last_timestamp_from s front ≤ t
+last_of_front s t [] low all = low
+last_of_front s t (e ∷ front) low all = last_of_front e.timestamp t front all.0 all.1
+
+last_of_both : (s : ℕ) (front : List Event) (e : Event) (back : List Event)
+    → last_timestamp_from s (front ++ e ∷ back) ≡ last_timestamp_from e.timestamp back
+last_of_both s [] e back = refl
+last_of_both s (x ∷ front) e back = last_of_both x.timestamp front e back
+
+-- the same test, whether the last of all or the last of the later ones is asked for
+same_test : (s t read : ℕ) (front back : List Event) → s ≤ t → AllByRecursion (λ e. e.timestamp ≤ t) front → t ≤ read
+    → nat_le (last_timestamp_from s (front ++ back)) read ≡ nat_le (last_timestamp_from t back) read
+same_test s t read front [] low all up =
+    let is : last_timestamp_from s (front ++ []) ≡ last_timestamp_from s front =
+    ap (last_timestamp_from s) (append-nil front) in
+    let least : last_timestamp_from s front ≤ t = last_of_front s t front low all in
+    grind (arith, nat_tests)
+same_test s t read front (e ∷ back) low all up =
+    ap (λ (n : ℕ). nat_le n read) (last_of_both s front e back)
+
+-- the first of rising events rise
+take_rise : (t n : ℕ) (es : List Event) → RiseFrom t es → RiseFrom t (take n es)
+take_rise t zero es rise = tt
+take_rise t (suc n) [] rise = tt
+take_rise t (suc n) (e ∷ es) rise = (rise.0, take_rise e.timestamp n es rise.1)
+
+-- so a read of a closed ledger's log is whole where its last event is the log's last, and where it has none and the log
+-- has none later than the moment
+pub read_is_whole : (h : History) (poll : Poll) (read : List Event) (last last_read : ℕ) → true ≡ h.closed
+    → read ≡ take poll.limit (events_after poll.after (events h)) → RiseFrom 0 (events h)
+    → last ≡ last_timestamp (events h) → last_read ≡ last_timestamp_from poll.after read
+    → nat_le last last_read ≡ none_follow h poll
+read_is_whole h poll read last last_read closed is rise at at_read =
+    let after : ℕ = poll.after in
+    let es : List Event = events h in
+    let later : List Event = events_after after es in
+    let first : ℕ = last_timestamp_from after (take poll.limit later) in
+    let cut = split_at after 0 es rise in
+    let up : after ≤ first =
+    last_rises after (take poll.limit later) (take_rise after poll.limit later cut.1.rise) in
+    ap₂ (λ (a b : ℕ). nat_le a b) at (at_read ∙ ap (last_timestamp_from after) is)
+    ∙ (ap (λ (all : List Event). nat_le (last_timestamp all) first) cut.1.whole
+    ∙ (same_test 0 after first cut.0 later (omega arith) cut.1.low up
+    ∙ (take_whole after poll.limit later cut.1.rise
+    ∙ ap (λ (b : Bool). b && nat_le (length later) poll.limit) closed)))
+
+-- one is found at each place
+found_within : {X : Type 0} (xs : List X) (i : ℕ) → i < length xs → slice_get xs i ≡ None → ⊥
+found_within [] i below h = omega arith
+found_within (x ∷ xs) zero below h = cc
+found_within (x ∷ xs) (suc i) below h = found_within xs i (omega arith) h
+
+-- the last of the events that were read
+pub last_read_some : (t : ℕ) (es : List Event) (e : Event) → slice_get es (length es - 1) ≡ Some e
+    → e.timestamp ≡ last_timestamp_from t es
+last_read_some t [] e found = cc
+last_read_some t (x ∷ es) e found = sym (last_timestamp_from-slice_get (x ∷ es) e found)
+
+-- where nothing was read, the read has come no further than where it began
+pub last_read_none : (t : ℕ) (es : List Event) → slice_get es (length es - 1) ≡ None → t ≡ last_timestamp_from t es
+last_read_none t [] found = refl
+last_read_none t (x ∷ es) found = absurd (found_within (x ∷ es) (length (x ∷ es) - 1) (omega arith) found)

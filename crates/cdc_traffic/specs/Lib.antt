@@ -1,0 +1,4 @@
+pub mod Answering
+pub mod Following
+pub mod Laws
+pub mod Pasts

@@ -1,0 +1,17 @@
+//! The messages of a run in threads: what ledger, clients, connector, broker and subscribers send one another over
+//! links, and what each message keeps of its own content, of the history that it names, and of who may send it when.
+#![tactic(auto)]
+
+mod laws;
+mod messages;
+pub mod pasts;
+pub mod polls;
+pub mod requests;
+#[cfg(test)]
+mod tests;
+
+pub use laws::traffic_laws;
+pub use messages::{Ack, ToBroker, ToConnector, ToLedger, ToSubscriber};
+pub use pasts::Past;
+pub use polls::{Poll, PollReply};
+pub use requests::{Reply, Request};
