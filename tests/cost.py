@@ -1,0 +1,306 @@
+#!/usr/bin/env python3
+"""Counts the instructions that the program takes, and prints them beside their limits.
+
+  tests/cost.py [PROGRAM] [--jobs N] [--only PART]..    PROGRAM: crates/cdc_app/out/cdc_app
+  tests/cost.py [PROGRAM] --top N                     the N functions that a full script spends most in
+
+The parts are accounts-2 and accounts-5000 (`books` on more and more transfers), full (a script of the greatest size),
+phases (pending transfers, posts and a pulse) and log (reads of the log under `simulate`). Valgrind counts, so other work
+on the machine disturbs no figure. All of it takes some minutes of processor time; it is run by hand, and the gate does
+without. Exit status 1 where a figure is over its limit, 2 where nothing could be counted.
+"""
+import argparse
+import concurrent.futures
+import math
+import os
+import re
+import shutil
+import subprocess
+import sys
+import tempfile
+
+HERE = os.path.dirname(os.path.realpath(__file__))
+SCRIPT_BYTES = 1_048_576
+BATCH_ITEMS = 1_000
+PARTS = ("accounts-2", "accounts-5000", "full", "phases", "log")
+
+# The limits.
+GROWTH = 2.0  # per cent, of what a further transfer costs, for each doubling
+EXPONENT = 1.02
+FULL = 125_000  # instructions for each transfer of a full script
+TIMES = 2.0  # what an item of two phases may cost, in single-phase transfers
+SEARCH = 100  # instructions that a search in the log may take more for each doubling of it
+
+
+# ---------------------------------------------------------------- Scripts
+
+
+def batches(kind, lines):
+    """The text of as many batches as these requests need."""
+    return "".join(f"{kind} 1\n" + "".join(lines[at:at + BATCH_ITEMS]) for at in range(0, len(lines), BATCH_ITEMS))
+
+
+def opened(accounts):
+    lines = [f"account id={number} ledger=1 code=1\n" for number in range(1, accounts + 1)]
+    return "subscriber all\n" + batches("accounts", lines)
+
+
+def transfer(number, accounts, more=""):
+    """A transfer between two neighbours among the accounts; each pair has its turn."""
+    debit = 2 * (number - 1) % accounts + 1
+    return (f"transfer id={number} debit_account_id={debit} credit_account_id={debit + 1}"
+            f" amount=1 ledger=1 code=1{more}\n")
+
+
+def single_phase(count, accounts):
+    return [transfer(number, accounts) for number in range(1, count + 1)]
+
+
+def script(accounts, count):
+    return opened(accounts) + batches("transfers", single_phase(count, accounts))
+
+
+def most_transfers(accounts):
+    """How many transfers between these accounts a script has room for."""
+    count = 1
+    while len(script(accounts, count + 1_000)) <= SCRIPT_BYTES:
+        count += 1_000
+    while len(script(accounts, count + 1)) <= SCRIPT_BYTES:
+        count += 1
+    return count
+
+
+def pending(count, accounts, timeout):
+    return [transfer(number, accounts, f" flags=2 timeout={timeout(number)}") for number in range(1, count + 1)]
+
+
+def posts(count, of):
+    """Posts of the pending transfers 1 to `of`, the first `count` in an order of their own."""
+    return [f"transfer id={of + place + 1} pending_id={place * 2_999 % of + 1} flags=4\n" for place in range(count)]
+
+
+def one_timeout(_number):
+    return 5
+
+
+def many_timeouts(number):
+    return number * 7 % 9 + 1
+
+
+def polls(count, rounds):
+    """Steps that let the connector read this many events of `count`, one after another."""
+    lines = ["batch"] * (1 + -(-count // BATCH_ITEMS)) + ["start", "publish", "arrive 1"]
+    for number in range(1, rounds + 1):
+        lines += ["poll", "publish", f"arrive {number + 1}", f"answer {number}"]
+    return "\n".join(lines) + "\n"
+
+
+# ---------------------------------------------------------------- Counting
+
+
+class Counter:
+    """Runs the program under Valgrind, each run once, and as many side by side as there are jobs."""
+
+    def __init__(self, program, folder, jobs):
+        self.program = program
+        self.folder = folder
+        self.pool = concurrent.futures.ThreadPoolExecutor(jobs)
+        self.made = 0
+
+    def run(self, tool, text, steps):
+        self.made += 1
+        base = f"{self.folder}/{self.made}"
+        words = ["books", f"{base}.script"]
+        with open(f"{base}.script", "w") as file:
+            file.write(text)
+        if len(text) > SCRIPT_BYTES:
+            sys.exit(f"cost: a script of {len(text)} bytes is too long")
+        if steps is not None:
+            words = ["simulate", f"{base}.script", f"{base}.steps"]
+            with open(f"{base}.steps", "w") as file:
+                file.write(steps)
+        return self.pool.submit(counted, [*tool_words(tool, f"{base}.out"), self.program, *words], f"{base}.out")
+
+    def total(self, text, steps=None):
+        """A future of the instructions that the run takes."""
+        return self.run("cachegrind", text, steps)
+
+
+def tool_words(tool, out):
+    words = ["valgrind", "--quiet", f"--tool={tool}"]
+    if tool == "cachegrind":
+        return words + ["--cache-sim=no", f"--cachegrind-out-file={out}"]
+    return words + [f"--callgrind-out-file={out}"]
+
+
+def counted(words, out):
+    """Runs it, and returns the file that Valgrind wrote; a run that doesn't end well stops all."""
+    ran = subprocess.run(words, capture_output=True)
+    if ran.returncode != 0 or b"refused" in ran.stdout:
+        print(f"cost: {' '.join(words)}: status {ran.returncode}\n{ran.stdout[:300]!r}\n{ran.stderr[:300]!r}")
+        os._exit(2)
+    return out
+
+
+def total_of(out):
+    with open(out) as file:
+        for line in file:
+            if line.startswith("summary:"):
+                return int(line.split()[1])
+    sys.exit("cost: Valgrind has written no total")
+
+
+# ---------------------------------------------------------------- The table
+
+
+class Table:
+    """Prints the rows as they come, and knows whether a figure was over its limit."""
+
+    def __init__(self):
+        self.over = False
+
+    def head(self, title):
+        print(f"\n{title}")
+
+    def row(self, what, figure, value=None, limit=None, unit=""):
+        line = f"  {what:<58}{figure:>16,}"
+        if value is not None:
+            line += f"  {value:>9.2f}{unit}"
+        if limit is not None:
+            over = value > limit
+            self.over |= over
+            line += f"  at most {limit:g}{unit}{'   OVER' if over else ''}"
+        print(line, flush=True)
+
+
+def growth_of(counter, table, accounts, sizes):
+    """What a further transfer costs between one size and the next, and how this grows."""
+    runs = [counter.total(script(accounts, size)) for size in [0, *sizes]]
+    totals = [total_of(run.result()) for run in runs]
+    none, totals = totals[0], totals[1:]
+    table.head(f"books, {accounts:,} accounts: instructions; exponent of the cost")
+    table.row("no transfer", none)
+    spans = []
+    for at, (size, total) in enumerate(zip(sizes, totals)):
+        if at == 0:
+            table.row(f"{size:,} transfers", total)
+            continue
+        exponent = math.log((total - none) / (totals[at - 1] - none)) / math.log(size / sizes[at - 1])
+        table.row(f"{size:,} transfers", total, exponent, EXPONENT)
+        spans.append((sizes[at - 1], size, (total - totals[at - 1]) / (size - sizes[at - 1])))
+    table.head(f"books, {accounts:,} accounts: instructions of a further transfer; its growth for each doubling")
+    before = None
+    for low, high, each in spans:
+        middle = (low + high) / 2
+        what = f"from {low:,} to {high:,} transfers"
+        if before is None:
+            table.row(what, round(each))
+        else:
+            doublings = math.log2(middle / before[0])
+            growth = ((each / before[1]) ** (1 / doublings) - 1) * 100
+            table.row(what, round(each), growth, GROWTH, " %")
+        before = (middle, each)
+
+
+def accounts_2(counter, table):
+    growth_of(counter, table, 2, [1_000, 2_000, 4_000, 8_000, 12_000])
+
+
+def accounts_5000(counter, table):
+    # From 2,500 transfers on every account stands in the book.
+    growth_of(counter, table, 5_000, [2_500, 5_000, most_transfers(5_000)])
+
+
+def full(counter, table):
+    count = most_transfers(2)
+    total = total_of(counter.total(script(2, count)).result())
+    table.head(f"books, a full script of 2 accounts and {count:,} transfers: instructions; of each transfer")
+    table.row("from its text to the printed book", total, total / count, FULL)
+
+
+def phases(counter, table):
+    accounts, count = 1_000, 7_000
+    first = opened(accounts)
+    scattered = first + batches("transfers", pending(count, accounts, many_timeouts))
+    half = scattered + batches("transfers", posts(count // 2, count))
+    pulse = "pulse 1000000000000\n"
+    texts = {
+        "none": first,
+        "single": script(accounts, count),
+        "ordered": first + batches("transfers", pending(count, accounts, one_timeout)),
+        "scattered": scattered,
+        "posted": scattered + batches("transfers", posts(count, count)),
+        "pulsed": scattered + pulse,
+        "half": half,
+        "rest": half + pulse,
+    }
+    runs = {name: counter.total(text) for name, text in texts.items()}
+    totals = {name: total_of(run.result()) for name, run in runs.items()}
+    table.head(f"books, {accounts:,} accounts: instructions of an item; in single-phase transfers")
+    single = (totals["single"] - totals["none"]) / count
+    table.row(f"{count:,} single-phase transfers", round(single))
+    for what, name, without, items in (
+        ("pending transfers, all with one timeout", "ordered", "none", count),
+        ("pending transfers, their ends out of order", "scattered", "none", count),
+        ("posts of these, out of order", "posted", "scattered", count),
+        ("a pulse over all of these", "pulsed", "scattered", count),
+        ("a pulse over those that are left after as many posts", "rest", "half", count // 2),
+    ):
+        each = (totals[name] - totals[without]) / items
+        table.row(f"{items:,} {what}" if items == count else f"{items:,}: {what}", round(each), each / single, TIMES)
+
+
+def log(counter, table):
+    # The rounds of a poll are the same whatever the size, but for the search in the log.
+    sizes, rounds = [1_250, 2_500, 5_000, 10_000], 100
+    runs = [[counter.total(script(2, size), polls(size, count)) for count in (rounds, 2 * rounds)] for size in sizes]
+    table.head("simulate: instructions of a poll and the steps that follow it; those that the size of the log adds")
+    first = None
+    for size, (some, more) in zip(sizes, runs):
+        each = (total_of(more.result()) - total_of(some.result())) / rounds
+        if first is None:
+            first = each
+            table.row(f"in a log of {size:,} events", round(each))
+        else:
+            table.row(f"in a log of {size:,} events", round(each), each - first, SEARCH * math.log2(size / sizes[0]))
+
+
+def top(counter, count):
+    """Prints the functions in which most of a full script's instructions are."""
+    out = counter.run("callgrind", script(2, most_transfers(2)), None).result()
+    for inclusive in ("yes", "no"):
+        print(f"\n{'with all that they call' if inclusive == 'yes' else 'by themselves'}")
+        told = subprocess.run(["callgrind_annotate", f"--inclusive={inclusive}", out], capture_output=True, text=True)
+        lines = [line for line in told.stdout.splitlines() if re.match(r"\s*[\d,]+ \(", line)]
+        print("\n".join(line[:160] for line in lines[:count + 1]))
+
+
+def main():
+    parser = argparse.ArgumentParser(usage=__doc__)
+    parser.add_argument("program", nargs="?", default=f"{HERE}/../crates/cdc_app/out/cdc_app")
+    parser.add_argument("--jobs", type=int, default=2)
+    parser.add_argument("--only", action="append", choices=PARTS)
+    parser.add_argument("--top", type=int)
+    words = parser.parse_args()
+    program = os.path.realpath(words.program)
+    if shutil.which("valgrind") is None:
+        print("cost: valgrind isn't there, and nothing else counts instructions whatever the load: install it first")
+        return 2
+    if not os.access(program, os.X_OK):
+        print(f"cost: there is no program {program}: build it first, as `./relayplum --version` does")
+        return 2
+    table = Table()
+    with tempfile.TemporaryDirectory(prefix="cost-") as folder:
+        counter = Counter(program, folder, words.jobs)
+        if words.top:
+            top(counter, words.top)
+            return 0
+        for part in words.only or PARTS:
+            {"accounts-2": accounts_2, "accounts-5000": accounts_5000, "full": full, "phases": phases, "log": log}[part](
+                counter, table)
+    print(f"\ncost: {'some over their limits' if table.over else 'all within their limits'}")
+    return 1 if table.over else 0
+
+
+if __name__ == "__main__":
+    sys.exit(main())
