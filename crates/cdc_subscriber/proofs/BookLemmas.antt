@@ -1,15 +1,18 @@
 -- What an entry that is put into a book makes of it.
-use Rattle.std.proofs.Common.{◌≡◌, ℕ, zero, suc, ◌+◌, ◌≤◌, Bool, true, false, cond, set, List, [], ◌∷◌, ◌++◌, map, refl, sym, ap, ◌∙◌, inl, inr, Some, None, append_assoc, arith}
-use Rattle.std.specs.Prelude.{◌==◌, ◌||◌, fold, find, reverse, unwrap_or}
-use Rattle.std.specs.List.{flat_map, position_from}
+use Rattle.std.proofs.Common.{◌≡◌, ℕ, Bool, true, false, cond, List, [], ◌∷◌, ◌++◌, map, refl, sym, ap, ◌∙◌, inl, inr, Some, append_assoc}
+use Rattle.std.specs.Prelude.{◌==◌, ◌||◌, fold, find, nat_eq, reverse, unwrap_or}
+use Rattle.std.specs.List.{flat_map}
+use Rattle.std.specs.Map.{lookup}
 use Rattle.std.proofs.lemmas.Bool.{ne_eqb, cases_Bool}
 use Rattle.std.proofs.lemmas.Bool.Decides.{eqb_tells}
 use Rattle.std.proofs.lemmas.List.{reverse-append, map-append}
 use Rattle.std.proofs.lemmas.List.Sums.{fold-append}
 use Rattle.std.proofs.lemmas.Grind.{flat_map-append}
+use Rattle.indexmap.specs.IndexMap.{insert_entry}
+use Rattle.cdc_types.specs.declared.accounts.Balances.{Balances}
 use Rattle.cdc_types.specs.declared.events.Event.{Event}
 use Rattle.cdc_subscriber.specs.declared.book.BookEntry.{BookEntry}
-use Rattle.cdc_subscriber.specs.Book.{entry_of, sides, is_among, first_appearances, last_shown, unseen, book_of_sides, book_of, put}
+use Rattle.cdc_subscriber.specs.Book.{balances_in, entries_of, entry_for, entry_of, sides, is_among, first_appearances, last_shown, unseen, book_of_sides, book_of, put}
 
 -- an entry has this number
 abbrev has_id : ℕ → BookEntry → Bool
@@ -172,63 +175,25 @@ book_of-push events e =
     ap book_of_sides both ∙ book_of_sides-push (before ++ debit ∷ []) credit
     ∙ ap (put credit) (book_of_sides-push before debit)
 
--- a place is counted from the first one on
-counted_from : (p : BookEntry → Bool) (k : ℕ) (entries : List BookEntry) (i : ℕ)
-    → position_from p k entries ≡ Some i → k ≤ i
-counted_from p k [] i h = cc
-counted_from p k (e ∷ entries) i h =
-    elim (cases_Bool (p e)) [
-      | inl passes ↦
-          let here : Some k ≡ Some i = rw passes at h in
-          let same : k ≡ i = cc in
-          omega arith
-      | inr fails ↦
-          let there = rw fails at h in
-          omega (arith, counted_from p (k + 1) entries i there)
+-- balances that come under a number are an entry that is put
+pub entries_of-insert_entry : (accounts : List (ℕ × Balances)) (entry : BookEntry)
+    → entries_of (insert_entry nat_eq accounts entry.id entry.balances) ≡ put entry (entries_of accounts)
+entries_of-insert_entry [] entry = refl
+entries_of-insert_entry (account ∷ rest) entry =
+    elim (eqb_tells entry.id account.0) [
+      | inl same ↦ rw (← same.1) (rw (eqb_same entry.id) refl)
+      | inr other ↦
+          let later = entries_of-insert_entry rest entry in
+          rw (other.0, eqb_swap entry.id account.0 other.0)
+          (ap (λ (es : List BookEntry). entry_for account ∷ es) later)
     ]
 
--- an entry found under that number is the one exchanged, from whichever place the search counts
-put_from : (entry : BookEntry) (k : ℕ) (entries : List BookEntry) (j i : ℕ) → k + j ≡ i
-    → position_from (has_id entry.id) k entries ≡ Some i → set entries j entry ≡ put entry entries
-put_from entry k [] j i sum h = cc
-put_from entry k (e ∷ entries) zero i sum h =
-    elim (cases_Bool (e.id == entry.id)) [
-      | inl passes ↦ rw passes refl
-      | inr fails ↦
-          let there = rw fails at h in
-          absurd (omega (arith, counted_from (has_id entry.id) (k + 1) entries i there))
+-- the balances under a number are those of the entry that is found by it
+pub lookup-balances_in : (accounts : List (ℕ × Balances)) (id : ℕ)
+    → lookup (nat_eq id) accounts ≡ balances_in (entries_of accounts) id
+lookup-balances_in [] id = refl
+lookup-balances_in (account ∷ rest) id =
+    elim (eqb_tells id account.0) [
+      | inl same ↦ rw (← same.1) (rw (eqb_same id) refl)
+      | inr other ↦ rw (other.0, eqb_swap id account.0 other.0) (lookup-balances_in rest id)
     ]
-put_from entry k (e ∷ entries) (suc j) i sum h =
-    elim (cases_Bool (e.id == entry.id)) [
-      | inl passes ↦
-          let here : Some k ≡ Some i = rw passes at h in
-          let same : k ≡ i = cc in
-          absurd (omega arith)
-      | inr fails ↦
-          let there = rw fails at h in
-          let rest = put_from entry (k + 1) entries j i (omega arith) there in
-          rw fails (ap (λ (es : List BookEntry). e ∷ es) rest)
-    ]
-
--- where an entry of that number stands, it is exchanged
-pub put_found : (entry : BookEntry) (entries : List BookEntry) (i : ℕ)
-    → position_from (λ e. e.id == entry.id) 0 entries ≡ Some i → set entries i entry ≡ put entry entries
-put_found entry entries i h = put_from entry 0 entries i i (omega arith) h
-
--- where a search from any place on finds none, the entry comes last of what it went through
-put_nowhere : (entry : BookEntry) (k : ℕ) (entries : List BookEntry)
-    → position_from (has_id entry.id) k entries ≡ None → entries ++ entry ∷ [] ≡ put entry entries
-put_nowhere entry k [] h = refl
-put_nowhere entry k (e ∷ entries) h =
-    elim (cases_Bool (e.id == entry.id)) [
-      | inl passes ↦ let here : Some k ≡ None = rw passes at h in cc
-      | inr fails ↦
-          let there = rw fails at h in
-          let rest = put_nowhere entry (k + 1) entries there in
-          rw fails (ap (λ (es : List BookEntry). e ∷ es) rest)
-    ]
-
--- where none stands, it comes last
-pub put_missing : (entry : BookEntry) (entries : List BookEntry)
-    → position_from (λ e. e.id == entry.id) 0 entries ≡ None → entries ++ entry ∷ [] ≡ put entry entries
-put_missing entry entries h = put_nowhere entry 0 entries h

@@ -71,3 +71,11 @@ balances_shown events id =
 -- an account's number and its balances
 abbrev pub id_and_balances : BookEntry → ℕ × Balances
 id_and_balances entry = (entry.id, entry.balances)
+
+-- an account's number and its balances, as an entry
+abbrev pub entry_for : ℕ × Balances → BookEntry
+entry_for account = record { id = account.0; balances = account.1 }
+
+-- the entries of accounts that are held by their numbers
+abbrev pub entries_of : List (ℕ × Balances) → List BookEntry
+entries_of accounts = map entry_for accounts

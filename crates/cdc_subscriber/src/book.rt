@@ -1,11 +1,13 @@
 //! The book that a subscriber keeps: the balances of each account, as its last event gave them.
 
-ghost use Rattle.std.specs.Prelude.{◌≡◌, ◌==◌, ◌+◌, ◌<◌, ◌≤◌, [], ◌∷◌, ◌++◌, List, length, IfSome, OnOk, OnErr, option_map, slice_get, vec_len, vec_capacity};
-ghost use Rattle.std.specs.List.{position_from};
+ghost use Rattle.std.specs.Prelude.{◌≡◌, ◌==◌, ◌+◌, ◌<◌, ◌≤◌, [], ◌∷◌, ◌++◌, List, length, OnOk, OnErr, option_map, slice_get};
+ghost use Rattle.indexmap.specs.IndexMap.{spare};
 ghost use Rattle.cdc_types.specs.declared.events.Event.{Event as Told};
-ghost use Rattle.cdc_subscriber.specs.Book.{balances_in, balances_shown, entry_of as shown_entry, book_of, id_and_balances, put as put_entry};
+ghost use Rattle.cdc_subscriber.specs.Book.{balances_in, balances_shown, entries_of, entry_of as shown_entry, book_of, id_and_balances, put as put_entry};
 
 use cdc_types::{Balances, Event, EventAccount};
+use indexmap::IndexMap;
+use indexmap::map::Iter;
 use std::alloc::{AllocError, Global};
 use std::marker::Model;
 
@@ -22,16 +24,18 @@ pub struct BookEntry {
 /// first, and where both are one account, the credited side counts. A clause sees the list of them.
 #[derive(Drop)]
 pub struct Book {
-    entries: Vec<BookEntry>,
+    // The balances of each account by its number; new numbers come last.
+    accounts: IndexMap<u128, Balances>,
 }
 
 impl Model for Book {
     ghost use Rattle.std.specs.Prelude.{List};
+    ghost use Rattle.cdc_subscriber.specs.Book.{entries_of};
     ghost use Rattle.cdc_subscriber.specs.declared.book.BookEntry.{BookEntry};
 
     ghost Value = { List BookEntry };
 
-    ghost view = { λ book. book.entries.items };
+    ghost view = { λ book. entries_of book.accounts.entries };
 }
 
 impl Book {
@@ -40,7 +44,7 @@ impl Book {
         ensures { result ≡ book_of [] }
     {
         Book {
-            entries: Vec::new(alloc),
+            accounts: IndexMap::new(alloc),
         }
     }
 
@@ -50,37 +54,37 @@ impl Book {
         ensures last { (events : List Told) → self.now ≡ book_of events
             → result ≡ balances_shown events id }
     {
-        balances_of(self.entries.as_slice(), id)
+        self.accounts.get(&id).copied()
     }
 
     /// The account at this place, from 0 on, and its balances.
     pub fn at_place(&self, place: usize) -> Option<(u128, Balances)>
         ensures { result ≡ option_map id_and_balances (slice_get self.now place) }
     {
-        self.entries
-            .get(place)
-            .map(|entry| (entry.id, entry.balances))
+        self.accounts
+            .get_index(place)
+            .map(|(id, balances)| (*id, *balances))
     }
 
     /// How many accounts there are.
     pub fn len(&self) -> usize
         ensures { result ≡ length self.now }
     {
-        self.entries.len()
+        self.accounts.len()
     }
 
     /// Whether there is no account.
     pub fn is_empty(&self) -> bool
         ensures { result ≡ (length self.now == 0) }
     {
-        self.entries.is_empty()
+        self.accounts.is_empty()
     }
 
-    /// The accounts.
-    pub(crate) fn entries(&self) -> &[BookEntry]
-        ensures { result.now ≡ self.now }
+    /// The accounts, each with its balances.
+    pub(crate) fn accounts(&self) -> Iter<'_, u128, Balances>
+        ensures { entries_of result ≡ self.now }
     {
-        self.entries.as_slice()
+        self.accounts.iter()
     }
 
     /// Takes in one event. After a refusal the book is as it was.
@@ -89,21 +93,11 @@ impl Book {
             → self.new ≡ book_of (events ++ event.now ∷ [])) }
         ensures err { OnErr result (self.new ≡ self.old) }
     {
-        self.entries.reserve(2)?;
-        put(&mut self.entries, entry_of(&event.debit_account));
-        put(&mut self.entries, entry_of(&event.credit_account));
+        self.accounts.reserve(2)?;
+        put(&mut self.accounts, entry_of(&event.debit_account));
+        put(&mut self.accounts, entry_of(&event.credit_account));
         Ok(())
     }
-}
-
-/// The balances in the entry of this number.
-fn balances_of(entries: &[BookEntry], id: u128) -> Option<Balances>
-    ensures { result ≡ balances_in entries.now id }
-{
-    entries
-        .iter()
-        .find(|entry| entry.id == id)
-        .map(|entry| entry.balances)
 }
 
 /// What an event shows of an account.
@@ -122,22 +116,11 @@ fn entry_of(account: &EventAccount) -> BookEntry
 }
 
 /// An entry takes the place of the one with its number, or comes last.
-fn put(entries: &mut Vec<BookEntry>, entry: BookEntry)
-    requires { vec_len entries.old < vec_capacity entries.old }
-    ensures items { entries.new.items ≡ put_entry entry entries.old.items }
-    ensures room { (vec_capacity entries.new ≡ vec_capacity entries.old)
-        × (vec_len entries.new ≤ vec_len entries.old + 1) }
+fn put(accounts: &mut IndexMap<u128, Balances>, entry: BookEntry)
+    requires { 0 < spare accounts.old }
+    ensures entries { entries_of accounts.new.entries
+        ≡ put_entry entry (entries_of accounts.old.entries) }
+    ensures room { spare accounts.old ≤ spare accounts.new + 1 }
 {
-    match place_of(entries.as_slice(), entry.id) {
-        Some(place) => entries[place] = entry,
-        None => entries.push_reserved(entry),
-    }
-}
-
-/// Where the entry of this number stands.
-fn place_of(entries: &[BookEntry], id: u128) -> Option<usize>
-    ensures place { result ≡ position_from (λ entry. entry.id == id) 0 entries.now }
-    ensures bound { IfSome result (λ place. place < length entries.now) }
-{
-    entries.iter().position(|entry| entry.id == id)
+    accounts.insert(entry.id, entry.balances).unwrap();
 }

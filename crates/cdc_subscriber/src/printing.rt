@@ -5,7 +5,7 @@ ghost use Rattle.std.specs.Io.KnownBytes.{Appends};
 ghost use Rattle.std.specs.List.{flat_map};
 ghost use Rattle.cdc_subscriber.specs.Lines.{account_line, flagged, named, spaced, subscriber_line};
 
-use crate::book::BookEntry;
+use crate::book::{Book, BookEntry};
 use crate::subscriber::Subscriber;
 use itoa::{Buffer, Integer};
 use std::io;
@@ -29,12 +29,16 @@ pub(crate) fn write_subscriber<W: Write>(
 }
 
 /// The lines of the accounts of a book.
-pub(crate) fn write_accounts<W: Write>(writer: &mut W, entries: &[BookEntry]) -> io::Result<()>
+pub(crate) fn write_accounts<W: Write>(writer: &mut W, book: &Book) -> io::Result<()>
     ensures { OnOk result (Appends (W.contents writer.old) (W.contents writer.new)
-        (flat_map account_line entries.now)) }
+        (flat_map account_line book.now)) }
 {
-    for entry in entries {
-        write_account(writer, entry)?;
+    for (id, balances) in book.accounts() {
+        let entry = BookEntry {
+            id: *id,
+            balances: *balances,
+        };
+        write_account(writer, &entry)?;
     }
     Ok(())
 }

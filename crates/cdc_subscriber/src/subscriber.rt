@@ -162,7 +162,7 @@ impl Subscriber {
             (subscriber_text number self.now)) }
     {
         write_subscriber(writer, number, self)?;
-        write_accounts(writer, self.book.entries())
+        write_accounts(writer, &self.book)
     }
 
     /// What the subscriber answers to everything, once it is closed or has heard the end.

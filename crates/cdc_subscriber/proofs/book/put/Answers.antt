@@ -1,14 +1,10 @@
-use Rattle.std.proofs.Common.{sym, ◌∙◌}
-use Rattle.cdc_subscriber.proofs.BookLemmas.{put_found, put_missing}
+use Rattle.std.proofs.Common.{◌∙◌, ap}
+use Rattle.std.proofs.lemmas.Result.{IfOk-at_ok}
+use Rattle.cdc_subscriber.specs.Book.{entries_of}
+use Rattle.cdc_subscriber.proofs.BookLemmas.{entries_of-insert_entry}
 use Rattle.cdc_subscriber.proofs.book.put.Goals as goal
 
-pub returns-in-Some-clause-items : goal.returns-in-Some-clause-items
-returns-in-Some-clause-items c =
-    put_found _ c.args.entries.now.items _
-    (rw (← c.as_slice.ensures.value) (sym c.place_of.ensures.place ∙ c.in-Some.is))
-
-pub returns-in-None-clause-items : goal.returns-in-None-clause-items
-returns-in-None-clause-items c =
-    c.push_reserved.ensures.items
-    ∙ put_missing _ c.args.entries.now.items
-    (rw (← c.as_slice.ensures.value) (sym c.place_of.ensures.place ∙ c.in-None.is))
+pub returns-clause-entries : goal.returns-clause-entries
+returns-clause-entries c =
+    ap entries_of (IfOk-at_ok _ c.unwrap.ensures c.insert.ensures.entries)
+    ∙ entries_of-insert_entry c.args.accounts.now.entries c.args.entry

@@ -1,17 +1,17 @@
-use Rattle.std.proofs.lemmas.List.{take_all}
+use Rattle.std.proofs.Common.{ap, sym, ◌∙◌}
 use Rattle.std.proofs.KnownBytes.{Appends-nil}
-use Rattle.cdc_subscriber.proofs.LineLemmas.{lines_more}
+use Rattle.cdc_subscriber.specs.Book.{entries_of}
+use Rattle.cdc_subscriber.proofs.LineLemmas.{printed_none, printed_more, printed_all}
 use Rattle.cdc_subscriber.proofs.printing.write_accounts.Goals as goal
 
-pub loop-entry-init : goal.loop-entry-init
-loop-entry-init g c = Appends-nil _
+pub loop-id-init : goal.loop-id-init
+loop-id-init g c =
+    let all = c.accounts-id-items.ensures in
+    printed_none (sym (ap entries_of c.into_iter-id-iterator.ensures.into_iter_gives ∙ all)) (Appends-nil _)
 
-pub loop-entry-preserved : goal.loop-entry-preserved
-loop-entry-preserved g c =
-    lines_more _ _ _ c.args.entries.now c.loop-entry.entry-index c.loop-entry-test.true c.loop-entry.invariant
-    c.in_ok-write_account.ensures
+pub loop-id-preserved : goal.loop-id-preserved
+loop-id-preserved g c =
+    printed_more c.loop-id.invariant c.in-Some.ensures.steps c.in_ok-write_account.ensures
 
 pub returns : goal.returns
-returns g c =
-    let all = take_all c.loop-entry.entry-index c.args.entries.now c.loop-entry-test.false in
-    rw all at c.loop-entry.invariant
+returns g c = printed_all c.loop-id.invariant c.in-None.ensures.steps.0

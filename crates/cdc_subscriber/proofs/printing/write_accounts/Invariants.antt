@@ -1,7 +1,6 @@
-use Rattle.std.specs.Io.KnownBytes.{Appends}
-use Rattle.cdc_subscriber.proofs.LineLemmas.{lines}
+use Rattle.cdc_subscriber.proofs.LineLemmas.{Printed}
 use Rattle.cdc_subscriber.proofs.printing.write_accounts.Given as goal
 
-abbrev pub invariant-loop-entry : goal.invariant-loop-entry
-invariant-loop-entry g l =
-    Appends (g.W.Write.contents l.initial.writer) (g.W.Write.contents l.writer) (lines l.entry-index l.entries)
+abbrev pub invariant-loop-id : goal.invariant-loop-id
+invariant-loop-id g l =
+    Printed l.book l.id-iterator (g.W.Write.contents l.initial.writer) (g.W.Write.contents l.writer)

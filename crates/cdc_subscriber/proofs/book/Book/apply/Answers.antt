@@ -4,5 +4,5 @@ use Rattle.cdc_subscriber.proofs.book.Book.apply.Goals as goal
 
 pub returns-clause-ok : goal.returns-clause-ok
 returns-clause-ok c events is =
-    rw (c.put-2.ensures.items, c.entry_of-2.ensures, c.put.ensures.items, c.entry_of.ensures)
-    (rw (c.in_ok-reserve.ensures.items, c.self.view_is, is) (sym (book_of-push events c.args.event.now)))
+    rw (c.put-2.ensures.entries, c.entry_of-2.ensures, c.put.ensures.entries, c.entry_of.ensures)
+    (rw (c.in_ok-reserve.ensures.entries, c.self.view_is, is) (sym (book_of-push events c.args.event.now)))
