@@ -1,0 +1,22 @@
+# The words of relayplum for bash. Source this file, or put it, under the name relayplum, into the folder
+# bash-completion/completions of ~/.local/share or /usr/share.
+_relayplum() {
+    local word=${COMP_WORDS[COMP_CWORD]} words=''
+    COMPREPLY=()
+    if [ "$COMP_CWORD" = 1 ]; then
+        words='books messages simulate help -h --help -V --version'
+    elif [ "${COMP_WORDS[1]}" = help ]; then
+        words='books messages simulate help'
+    elif [ "${COMP_WORDS[COMP_CWORD - 1]}" = --window ]; then
+        words='1'
+    elif [[ $word == -* ]]; then
+        case ${COMP_WORDS[1]} in
+            books) words='-h --help' ;;
+            messages) words='-h --help' ;;
+            simulate) words='--window -h --help' ;;
+        esac
+    fi
+    # Where there is no such word, files are offered.
+    [ -z "$words" ] || mapfile -t COMPREPLY < <(compgen -W "$words" -- "$word")
+}
+complete -o default -F _relayplum relayplum

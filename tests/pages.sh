@@ -1,0 +1,78 @@
+#!/usr/bin/env bash
+# The page of the manual and the completions beside the program's own help: each command and each flag that the help
+# names stands in each of them, and no other does. Flags are compared command by command but for the page, which has them
+# in one list.
+# Takes the program's path, crates/cdc_app/out/cdc_app where none is given. Prints each check that fails.
+set -uo pipefail
+top=$(cd "$(dirname "${BASH_SOURCE[0]}")/.." && pwd)
+program=$(realpath "${1:-$top/crates/cdc_app/out/cdc_app}")
+page=$top/docs/relayplum.1
+bash_words=$top/completions/relayplum.bash
+zsh_words=$top/completions/_relayplum
+fish_words=$top/completions/relayplum.fish
+failed=0
+checks=0
+
+# Compares two lists of words, in whatever order.
+same() {
+    checks=$((checks + 1))
+    [ "$2" == "$3" ] && return
+    failed=$((failed + 1))
+    printf 'failed: %s\n  the help has: %s\n  this has:     %s\n' "$1" "$(tr '\n' ' ' <<<"$2")" "$(tr '\n' ' ' <<<"$3")"
+}
+
+sorted() { LC_ALL=C sort -u; }
+
+# The flags among some text, each a word of its own.
+flags_in() { grep -oE -- "(^|[^a-zA-Z0-9-])--?[a-zA-Z][a-z-]*" | grep -oE -- '--?[a-zA-Z][a-z-]*' | sorted; }
+
+# What the help of some words has: its commands, and the flags at the beginning of its options.
+commands() { "$program" --help | sed -n '/^Commands:/,/^$/s/^  \([a-z]*\)  .*/\1/p' | sorted; }
+flags() { "$program" "$@" --help | sed -n '/^Options:/,/^$/s/^ *\(-[^ ].*\)/\1/p' | sed 's/  .*//' | flags_in; }
+
+all_commands=$(commands)
+with_flags=$(grep -v '^help$' <<<"$all_commands")
+all_flags=$({ flags; for command in $with_flags; do flags "$command"; done; } | sorted)
+
+# The page: its lists of commands and of options, and what else it says of flags.
+part() { sed -n "/^\.SH $1\$/,/^\.SH/p" "$page" | sed 's/\\-/-/g'; }
+same 'the page: commands' "$all_commands" "$(part COMMANDS | grep -A 1 '^\.TP' | sed -n 's/^\.BR \([a-z]*\) .*/\1/p' | sorted)"
+same 'the page: synopsis' "$all_commands" "$(part SYNOPSIS | sed -n 's/^\.B relayplum \([a-z]*\).*/\1/p' | sorted)"
+same 'the page: options' "$all_flags" "$(part OPTIONS | grep -A 1 '^\.TP' | grep '^\.BR' | flags_in)"
+same 'the page: flags anywhere' "$all_flags" "$(sed 's/\\-/-/g' "$page" | flags_in)"
+
+# bash: what is offered, by the function itself.
+. "$bash_words"
+offered() {
+    COMP_WORDS=(relayplum "$@")
+    COMP_CWORD=$#
+    _relayplum
+    printf '%s\n' "${COMPREPLY[@]}" | sorted
+}
+same 'bash: the first word' "$({ commands; flags; } | sorted)" "$(offered '')"
+same 'bash: help' "$all_commands" "$(offered help '')"
+for command in $with_flags; do
+    same "bash: $command" "$(flags "$command")" "$(offered "$command" -)"
+    same "bash: $command, a file" '' "$(offered "$command" '')"
+done
+
+# zsh: what its file says, command by command; the list `help` is part of each.
+zsh_help=$(sed -n '/^    help=/p' "$zsh_words" | flags_in)
+same 'zsh: commands' "$all_commands" "$(sed -n "/^    commands=(/,/^    )/s/^ *'\([a-z]*\):.*/\1/p" "$zsh_words" | sorted)"
+same 'zsh: the first word' "$(flags)" "$({ echo "$zsh_help"; grep -- '--version' "$zsh_words" | flags_in; } | sorted)"
+for command in $with_flags; do
+    found=$(sed -n "/^        ($command)\$/,/;;/p" "$zsh_words")
+    same "zsh: $command" "$(flags "$command")" "$({ grep -q '\$help' <<<"$found" && echo "$zsh_help"; flags_in <<<"$found"; } | sorted)"
+done
+
+# fish: the same, a line for each word; those that aren't of a command are of all of them.
+fish_flags() { sed -nE 's/.* -s ([a-zA-Z]) -l ([a-z-]+) .*/-\1 --\2/p; s/.*'"'"' -l ([a-z-]+) .*/--\1/p' | tr ' ' '\n' | sorted; }
+same 'fish: commands' "$all_commands" "$(sed -n 's/.*-n __fish_use_subcommand -f -a \([a-z]*\) .*/\1/p' "$fish_words" | sorted)"
+same 'fish: the first word' "$(flags)" "$(grep -e '-n __fish_use_subcommand' -e "-n 'not " "$fish_words" | fish_flags)"
+for command in $with_flags; do
+    same "fish: $command" "$(flags "$command")" \
+        "$(grep -e "'__fish_seen_subcommand_from [a-z ]*\b$command\b" -e "-n 'not " "$fish_words" | fish_flags)"
+done
+
+echo "pages: $checks checks, $failed failed"
+[ "$failed" == 0 ]
