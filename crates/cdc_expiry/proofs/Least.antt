@@ -1,56 +1,85 @@
--- What a run's least item is of the list that the run gave.
-use Rattle.std.proofs.Common.{◌≡◌, ◌<◌, true, false, List, [], ◌∷◌, length, Option, Some, None, option_map, refl, sym, ap, ◌∙◌, subst, arith}
-use Rattle.std.specs.Iterator.Runs.{Run, AnyItem, AllItems}
-use Rattle.std.specs.Option.{MatchOption, IfSome, IsSomeAnd}
-use Rattle.std.specs.Ordering.{is_le, is_lt, ordering_reverse}
+-- The least triple of those that are due: where any is, it is the first of a list in order.
+use Rattle.std.proofs.Common.{◌≡◌, ℕ, suc, ◌<◌, Bool, true, false, ◌&&◌, ◌||◌, ◌==◌, nat_lt, cond, List, [], ◌∷◌, length, filter, get_or, slice_get, Some, None, refl, sym, ◌∙◌, subst, arith}
+use Rattle.std.specs.Bool.{then_some}
+use Rattle.std.specs.List.{All}
+use Rattle.std.specs.Ordering.{is_le, nat_cmp, ordering_reverse, ordering_then}
 use Rattle.std.specs.declared.cmp.Ordering.{Ordering}
 use Rattle.std.specs.declared.cmp.Ordering.TheVariants.{Less, Equal, Greater}
+use Rattle.std.proofs.lemmas.Bool.{true≢false}
+use Rattle.std.proofs.lemmas.Bool.Decides.{nat_tests}
+use Rattle.std.proofs.lemmas.List.Elements.{All-cons, All-filter, All-head, All-tail}
 use Rattle.cdc_expiry.specs.declared.triple.Triple.{Triple}
-use Rattle.cdc_expiry.specs.Triples.{triple_cmp}
+use Rattle.cdc_expiry.specs.Triples.{is_before, is_due, InOrder, triple_cmp}
 use Rattle.cdc_expiry.proofs.Lists.{IsLeastOf}
 use Rattle.cdc_expiry.proofs.Order.{triple_cmp_total}
 
--- a comparison that doesn't say less says less or equal from the other side
-turned : (there back : Ordering) → back ≡ ordering_reverse there → is_lt there ≡ false → is_le back ≡ true
-turned Less back is later = cc
-turned Equal back is later = ap is_le is
-turned Greater back is later = ap is_le is
+-- a comparison that says the same from both sides doesn't say greater
+same_both_ways : (o : Ordering) → o ≡ ordering_reverse o → is_le o ≡ true
+same_both_ways Less same = refl
+same_both_ways Equal same = refl
+same_both_ways Greater same = cc
 
--- so a triple that isn't before m is at or after it
-at_or_after : (m x : Triple) → is_lt (triple_cmp x m) ≡ false → is_le (triple_cmp m x) ≡ true
-at_or_after m x later = turned (triple_cmp x m) (triple_cmp m x) (triple_cmp_total.antisymm m x) later
+-- a triple isn't greater than itself
+not_greater : (x : Triple) → is_le (triple_cmp x x) ≡ true
+not_greater x = same_both_ways (triple_cmp x x) (triple_cmp_total.antisymm x x)
 
--- what holds of the item that is read
-read_and : (P : Triple → Type 0) (item : Option Triple) (x : Triple) → option_map (λ y. y) item ≡ Some x
-    → IsSomeAnd item P → P x
-read_and P None x is holds = absurd holds
-read_and P (Some y) x is holds = let same : y ≡ x = cc in subst P same holds
+-- what comes before a triple is less
+less : (x y : Triple) → is_before y.expires_at y.timestamp x ≡ true → is_le (triple_cmp x y) ≡ true
+less x y before =
+    let later = nat_cmp x.slot y.slot in
+    elim (nat_lt x.expires_at y.expires_at) as (λ b. (b || ((x.expires_at == y.expires_at) && nat_lt x.timestamp y.timestamp))
+    ≡ true → is_le (ordering_then (cond b Less (cond (x.expires_at == y.expires_at) Equal Greater))
+    (ordering_then (nat_cmp x.timestamp y.timestamp) later)) ≡ true) [
+      | true ↦ λ _. refl
+      | false ↦ elim (x.expires_at == y.expires_at) as (λ b. (b && nat_lt x.timestamp y.timestamp) ≡ true
+          → is_le (ordering_then (cond b Equal Greater) (ordering_then (nat_cmp x.timestamp y.timestamp) later)) ≡ true) [
+            | true ↦ elim (nat_lt x.timestamp y.timestamp) as (λ b. b ≡ true
+                → is_le (ordering_then (cond b Less (cond (x.timestamp == y.timestamp) Equal Greater)) later) ≡ true) [
+                  | true ↦ λ _. refl
+                  | false ↦ λ never. absurd (true≢false (sym never))
+                ]
+            | false ↦ λ never. absurd (true≢false (sym never))
+          ]
+    ] before
 
--- the same of what holds of every item that there is
-read_if : (P : Triple → Type 0) (item : Option Triple) (x : Triple) → option_map (λ y. y) item ≡ Some x
-    → IfSome item P → P x
-read_if P None x is holds = let never : ⊥ = cc in absurd never
-read_if P (Some y) x is holds = let same : y ≡ x = cc in subst P same holds
+-- what a triple that isn't due comes before isn't due
+later_not_due : (now : ℕ) (x y : Triple) → is_before y.expires_at y.timestamp x ≡ true → is_due now x ≡ false
+    → is_due now y ≡ false
+later_not_due now x y before not_due = grind (arith, nat_tests)
 
--- a run that gave no item went over an empty list, of which no triple is the least
-no_items : (xs : List Triple) → length xs ≡ 0 → xs ≡ []
-no_items [] none = refl
-no_items (x ∷ xs) none = absurd (omega arith)
+-- where no triple passes, none is left
+none_left : (p : Triple → Bool) (xs : List Triple) → All (λ x. p x ≡ false) xs → filter p xs ≡ []
+none_left p [] none = refl
+none_left p (x ∷ xs) none =
+    (λ i. cond (All-head (λ x. p x ≡ false) x xs none i) (x ∷ filter p xs) (filter p xs))
+    ∙ none_left p xs (All-tail (λ x. p x ≡ false) x xs none)
 
--- the least item of a run over the list's triples is the list's least
-pub IsLeastOf-run : {S : Type 0} {steps : S → Option Triple → S → Type 0}
-    (p : Run steps) (xs : List Triple) (answer : Option Triple) → p.items ≡ xs
-    → MatchOption answer (p.len ≡ 0) (λ m. AnyItem p (λ x. x ≡ m) × AllItems p (λ x. is_lt (triple_cmp x m) ≡ false))
-    → IsLeastOf xs answer
-IsLeastOf-run p xs None gave none = no_items xs (sym (ap length gave) ∙ sym p.long ∙ none)
-IsLeastOf-run p xs (Some m) gave least =
-    subst (λ ys. IsLeastOf ys (Some m)) gave (
-      (
-        least.0.0,
-        subst (λ n. least.0.0 < n) p.long least.0.1,
-        read_and (λ x. x ≡ m) (p.at least.0.0) _ (p.reads least.0.0 m least.0.1) least.0.2,
-      ),
-      λ k d within. at_or_after m _
-          (read_if (λ x. is_lt (triple_cmp x m) ≡ false) (p.at k) _
-          (p.reads k d (subst (λ n. k < n) (sym p.long) within)) (least.1 k)),
-    )
+-- the first triple is the least that is due, or none is
+least_due : (now : ℕ) (x : Triple) (xs : List Triple) → InOrder (x ∷ xs)
+    → IsLeastOf (filter (is_due now) (x ∷ xs)) (then_some (is_due now x) x)
+least_due now x xs ordered =
+    let before = λ (k : ℕ) (d : Triple) (within : k < length xs). ordered 0 (suc k) d (omega arith) (omega arith) in
+    elim (is_due now x) as (λ b. is_due now x ≡ b
+    → IsLeastOf (cond b (x ∷ filter (is_due now) xs) (filter (is_due now) xs)) (then_some b x)) [
+      | true ↦ λ _. (
+        (0, omega arith, refl),
+        All-cons (λ y. is_le (triple_cmp x y) ≡ true) x (filter (is_due now) xs) (not_greater x)
+            (All-filter (is_due now) (λ y. is_le (triple_cmp x y) ≡ true) xs
+            (λ k d within. less x (get_or xs k d) (before k d within))),
+      )
+      | false ↦ λ not_due. none_left (is_due now) xs
+          (λ k d within. later_not_due now x (get_or xs k d) (before k d within) not_due)
+    ] refl
+
+-- so `due` reads the front
+pub IsLeastOf-first : (now : ℕ) (xs : List Triple) (x : Triple) → InOrder xs → slice_get xs 0 ≡ Some x
+    → IsLeastOf (filter (is_due now) xs) (then_some (is_due now x) x)
+IsLeastOf-first now [] x ordered first = let never : ⊥ = cc in absurd never
+IsLeastOf-first now (y ∷ xs) x ordered first =
+    let same : y ≡ x = cc in
+    subst (λ z. IsLeastOf (filter (is_due now) (y ∷ xs)) (then_some (is_due now z) z)) same (least_due now y xs ordered)
+
+-- and an index without a front has no triple
+pub IsLeastOf-none : (now : ℕ) (xs : List Triple) → slice_get xs 0 ≡ None → IsLeastOf (filter (is_due now) xs) None
+IsLeastOf-none now [] first = refl
+IsLeastOf-none now (y ∷ xs) first = let never : ⊥ = cc in absurd never

@@ -1,4 +1,5 @@
 pub mod Apart
+pub mod InOrder
 pub mod Least
 pub mod Lists
 pub mod Order

@@ -1,8 +1,8 @@
 -- Sets of triples: what contracts see of the index.
-use Rattle.std.specs.Prelude.{◌≡◌, ◌≢◌, ℕ, Bool, true, not, ◌&&◌, ◌==◌, nat_le, List, [], ◌∷◌, Option, MatchOption, refl}
+use Rattle.std.specs.Prelude.{◌≡◌, ◌≢◌, ℕ, ◌<◌, ◌≤◌, Bool, true, false, not, ◌&&◌, ◌||◌, ◌==◌, nat_le, nat_lt, List, [], ◌∷◌, length, Option, MatchOption, refl}
 use Rattle.std.specs.Coded.{Coded, code_by, coded×, coded_ℕ}
 use Rattle.std.specs.FinSet as set
-use Rattle.std.specs.List.{All}
+use Rattle.std.specs.List.{All, AllPairs, HoldsAt}
 use Rattle.std.specs.declared.cmp.Ordering.{Ordering}
 use Rattle.std.specs.Ordering.{is_le, nat_cmp, ordering_then}
 use Rattle.cdc_expiry.specs.declared.triple.Triple.{Triple}
@@ -62,6 +62,26 @@ TimestampsAreUnique s =
 abbrev pub TimestampsDiffer : List Triple → Type 0
 TimestampsDiffer [] = Unit {0}
 TimestampsDiffer (x ∷ xs) = All (λ y. y.timestamp ≢ x.timestamp) xs × TimestampsDiffer xs
+
+-- the triple comes before this end and this timestamp
+abbrev pub is_before : ℕ → ℕ → Triple → Bool
+is_before e t x = nat_lt x.expires_at e || ((x.expires_at == e) && nat_lt x.timestamp t)
+
+-- each triple comes before all that stand behind it
+abbrev pub InOrder : List Triple → Type 0
+InOrder xs = AllPairs (λ x y. is_before y.expires_at y.timestamp x ≡ true) xs
+
+-- the answer is a place where a triple has this end and this timestamp, or None where none of the list has them
+abbrev pub IsFound : List Triple → ℕ → ℕ → Option ℕ → Type 0
+IsFound xs e t answer = MatchOption answer (All (λ x. has_numbers e t x ≡ false) xs)
+    (λ i. (i < length xs) × HoldsAt (λ x. has_numbers e t x ≡ true) xs i)
+
+-- the list is in order, its timestamps differ, and there is the room that was made for so many triples
+pub record IsKept (xs : List Triple) (made capacity : ℕ) : Type 0 where
+  pub in_order : InOrder xs
+  pub apart : TimestampsDiffer xs
+  pub fits : length xs ≤ made
+  pub backed : made ≤ capacity
 
 -- a triple is stored as its three numbers
 abbrev pub triple_code : Coded Triple

@@ -1,25 +1,31 @@
 //! The index itself.
 
-ghost use Rattle.std.specs.Prelude.{◌≡◌};
-ghost use Rattle.std.specs.List.{position};
-ghost use Rattle.cdc_expiry.specs.Triples.{has_numbers};
+ghost use Rattle.std.specs.Prelude.{◌≡◌, ◌≤◌, true, false, slice_get};
+ghost use Rattle.std.specs.List.Sorted.{IsPartitionPoint};
+ghost use Rattle.std.specs.VecDeque.{deque_len};
+ghost use Rattle.cdc_expiry.specs.Triples.{has_numbers, is_before, InOrder, IsFound};
 
 use crate::triple::Triple;
 use std::alloc::{AllocError, Global};
+use std::collections::VecDeque;
 use std::marker::Model;
 
 /// The triples of the pending transfers that may still come to their end (TigerBeetle, Two-Phase Transfers, `timeout`).
 /// A clause sees the set of them, and for how many more there is room.
 #[derive(Drop)]
 pub struct DueIndex {
-    triples: Vec<Triple>,
+    /// In their order, the least first. They stand in a ring, since most of them come at its back and leave at its
+    /// front, where nothing has to move.
+    triples: VecDeque<Triple>,
+    /// For how many triples room was made, those that are there counted in. The ring has no less.
+    capacity: usize,
 }
 
 impl Model for DueIndex {
     ghost use Rattle.std.specs.Prelude.{◌-◌};
-    ghost use Rattle.std.specs.Vec.{vec_len, vec_capacity};
+    ghost use Rattle.std.specs.VecDeque.{deque_len, deque_capacity};
     ghost use Rattle.std.specs.FinSet as set;
-    ghost use Rattle.cdc_expiry.specs.Triples.{Index, index_code, TimestampsDiffer};
+    ghost use Rattle.cdc_expiry.specs.Triples.{Index, index_code, IsKept};
 
     ghost Value = { Index };
 
@@ -27,10 +33,11 @@ impl Model for DueIndex {
 
     ghost view = { λ index. record {
       triples = set.from_list index.triples.items;
-      room = vec_capacity index.triples - vec_len index.triples;
+      room = index.capacity - deque_len index.triples;
     } };
 
-    ghost invariant = { λ index. TimestampsDiffer index.triples.items };
+    ghost invariant = { λ index.
+        IsKept index.triples.items index.capacity (deque_capacity index.triples) };
 }
 
 impl DueIndex {
@@ -43,7 +50,8 @@ impl DueIndex {
         ensures { result.triples ≡ set.empty }
     {
         DueIndex {
-            triples: Vec::new(alloc),
+            triples: VecDeque::new(alloc),
+            capacity: 0,
         }
     }
 
@@ -55,14 +63,16 @@ impl DueIndex {
         ensures kept { self.old.room ≤ self.new.room }
         ensures refused { OnErr result (self.old.room < additional) }
     {
-        self.triples.reserve(additional)
+        self.triples.reserve(additional)?;
+        self.capacity = self.triples.capacity();
+        Ok(())
     }
 
     /// For how many more triples there is room.
     pub fn room(&self) -> usize
         ensures { result ≡ self.now.room }
     {
-        self.triples.capacity() - self.triples.len()
+        self.capacity - self.triples.len()
     }
 
     /// Adds a triple with a timestamp that no other has, which can't fail where there is room for it.
@@ -72,7 +82,9 @@ impl DueIndex {
         ensures triples { self.new.triples ≡ set.insert self.old.triples triple }
         ensures room { self.new.room + 1 ≡ self.old.room }
     {
-        self.triples.push_reserved(triple);
+        let place = place_of(&self.triples, triple.expires_at, triple.timestamp);
+        // There is room, so it can't be refused.
+        let _added = self.triples.insert(place, triple);
     }
 
     /// Takes out the triple with this end and this timestamp, gives its room back and answers true; answers false,
@@ -82,9 +94,9 @@ impl DueIndex {
         ensures triples { self.new.triples ≡ without self.old.triples expires_at timestamp }
         ensures room { self.new.room ≡ self.old.room + (if result then 1 else 0) }
     {
-        match place_of(&self.triples, expires_at, timestamp) {
+        match find(&self.triples, expires_at, timestamp) {
             Some(place) => {
-                self.triples.swap_remove(place);
+                let _taken = self.triples.remove(place);
                 true
             }
             None => false,
@@ -96,11 +108,8 @@ impl DueIndex {
     pub fn due(&self, now: u64) -> Option<Triple>
         ensures { IsLeast (due_at self.now.triples now) result }
     {
-        self.triples
-            .iter()
-            .copied()
-            .filter(|triple| triple.expires_at <= now)
-            .min()
+        let first = first(&self.triples)?;
+        (first.expires_at <= now).then_some(first)
     }
 
     /// How many triples have their end at or before `now`.
@@ -108,9 +117,7 @@ impl DueIndex {
         ensures { result ≡ set.len (due_at self.now.triples now) }
     {
         self.triples
-            .iter()
-            .filter(|triple| triple.expires_at <= now)
-            .count()
+            .partition_point(|triple| triple.expires_at <= now)
     }
 
     /// How many triples there are. No two of them have the same timestamp.
@@ -129,10 +136,44 @@ impl DueIndex {
     }
 }
 
-// The first place with this end and this timestamp.
-fn place_of(triples: &[Triple], expires_at: u64, timestamp: u64) -> Option<usize>
-    ensures { result ≡ position (has_numbers expires_at timestamp) triples.now }
+// The first of the triples.
+fn first(triples: &VecDeque<Triple>) -> Option<Triple>
+    ensures { result ≡ slice_get triples.now.items 0 }
 {
-    triples.iter().position(|triple| triple.expires_at == expires_at
-        && triple.timestamp == timestamp)
+    triples.front().copied()
+}
+
+// Whether the triple has this end and this timestamp.
+fn is_of(triple: &Triple, expires_at: u64, timestamp: u64) -> bool
+    ensures { result ≡ has_numbers expires_at timestamp triple.now }
+{
+    triple.expires_at == expires_at && triple.timestamp == timestamp
+}
+
+// Whether the triple comes before this end and this timestamp.
+fn comes_before(triple: &Triple, expires_at: u64, timestamp: u64) -> bool
+    ensures { result ≡ is_before expires_at timestamp triple.now }
+{
+    triple.expires_at < expires_at
+        || (triple.expires_at == expires_at && triple.timestamp < timestamp)
+}
+
+// How many of the triples come before this end and this timestamp.
+fn place_of(triples: &VecDeque<Triple>, expires_at: u64, timestamp: u64) -> usize
+    requires { InOrder triples.now.items }
+    ensures bound { result ≤ deque_len triples.now }
+    ensures parts { IsPartitionPoint (λ x. is_before expires_at timestamp x ≡ true)
+        (λ x. is_before expires_at timestamp x ≡ false) triples.now.items result }
+{
+    triples.partition_point(|triple| comes_before(triple, expires_at, timestamp))
+}
+
+// The place of the triple with this end and this timestamp.
+fn find(triples: &VecDeque<Triple>, expires_at: u64, timestamp: u64) -> Option<usize>
+    requires { InOrder triples.now.items }
+    ensures { IsFound triples.now.items expires_at timestamp result }
+{
+    let place = place_of(triples, expires_at, timestamp);
+    let triple = triples.get(place)?;
+    is_of(triple, expires_at, timestamp).then_some(place)
 }

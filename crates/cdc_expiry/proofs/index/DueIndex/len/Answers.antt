@@ -8,9 +8,10 @@ pub returns-clause-count : goal.returns-clause-count
 returns-clause-count c =
     c.len.ensures
     ∙ c.self.inside.triples.ok.0
-    ∙ sym (len-set_of _ c.self.invariant)
+    ∙ sym (len-set_of _ c.self.invariant.apart)
     ∙ ap (λ (i : Index). len i.triples) c.self.view_is
 
 pub returns-clause-unique : goal.returns-clause-unique
 returns-clause-unique c =
-    subst (λ (i : Index). TimestampsAreUnique i.triples) c.self.view_is (TimestampsAreUnique-set_of _ c.self.invariant)
+    subst (λ (i : Index). TimestampsAreUnique i.triples) c.self.view_is
+    (TimestampsAreUnique-set_of _ c.self.invariant.apart)
