@@ -9,5 +9,6 @@ pub mod ReplayExamples
 pub mod ReplayLaws
 pub mod RisesLaws
 pub mod Same
+pub mod Sent
 pub mod Texts
 pub mod Utf8

@@ -10,5 +10,6 @@ pub mod Laws
 pub mod Messages
 pub mod Reading
 pub mod Replays
+pub mod Sending
 pub mod Values
 pub mod Widths

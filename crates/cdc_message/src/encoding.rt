@@ -1,85 +1,131 @@
 //! The JSON text of an event.
 
 ghost use Rattle.std.specs.Prelude.{◌≡◌, ◌<◌, ◌^◌, IfOk, OnOk, string_bytes};
-ghost use Rattle.serde_json.specs.View.{view};
+ghost use Rattle.serde_json.specs.Events.{SendsValue};
 ghost use Rattle.cdc_message.specs.Bodies.{body};
 ghost use Rattle.cdc_message.specs.Laws.{BodiesReadBack};
 ghost use Rattle.cdc_message.specs.Reading.{read};
+ghost use Rattle.cdc_message.specs.Sending.{SendsEvent, SendsMember};
 ghost use Rattle.cdc_message.specs.Values as value;
 ghost use Rattle.cdc_message.specs.Widths.{TransferFits, AccountFits, EventFits};
 
 use crate::kinds::kind_text;
 use cdc_types::{Event, EventAccount, EventTransfer};
 use itoa::Buffer;
-use serde_json::{Value, json};
+use serde::{Described, Serialize, Serializer};
+use serde_json::to_string;
 use std::alloc::{AllocError, Global};
 
-// A number of 128 bits as a decimal string.
-fn decimal_128(alloc: Global, number: u128) -> Result<Value, AllocError>
-    ensures value { IfOk result (λ v. view v ≡ value.wide number) }
+// An event, to be written as its JSON value: the members of every object in the ascending order of their names.
+#[derive(Drop)]
+struct Body<'a> {
+    event: &'a Event,
+}
+
+impl Described for Body<'_> {
+    ghost writes = { λ body. SendsEvent body.event.now };
+}
+
+impl Serialize for Body<'_> {
+    fn serialize<S: Serializer>(&self, out: &mut S) -> Result<(), S::Error> {
+        send_event(out, self.event)
+    }
+}
+
+// A number of 128 bits, as a decimal string.
+fn send_128<S: Serializer>(out: &mut S, name: &str, number: u128) -> Result<(), S::Error>
+    ensures sends { OnOk result
+        (SendsMember name.now (value.wide number) (S.written out.old) (S.written out.new)) }
     ensures fits { number < 2 ^ 128 }
 {
-    Value::try_from_str(alloc, Buffer::new().format(number))
+    out.key(name)?;
+    out.str(Buffer::new().format(number))
 }
 
-// A number of 64 bits as a decimal string.
-fn decimal_64(alloc: Global, number: u64) -> Result<Value, AllocError>
-    ensures value { IfOk result (λ v. view v ≡ value.wide number) }
+// A number of 64 bits, as a decimal string.
+fn send_64<S: Serializer>(out: &mut S, name: &str, number: u64) -> Result<(), S::Error>
+    ensures sends { OnOk result
+        (SendsMember name.now (value.wide number) (S.written out.old) (S.written out.new)) }
     ensures fits { number < 2 ^ 64 }
 {
-    Value::try_from_str(alloc, Buffer::new().format(number))
+    out.key(name)?;
+    out.str(Buffer::new().format(number))
 }
 
-// The JSON crate keeps members in the order of their names, whatever the order in which they are put in.
-fn account_value(alloc: Global, account: &EventAccount) -> Result<Value, AllocError>
-    ensures value { IfOk result (λ v. view v ≡ value.account_value account.now) }
+// A number of 32 bits.
+fn send_32<S: Serializer>(out: &mut S, name: &str, number: u32) -> Result<(), S::Error>
+    ensures sends { OnOk result
+        (SendsMember name.now (value.narrow number) (S.written out.old) (S.written out.new)) }
+    ensures fits { number < 2 ^ 32 }
+{
+    out.key(name)?;
+    out.u64(u64::from(number))
+}
+
+// A number of 16 bits.
+fn send_16<S: Serializer>(out: &mut S, name: &str, number: u16) -> Result<(), S::Error>
+    ensures sends { OnOk result
+        (SendsMember name.now (value.narrow number) (S.written out.old) (S.written out.new)) }
+    ensures fits { number < 2 ^ 16 }
+{
+    out.key(name)?;
+    out.u64(u64::from(number))
+}
+
+fn send_account<S: Serializer>(out: &mut S, account: &EventAccount) -> Result<(), S::Error>
+    ensures sends { OnOk result
+        (SendsValue (value.account_value account.now) (S.written out.old) (S.written out.new)) }
     ensures fits { OnOk result (AccountFits account.now) }
 {
-    json!(in alloc; {
-        "code": account.code,
-        "flags": account.flags,
-        "user_data_32": account.user_data_32,
-        "credits_pending": decimal_128(alloc, account.credits_pending)?,
-        "credits_posted": decimal_128(alloc, account.credits_posted)?,
-        "debits_pending": decimal_128(alloc, account.debits_pending)?,
-        "debits_posted": decimal_128(alloc, account.debits_posted)?,
-        "id": decimal_128(alloc, account.id)?,
-        "timestamp": decimal_64(alloc, account.timestamp)?,
-        "user_data_128": decimal_128(alloc, account.user_data_128)?,
-        "user_data_64": decimal_64(alloc, account.user_data_64)?
-    })
+    out.begin_map(Some(11))?;
+    send_16(out, "code", account.code)?;
+    send_128(out, "credits_pending", account.credits_pending)?;
+    send_128(out, "credits_posted", account.credits_posted)?;
+    send_128(out, "debits_pending", account.debits_pending)?;
+    send_128(out, "debits_posted", account.debits_posted)?;
+    send_16(out, "flags", account.flags)?;
+    send_128(out, "id", account.id)?;
+    send_64(out, "timestamp", account.timestamp)?;
+    send_128(out, "user_data_128", account.user_data_128)?;
+    send_32(out, "user_data_32", account.user_data_32)?;
+    send_64(out, "user_data_64", account.user_data_64)?;
+    out.end_map()
 }
 
-fn transfer_value(alloc: Global, transfer: &EventTransfer) -> Result<Value, AllocError>
-    ensures value { IfOk result (λ v. view v ≡ value.transfer_value transfer.now) }
+fn send_transfer<S: Serializer>(out: &mut S, transfer: &EventTransfer) -> Result<(), S::Error>
+    ensures sends { OnOk result
+        (SendsValue (value.transfer_value transfer.now) (S.written out.old) (S.written out.new)) }
     ensures fits { OnOk result (TransferFits transfer.now) }
 {
-    json!(in alloc; {
-        "code": transfer.code,
-        "flags": transfer.flags,
-        "timeout": transfer.timeout,
-        "user_data_32": transfer.user_data_32,
-        "amount": decimal_128(alloc, transfer.amount)?,
-        "id": decimal_128(alloc, transfer.id)?,
-        "pending_id": decimal_128(alloc, transfer.pending_id)?,
-        "timestamp": decimal_64(alloc, transfer.timestamp)?,
-        "user_data_128": decimal_128(alloc, transfer.user_data_128)?,
-        "user_data_64": decimal_64(alloc, transfer.user_data_64)?
-    })
+    out.begin_map(Some(10))?;
+    send_128(out, "amount", transfer.amount)?;
+    send_16(out, "code", transfer.code)?;
+    send_16(out, "flags", transfer.flags)?;
+    send_128(out, "id", transfer.id)?;
+    send_128(out, "pending_id", transfer.pending_id)?;
+    send_32(out, "timeout", transfer.timeout)?;
+    send_64(out, "timestamp", transfer.timestamp)?;
+    send_128(out, "user_data_128", transfer.user_data_128)?;
+    send_32(out, "user_data_32", transfer.user_data_32)?;
+    send_64(out, "user_data_64", transfer.user_data_64)?;
+    out.end_map()
 }
 
-fn event_value(alloc: Global, event: &Event) -> Result<Value, AllocError>
-    ensures value { IfOk result (λ v. view v ≡ value.event_value event.now) }
-    ensures fits { OnOk result (EventFits event.now) }
+fn send_event<S: Serializer>(out: &mut S, event: &Event) -> Result<(), S::Error>
+    ensures { OnOk result (SendsEvent event.now (S.written out.old) (S.written out.new)) }
 {
-    json!(in alloc; {
-        "ledger": event.ledger,
-        "timestamp": decimal_64(alloc, event.timestamp)?,
-        "transfer": transfer_value(alloc, &event.transfer)?,
-        "debit_account": account_value(alloc, &event.debit_account)?,
-        "credit_account": account_value(alloc, &event.credit_account)?,
-        "type": kind_text(event.kind)
-    })
+    out.begin_map(Some(6))?;
+    out.key("credit_account")?;
+    send_account(out, &event.credit_account)?;
+    out.key("debit_account")?;
+    send_account(out, &event.debit_account)?;
+    send_32(out, "ledger", event.ledger)?;
+    send_64(out, "timestamp", event.timestamp)?;
+    out.key("transfer")?;
+    send_transfer(out, &event.transfer)?;
+    out.key("type")?;
+    out.str(kind_text(event.kind))?;
+    out.end_map()
 }
 
 /// The JSON text of an event, without white space and with the members of every object in the ascending order of
@@ -90,5 +136,6 @@ pub fn encode(alloc: Global, event: &Event) -> Result<String, AllocError>
     // Of every event, and not of this one alone.
     ensures law { BodiesReadBack }
 {
-    event_value(alloc, event)?.to_string(alloc)
+    // Members that come in order leave the writer nothing to lack but memory.
+    to_string(alloc, &Body { event }).or(Err(AllocError))
 }
