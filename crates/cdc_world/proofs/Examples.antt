@@ -1,20 +1,25 @@
 -- The definitions at work: what runs of a few steps make of small worlds, beside what the rules say in words.
-use Rattle.std.specs.Prelude.{ℕ, ◌≡◌, true, false, Option, Some, None, List, [], ◌∷◌, ◌++◌, map}
-use Rattle.std.proofs.Common.{refl}
+use Rattle.std.specs.Prelude.{ℕ, ◌≡◌, true, false, Option, Some, None, Ok, Err, List, [], ◌∷◌, ◌++◌, map}
+use Rattle.std.proofs.Common.{refl, inl, inr, arith}
 use Rattle.cdc_types.specs.declared.accounts.NewAccount.{NewAccount}
 use Rattle.cdc_types.specs.declared.batches.Batch.TheVariants as batch
 use Rattle.cdc_types.specs.declared.transfers.NewTransfer.{NewTransfer}
 use Rattle.cdc_ledger.specs.declared.errors.BatchError.TheVariants.{LedgerClosed}
 use Rattle.cdc_match.specs.declared.pairs.Mode.TheVariants.{All}
 use Rattle.cdc_progress.specs.Records.{Saved}
+use Rattle.cdc_progress.specs.declared.errors.StoreError.TheVariants.{WriteFault}
+use Rattle.cdc_publisher.specs.Courses.{new_course}
 use Rattle.cdc_subscriber.specs.declared.book.BookEntry.{BookEntry}
 use Rattle.cdc_subscriber.specs.Heard.{kept_of}
 use Rattle.cdc_subscriber.specs.Kept.{Kept}
 use Rattle.cdc_types.specs.declared.steps.Step.{Step}
 use Rattle.cdc_types.specs.declared.steps.Step.TheVariants.{Submit, CloseLedger, Start, Crash, Poll, Publish, Arrive, Answer, Save, Send, Rewind, Break, Take, Ack, Close}
+use Rattle.cdc_world.specs.declared.steps.Did.TheVariants.{Done}
 use Rattle.cdc_world.specs.declared.steps.StepError.{StepError}
-use Rattle.cdc_world.specs.declared.steps.StepError.TheVariants.{NotEnabled, Refused, SessionsExhausted}
+use Rattle.cdc_world.specs.declared.steps.StepError.TheVariants.{NotEnabled, Refused, SessionsExhausted, Store}
+use Rattle.cdc_world.specs.Next.{Next}
 use Rattle.cdc_world.specs.Runs.{Run, run_of}
+use Rattle.cdc_world.specs.Tries.{NextPast}
 use Rattle.cdc_world.specs.Worlds.{WorldState, new_world}
 
 -- one subscriber, of every event, and a session that waits for one event at a time
@@ -233,3 +238,64 @@ lifts_cursor : shown (run_of start broken_off) ≡ (
   record { book = moved 12; last = 2001; applied = 2; ended = false; closed = false } ∷ [],
 )
 lifts_cursor = refl
+
+-- ---- steps that are tried again
+
+-- the world in which this is held
+abbrev holding : ℕ → WorldState
+holding session = record start { held = Some (record { session = session; timestamp = 0 }) }
+
+-- and in which the session of this number has just started
+abbrev running : ℕ → WorldState
+running session = record (holding session) { session = Some (new_course (record { session = session; timestamp = 0 }) 1) }
+
+-- the save of a first start fails, and the store holds the new record, or the old one
+fails_with_new : Next start Start (Err (Store WriteFault)) (holding 1)
+fails_with_new = (refl, (tt, (record { session = 1; timestamp = 0 }, refl, inr refl)))
+
+fails_with_old : Next start Start (Err (Store WriteFault)) start
+fails_with_old = (refl, (tt, (record { session = 1; timestamp = 0 }, refl, inl refl)))
+
+-- it is refused where it isn't tried again
+start_refused : NextPast 0 start Start (Err (Store WriteFault)) (holding 1)
+start_refused = record {
+  failed = 0;
+  within = omega arith;
+  before = start;
+  fails = refl;
+  last = fails_with_new;
+  spent = λ passing. refl;
+}
+
+-- tried once more it starts the session after the one that is held: the second where the new record was kept, ..
+start_after_new : NextPast 1 start Start (Ok Done) (running 2)
+start_after_new = record {
+  failed = 1;
+  within = omega arith;
+  before = holding 1;
+  fails = (Err (Store WriteFault), start, (refl, (refl, fails_with_new)));
+  last = refl;
+  spent = λ passing. cc;
+}
+
+-- .. and the first where the old one was
+start_after_old : NextPast 1 start Start (Ok Done) (running 1)
+start_after_old = record {
+  failed = 1;
+  within = omega arith;
+  before = start;
+  fails = (Err (Store WriteFault), start, (refl, (refl, fails_with_old)));
+  last = refl;
+  spent = λ passing. cc;
+}
+
+-- a step that there is nothing for is refused at its first try
+crash_refused : NextPast 9 start Crash (Err NotEnabled) start
+crash_refused = record {
+  failed = 0;
+  within = omega arith;
+  before = start;
+  fails = refl;
+  last = (refl, refl);
+  spent = λ passing. cc;
+}

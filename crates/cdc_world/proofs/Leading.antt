@@ -1,5 +1,5 @@
 -- A world that steps lead to stays one as it goes on.
-use Rattle.std.proofs.Common.{ℕ, List, [], ◌∷◌, ◌++◌, drop, refl, subst, sym, take}
+use Rattle.std.proofs.Common.{ℕ, zero, suc, List, [], ◌∷◌, ◌++◌, drop, refl, subst, sym, take}
 use Rattle.std.specs.Prelude.{None, Ok, Option, Err, Result, Some}
 use Rattle.cdc_match.specs.Arguments.{Arguments}
 use Rattle.cdc_progress.specs.Records.{Saved}
@@ -7,7 +7,8 @@ use Rattle.cdc_world.specs.declared.steps.Did.{Did}
 use Rattle.cdc_types.specs.declared.steps.Step.{Step}
 use Rattle.cdc_world.specs.declared.steps.StepError.{StepError}
 use Rattle.cdc_world.specs.Next.{IsAtStart, IsReached, Leads, Next}
-use Rattle.cdc_world.specs.Moves.{DoesAll, IsPlay, StopsAt}
+use Rattle.cdc_world.specs.Moves.{DoesAll, Going, IsPlay, IsPlayBy, StopsAt}
+use Rattle.cdc_world.specs.Tries.{FailsTimes, NextPast}
 use Rattle.cdc_world.specs.Worlds.{WorldState, new_world}
 
 -- before the first step
@@ -38,24 +39,53 @@ IsReached-next w step answer w' reached next = record {
       reached.leads next;
 }
 
+-- tries of a step that all failed
+fails_reach : (failed : ℕ) (w : WorldState) (step : Step) (w' : WorldState) → IsReached w → FailsTimes failed w step w'
+    → IsReached w'
+fails_reach zero w step w' reached fails = subst IsReached (sym fails) reached
+fails_reach (suc failed) w step w' reached (answer, between, (before, (passing, last))) =
+    IsReached-next between step answer w' (fails_reach failed w step between reached before) last
+
+-- so does a step that is tried again
+IsReached-past : (tries : ℕ) (w : WorldState) (step : Step) (answer : Result Did StepError) (w' : WorldState)
+    → IsReached w → NextPast tries w step answer w' → IsReached w'
+IsReached-past tries w step answer w' reached next =
+    IsReached-next next.before step answer w' (fails_reach next.failed w step next.before reached next.fails) next.last
+
+-- steps that are taken like this lead on to worlds that are reached
+abbrev ReachesBy : Going → Type 0
+ReachesBy Goes = (w : WorldState) (step : Step) (answer : Result Did StepError) (w' : WorldState)
+    → IsReached w → Goes w step answer w' → IsReached w'
+
 -- steps that are all done
-does_reach : (w w' : WorldState) (steps : List Step) → IsReached w → DoesAll w steps w' → IsReached w'
-does_reach w w' [] reached does = subst IsReached (sym does) reached
-does_reach w w' (step ∷ steps) reached (did, between, (here, rest)) =
-    does_reach between w' steps (IsReached-next w step (Ok did) between reached here) rest
+does_reach : (Goes : Going) (w w' : WorldState) (steps : List Step) → ReachesBy Goes → IsReached w
+    → DoesAll Goes w steps w' → IsReached w'
+does_reach Goes w w' [] reaches reached does = subst IsReached (sym does) reached
+does_reach Goes w w' (step ∷ steps) reaches reached (did, between, (here, rest)) =
+    does_reach Goes between w' steps reaches (reaches w step (Ok did) between reached here) rest
 
 -- and the one that is refused, if one is
-stops_reach : (w w' : WorldState) (steps : List Step) (refusal : Option StepError) → IsReached w
-    → StopsAt w steps refusal w' → IsReached w'
-stops_reach w w' [] None reached stops = subst IsReached (sym stops) reached
-stops_reach w w' [] (Some why) reached stops = absurd stops
-stops_reach w w' (step ∷ steps) None reached stops = absurd stops
-stops_reach w w' (step ∷ steps) (Some why) reached stops =
-    IsReached-next w step (Err why) w' reached stops
+stops_reach : (Goes : Going) (w w' : WorldState) (steps : List Step) (refusal : Option StepError) → ReachesBy Goes
+    → IsReached w → StopsAt Goes w steps refusal w' → IsReached w'
+stops_reach Goes w w' [] None reaches reached stops = subst IsReached (sym stops) reached
+stops_reach Goes w w' [] (Some why) reaches reached stops = absurd stops
+stops_reach Goes w w' (step ∷ steps) None reaches reached stops = absurd stops
+stops_reach Goes w w' (step ∷ steps) (Some why) reaches reached stops = reaches w step (Err why) w' reached stops
 
 -- a play
+IsReached-by : (Goes : Going) → ReachesBy Goes → (w : WorldState) (steps : List Step) (done : ℕ)
+    → (refusal : Option StepError) (w' : WorldState) → IsReached w → IsPlayBy Goes w steps done refusal w'
+    → IsReached w'
+IsReached-by Goes reaches w steps done refusal w' reached plays =
+    stops_reach Goes plays.before w' (drop done steps) refusal reaches
+    (does_reach Goes w plays.before (take done steps) reaches reached plays.does) plays.stops
+
+-- one that takes each step once
 pub IsReached-played : (w : WorldState) (steps : List Step) (done : ℕ) (refusal : Option StepError)
     (w' : WorldState) → IsReached w → IsPlay w steps done refusal w' → IsReached w'
-IsReached-played w steps done refusal w' reached plays =
-    stops_reach plays.before w' (drop done steps) refusal
-    (does_reach w plays.before (take done steps) reached plays.does) plays.stops
+IsReached-played = IsReached-by Next IsReached-next
+
+-- and one that tries again
+pub IsReached-played-past : (tries : ℕ) (w : WorldState) (steps : List Step) (done : ℕ) (refusal : Option StepError)
+    (w' : WorldState) → IsReached w → IsPlayBy (NextPast tries) w steps done refusal w' → IsReached w'
+IsReached-played-past tries = IsReached-by (NextPast tries) (IsReached-past tries)

@@ -19,3 +19,4 @@ pub mod SubClosed
 pub mod SubServed
 pub mod SubSteps
 pub mod Subscribing
+pub mod Trying

@@ -1,5 +1,5 @@
 -- Steps that are all done, one more at a time, and where they stop.
-use Rattle.std.proofs.Common.{◌≡◌, ℕ, ◌+◌, ◌<◌, ◌≤◌, IsTrue, List, [], ◌∷◌, ◌++◌, Some, None, Ok, Err, zero, suc, refl, sym, ap, ◌∙◌, subst, length, take, drop, get_or, arith}
+use Rattle.std.proofs.Common.{◌≡◌, ℕ, Option, Result, ◌+◌, ◌<◌, ◌≤◌, IsTrue, List, [], ◌∷◌, ◌++◌, Some, None, Ok, Err, zero, suc, refl, sym, ap, ◌∙◌, subst, length, take, drop, get_or, arith}
 use Rattle.std.specs.List.{list_any}
 use Rattle.std.proofs.lemmas.List.{take_more}
 use Rattle.std.proofs.lemmas.List.Folds.{list_any_at}
@@ -7,16 +7,22 @@ use Rattle.cdc_world.specs.declared.steps.Did.{Did}
 use Rattle.cdc_types.specs.declared.steps.Step.{Step}
 use Rattle.cdc_world.specs.declared.steps.StepError.{StepError}
 use Rattle.cdc_world.specs.Next.{Next, loads}
-use Rattle.cdc_world.specs.Moves.{DoesAll, Moves, Plays, StopsAt}
+use Rattle.cdc_world.specs.Moves.{DoesAll, GoesOn, Going, Plays, PlaysBy, StopsAt}
 use Rattle.cdc_world.specs.Parts.{Parts}
 use Rattle.cdc_world.specs.Stands.{Stands}
+use Rattle.cdc_world.specs.Tries.{FailsTimes, NextPast}
 use Rattle.cdc_world.specs.Worlds.{WorldState}
 
+-- what is kept goes on by a step that is taken like this; of a step that loads this is said over an honest store
+abbrev pub MovesBy : Going → Parts → Step → Result Did StepError → Parts → Type 0
+MovesBy Goes p step answer p' =
+    (IsTrue (loads step) → IsTrue p.honest) → GoesOn p (λ w w'. Goes w step answer w') p'
+
 -- so many of these steps are done
-pub record HasDone (p p' : Parts) (steps : List Step) (done : ℕ) : Type 0 where
+pub record HasDone (Goes : Going) (p p' : Parts) (steps : List Step) (done : ℕ) : Type 0 where
   pub honest : p'.honest ≡ p.honest
   pub leads : (IsTrue (list_any loads steps) → IsTrue p.honest) → (w : WorldState) → Stands p w
-      → ((w' : WorldState) × (Stands p' w' × DoesAll w (take done steps) w'))
+      → ((w' : WorldState) × (Stands p' w' × DoesAll Goes w (take done steps) w'))
 
 -- a step of a play that loads is one of the play's steps that load
 loads_one : (steps : List Step) (done : ℕ) (step : Step) → done < length steps → step ≡ get_or steps done step
@@ -24,18 +30,19 @@ loads_one : (steps : List Step) (done : ℕ) (step : Step) → done < length ste
 loads_one steps done step inside here reads = list_any_at loads steps done step inside (ap loads (sym here) ∙ reads)
 
 -- one more step
-DoesAll_push : (w between w' : WorldState) (steps : List Step) (step : Step) (did : Did) → DoesAll w steps between
-    → Next between step (Ok did) w' → DoesAll w (steps ++ step ∷ []) w'
-DoesAll_push w between w' [] step did does next =
-    (did, w', (subst (λ (x : WorldState). Next x step (Ok did) w') does next, refl))
-DoesAll_push w between w' (first ∷ steps) step did does next =
-    (does.0, does.1, (does.2.0, DoesAll_push does.1 between w' steps step did does.2.1 next))
+DoesAll_push : (Goes : Going) (w between w' : WorldState) (steps : List Step) (step : Step) (did : Did)
+    → DoesAll Goes w steps between → Goes between step (Ok did) w' → DoesAll Goes w (steps ++ step ∷ []) w'
+DoesAll_push Goes w between w' [] step did does next =
+    (did, w', (subst (λ (x : WorldState). Goes x step (Ok did) w') does next, refl))
+DoesAll_push Goes w between w' (first ∷ steps) step did does next =
+    (does.0, does.1, (does.2.0, DoesAll_push Goes does.1 between w' steps step did does.2.1 next))
 
 -- so the loop of a play may go on once another step is done
-pub HasDone-more : (p p' p'' : Parts) (steps : List Step) (done : ℕ) (step : Step) (did : Did) → done < length steps
-    → step ≡ get_or steps done step → HasDone p p' steps done → Moves p' step (Ok did) p'' → p''.honest ≡ p'.honest
-    → HasDone p p'' steps (done + 1)
-HasDone-more p p' p'' steps done step did inside here has moves honest' = record {
+pub HasDone-more : (Goes : Going) (p p' p'' : Parts) (steps : List Step) (done : ℕ) (step : Step) (did : Did)
+    → done < length steps → step ≡ get_or steps done step → HasDone Goes p p' steps done
+    → MovesBy Goes p' step (Ok did) p'' → p''.honest ≡ p'.honest
+    → HasDone Goes p p'' steps (done + 1)
+HasDone-more Goes p p' p'' steps done step did inside here has moves honest' = record {
   honest = honest' ∙ has.honest;
   leads = λ honest w st.
       let before = has.leads honest w st in
@@ -46,8 +53,8 @@ HasDone-more p p' p'' steps done step did inside here has moves honest' = record
         after.0,
         (
           after.1.0,
-          subst (λ (ss : List Step). DoesAll w ss after.0) (sym more)
-              (DoesAll_push w before.0 after.0 (take done steps) step did before.1.1 after.1.1),
+          subst (λ (ss : List Step). DoesAll Goes w ss after.0) (sym more)
+              (DoesAll_push Goes w before.0 after.0 (take done steps) step did before.1.1 after.1.1),
         ),
       );
 }
@@ -60,11 +67,11 @@ drop_here (y ∷ ys) zero x inside here = (ys, ap (λ z. z ∷ ys) (sym here))
 drop_here (y ∷ ys) (suc i) x inside here = drop_here ys i x (omega arith) here
 
 -- a step that is refused ends a play
-pub Plays-stopped : (p p' p'' : Parts) (steps : List Step) (done : ℕ) (step : Step) (why : StepError)
+pub Plays-stopped : (Goes : Going) (p p' p'' : Parts) (steps : List Step) (done : ℕ) (step : Step) (why : StepError)
     → done < length steps
-    → step ≡ get_or steps done step → HasDone p p' steps done → Moves p' step (Err why) p''
-    → Plays p steps done (Some why) p''
-Plays-stopped p p' p'' steps done step why inside here has moves honest w st =
+    → step ≡ get_or steps done step → HasDone Goes p p' steps done → MovesBy Goes p' step (Err why) p''
+    → PlaysBy Goes p steps done (Some why) p''
+Plays-stopped Goes p p' p'' steps done step why inside here has moves honest w st =
     let before = has.leads honest w st in
     let after = moves (λ reads. has.honest ∙ honest (loads_one steps done step inside here reads))
     before.0 before.1.0 in
@@ -76,7 +83,7 @@ Plays-stopped p p' p'' steps done step why inside here has moves honest w st =
           count = omega arith;
           before = before.0;
           does = before.1.1;
-          stops = subst (λ (ss : List Step). StopsAt before.0 ss (Some why) after.0) (sym rest.1) after.1.1;
+          stops = subst (λ (ss : List Step). StopsAt Goes before.0 ss (Some why) after.0) (sym rest.1) after.1.1;
         },
       ),
     )
@@ -87,9 +94,9 @@ drop_length [] = refl
 drop_length (x ∷ xs) = drop_length xs
 
 -- a play of which all steps are done
-pub Plays-ended : (p p' : Parts) (steps : List Step) (done : ℕ) → length steps ≤ done → done ≤ length steps
-    → HasDone p p' steps done → Plays p steps (length steps) None p'
-Plays-ended p p' steps done all within has honest w st =
+pub Plays-ended : (Goes : Going) (p p' : Parts) (steps : List Step) (done : ℕ) → length steps ≤ done
+    → done ≤ length steps → HasDone Goes p p' steps done → PlaysBy Goes p steps (length steps) None p'
+Plays-ended Goes p p' steps done all within has honest w st =
     let before = has.leads honest w st in
     let same : done ≡ length steps = omega (arith, all, within) in (
       before.0,
@@ -98,8 +105,51 @@ Plays-ended p p' steps done all within has honest w st =
         record {
           count = omega arith;
           before = before.0;
-          does = subst (λ (n : ℕ). DoesAll w (take n steps) before.0) same before.1.1;
-          stops = subst (λ (ss : List Step). StopsAt before.0 ss None before.0) (sym (drop_length steps)) refl;
+          does = subst (λ (n : ℕ). DoesAll Goes w (take n steps) before.0) same before.1.1;
+          stops = subst (λ (ss : List Step). StopsAt Goes before.0 ss None before.0) (sym (drop_length steps)) refl;
+        },
+      ),
+    )
+
+-- ---- a play that tries nothing again takes each step once
+
+-- as each of its steps is
+once : (w : WorldState) (step : Step) (answer : Result Did StepError) (w' : WorldState)
+    → NextPast 0 w step answer w' → Next w step answer w'
+once w step answer w' next =
+    let none : next.failed ≡ 0 = omega (arith, next.within) in
+    let same : next.before ≡ w =
+    subst (λ (n : ℕ). FailsTimes n w step next.before) none next.fails in
+    subst (λ (x : WorldState). Next x step answer w') same next.last
+
+-- those that are done
+does_once : (w w' : WorldState) (steps : List Step) → DoesAll (NextPast 0) w steps w' → DoesAll Next w steps w'
+does_once w w' [] does = does
+does_once w w' (step ∷ steps) (did, between, (here, rest)) =
+    (did, between, (once w step (Ok did) between here, does_once between w' steps rest))
+
+-- and the one that is refused, if one is
+stops_once : (w w' : WorldState) (steps : List Step) (refusal : Option StepError)
+    → StopsAt (NextPast 0) w steps refusal w' → StopsAt Next w steps refusal w'
+stops_once w w' [] None stops = stops
+stops_once w w' [] (Some why) stops = stops
+stops_once w w' (step ∷ steps) None stops = stops
+stops_once w w' (step ∷ steps) (Some why) stops = once w step (Err why) w' stops
+
+-- so it is a play
+pub Plays-once : (p : Parts) (steps : List Step) (done : ℕ) (refusal : Option StepError) (p' : Parts)
+    → PlaysBy (NextPast 0) p steps done refusal p' → Plays p steps done refusal p'
+Plays-once p steps done refusal p' plays honest w st =
+    let after = plays honest w st in
+    let play = after.1.1 in (
+      after.0,
+      (
+        after.1.0,
+        record {
+          count = play.count;
+          before = play.before;
+          does = does_once w play.before (take done steps) play.does;
+          stops = stops_once play.before after.0 (drop done steps) refusal play.stops;
         },
       ),
     )

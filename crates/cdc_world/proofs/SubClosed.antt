@@ -17,7 +17,8 @@ use Rattle.cdc_types.specs.declared.steps.Step.TheVariants as step
 use Rattle.cdc_world.specs.declared.steps.StepError.{StepError}
 use Rattle.cdc_broker.specs.Packets.{is_taken}
 use Rattle.cdc_world.specs.Closed.{AllStay, Stays}
-use Rattle.cdc_world.specs.Moves.{DoesAll, IsPlay, StopsAt}
+use Rattle.cdc_world.specs.Moves.{DoesAll, Going, IsPlayBy, StopsAt}
+use Rattle.cdc_world.specs.Tries.{FailsTimes, NextPast}
 use Rattle.cdc_world.specs.Next.{Next, first_flight, next, next_delivery, with_ack, with_arrival, with_batch, with_break, with_close, with_delivery, with_rewind, with_session, with_start, with_subscription, with_taking}
 use Rattle.cdc_world.specs.Worlds.{Subscription, WorldState, numbered, with_numbered}
 use Rattle.cdc_world.proofs.Places.{numbered_from, numbered_parts}
@@ -167,23 +168,44 @@ AllStay-trans w between w' first second i before found =
     let c = second i b.0 b.1 in
     (c.0, c.1, Stays-trans before b.0 c.0 b.2 c.2)
 
+-- through tries of a step that all failed
+AllStay-fails : (failed : ℕ) (w : WorldState) (step : Step) (w' : WorldState) → FailsTimes failed w step w'
+    → AllStay w w'
+AllStay-fails zero w step w' fails = subst (AllStay w) (sym fails) (AllStay-same w)
+AllStay-fails (suc failed) w step w' (answer, between, (before, (passing, last))) =
+    AllStay-trans w between w' (AllStay-fails failed w step between before)
+    (AllStay-next between step answer w' last)
+
+-- so through a step that is tried again
+pub AllStay-past : (tries : ℕ) (w : WorldState) (step : Step) (answer : Result Did StepError) (w' : WorldState)
+    → NextPast tries w step answer w' → AllStay w w'
+AllStay-past tries w step answer w' next =
+    AllStay-trans w next.before w' (AllStay-fails next.failed w step next.before next.fails)
+    (AllStay-next next.before step answer w' next.last)
+
+-- all stay through steps that are taken like this
+abbrev pub StaysBy : Going → Type 0
+StaysBy Goes = (w : WorldState) (step : Step) (answer : Result Did StepError) (w' : WorldState)
+    → Goes w step answer w' → AllStay w w'
+
 -- through steps that are all done
-AllStay-does : (w w' : WorldState) (steps : List Step) → DoesAll w steps w' → AllStay w w'
-AllStay-does w w' [] does = subst (AllStay w) (sym does) (AllStay-same w)
-AllStay-does w w' (s ∷ steps) (did, between, (here, rest)) =
-    AllStay-trans w between w' (AllStay-next w s (Ok did) between here) (AllStay-does between w' steps rest)
+AllStay-does : (Goes : Going) (w w' : WorldState) (steps : List Step) → StaysBy Goes → DoesAll Goes w steps w'
+    → AllStay w w'
+AllStay-does Goes w w' [] stays does = subst (AllStay w) (sym does) (AllStay-same w)
+AllStay-does Goes w w' (s ∷ steps) stays (did, between, (here, rest)) =
+    AllStay-trans w between w' (stays w s (Ok did) between here) (AllStay-does Goes between w' steps stays rest)
 
 -- and through the one that is refused, if one is
-AllStay-stops : (w w' : WorldState) (steps : List Step) (refusal : Option StepError) → StopsAt w steps refusal w'
-    → AllStay w w'
-AllStay-stops w w' [] None stops = subst (AllStay w) (sym stops) (AllStay-same w)
-AllStay-stops w w' [] (Some why) stops = absurd stops
-AllStay-stops w w' (s ∷ steps) None stops = absurd stops
-AllStay-stops w w' (s ∷ steps) (Some why) stops = AllStay-next w s (Err why) w' stops
+AllStay-stops : (Goes : Going) (w w' : WorldState) (steps : List Step) (refusal : Option StepError) → StaysBy Goes
+    → StopsAt Goes w steps refusal w' → AllStay w w'
+AllStay-stops Goes w w' [] None stays stops = subst (AllStay w) (sym stops) (AllStay-same w)
+AllStay-stops Goes w w' [] (Some why) stays stops = absurd stops
+AllStay-stops Goes w w' (s ∷ steps) None stays stops = absurd stops
+AllStay-stops Goes w w' (s ∷ steps) (Some why) stays stops = stays w s (Err why) w' stops
 
 -- so through a play
-pub AllStay-play : (w : WorldState) (steps : List Step) (done : ℕ) (refusal : Option StepError) (w' : WorldState)
-    → IsPlay w steps done refusal w' → AllStay w w'
-AllStay-play w steps done refusal w' play =
-    AllStay-trans w play.before w' (AllStay-does w play.before (take done steps) play.does)
-    (AllStay-stops play.before w' (drop done steps) refusal play.stops)
+pub AllStay-play : (Goes : Going) → StaysBy Goes → (w : WorldState) (steps : List Step) (done : ℕ)
+    → (refusal : Option StepError) (w' : WorldState) → IsPlayBy Goes w steps done refusal w' → AllStay w w'
+AllStay-play Goes stays w steps done refusal w' play =
+    AllStay-trans w play.before w' (AllStay-does Goes w play.before (take done steps) stays play.does)
+    (AllStay-stops Goes play.before w' (drop done steps) refusal stays play.stops)

@@ -7,8 +7,9 @@ use Rattle.cdc_types.specs.declared.steps.Step.{Step}
 use Rattle.cdc_world.specs.Closed.{AllStay}
 use Rattle.cdc_world.specs.declared.steps.Did.{Did}
 use Rattle.cdc_world.specs.declared.steps.StepError.{StepError}
-use Rattle.cdc_world.specs.Moves.{IsPlay}
+use Rattle.cdc_world.specs.Moves.{IsPlay, IsPlayBy}
 use Rattle.cdc_world.specs.Next.{IsAtStart, IsReached, Next}
+use Rattle.cdc_world.specs.Tries.{NextPast}
 use Rattle.cdc_world.specs.Worlds.{Subscription, WorldState, new_world, numbered}
 
 -- every subscriber is faithful in every world that steps lead to: crashes, packets and confirms that come late, again
@@ -36,3 +37,8 @@ StepsGoOn = (w : WorldState) (step : Step) (answer : Result Did StepError) (w' :
 abbrev pub PlaysGoOn : Type 0
 PlaysGoOn = (w : WorldState) (steps : List Step) (done : ℕ) (refusal : Option StepError) (w' : WorldState)
     → IsReached w → IsPlay w steps done refusal w' → IsReached w'
+
+-- and by a play that tries again what the store or want of memory refused
+abbrev pub PlaysPastGoOn : Type 0
+PlaysPastGoOn = (tries : ℕ) (w : WorldState) (steps : List Step) (done : ℕ) (refusal : Option StepError)
+    → (w' : WorldState) → IsReached w → IsPlayBy (NextPast tries) w steps done refusal w' → IsReached w'

@@ -6,6 +6,7 @@ pub mod Moves
 pub mod Next
 pub mod Parts
 pub mod Stands
+pub mod Tries
 pub mod Worlds
 -- private: what private contracts, proofs and worked runs alone cite
 pub mod Connector

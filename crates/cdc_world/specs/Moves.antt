@@ -27,37 +27,53 @@ abbrev pub StepFixesClosed : Parts → Step → Result Did StepError → Parts �
 StepFixesClosed p step answer p' =
     (IsTrue (loads step) → IsTrue p.honest) → GoesOn p (λ w w'. Next w step answer w' × AllStay w w') p'
 
--- steps that are all done lead from one state to another
-abbrev pub DoesAll : WorldState → List Step → WorldState → Type 0
-DoesAll w [] w' = w' ≡ w
-DoesAll w (step ∷ steps) w' =
-    (did : Did) × (between : WorldState) × (Next w step (Ok did) between × DoesAll between steps w')
+-- how a step may be answered, and the world after it
+abbrev pub Going : Type 1
+Going = WorldState → Step → Result Did StepError → WorldState → Type 0
+
+-- steps that are all done, each like this, lead from one state to another
+abbrev pub DoesAll : Going → WorldState → List Step → WorldState → Type 0
+DoesAll Goes w [] w' = w' ≡ w
+DoesAll Goes w (step ∷ steps) w' =
+    (did : Did) × (between : WorldState) × (Goes w step (Ok did) between × DoesAll Goes between steps w')
 
 -- after the steps that are done none is left, or the next one is refused
-abbrev pub StopsAt : WorldState → List Step → Option StepError → WorldState → Type 0
-StopsAt w [] None w' = w' ≡ w
-StopsAt w [] (Some why) w' = ⊥
-StopsAt w (step ∷ steps) None w' = ⊥
-StopsAt w (step ∷ steps) (Some why) w' = Next w step (Err why) w'
+abbrev pub StopsAt : Going → WorldState → List Step → Option StepError → WorldState → Type 0
+StopsAt Goes w [] None w' = w' ≡ w
+StopsAt Goes w [] (Some why) w' = ⊥
+StopsAt Goes w (step ∷ steps) None w' = ⊥
+StopsAt Goes w (step ∷ steps) (Some why) w' = Goes w step (Err why) w'
 
--- a play of steps, of which so many are done, and then they end, or one is refused
-pub record IsPlay (w : WorldState) (steps : List Step) (done : ℕ) (refusal : Option StepError) (w' : WorldState)
-    : Type 0 where
+-- a play of steps, each taken like this, of which so many are done, and then they end, or one is refused
+pub record IsPlayBy (Goes : Going) (w : WorldState) (steps : List Step) (done : ℕ) (refusal : Option StepError)
+    (w' : WorldState) : Type 0 where
   pub count : done ≤ length steps
   pub before : WorldState
-  pub does : DoesAll w (take done steps) before
-  pub stops : StopsAt before (drop done steps) refusal w'
+  pub does : DoesAll Goes w (take done steps) before
+  pub stops : StopsAt Goes before (drop done steps) refusal w'
+
+-- a play of steps, each taken once
+abbrev pub IsPlay : WorldState → List Step → ℕ → Option StepError → WorldState → Type 0
+IsPlay = IsPlayBy Next
 
 -- what is kept goes on by a play; where one of its steps loads, this is said over an honest store
+abbrev pub PlaysBy : Going → Parts → List Step → ℕ → Option StepError → Parts → Type 0
+PlaysBy Goes p steps done refusal p' =
+    (IsTrue (list_any loads steps) → IsTrue p.honest) → GoesOn p (λ w w'. IsPlayBy Goes w steps done refusal w') p'
+
+-- by one that takes each step once
 abbrev pub Plays : Parts → List Step → ℕ → Option StepError → Parts → Type 0
-Plays p steps done refusal p' =
-    (IsTrue (list_any loads steps) → IsTrue p.honest) → GoesOn p (λ w w'. IsPlay w steps done refusal w') p'
+Plays = PlaysBy Next
 
 -- the same, and no closed subscriber has heard anything more after it, and each has its binding
-abbrev pub PlayFixesClosed : Parts → List Step → ℕ → Option StepError → Parts → Type 0
-PlayFixesClosed p steps done refusal p' =
+abbrev pub PlayFixesClosedBy : Going → Parts → List Step → ℕ → Option StepError → Parts → Type 0
+PlayFixesClosedBy Goes p steps done refusal p' =
     (IsTrue (list_any loads steps) → IsTrue p.honest)
-    → GoesOn p (λ w w'. IsPlay w steps done refusal w' × AllStay w w') p'
+    → GoesOn p (λ w w'. IsPlayBy Goes w steps done refusal w' × AllStay w w') p'
+
+-- by one that takes each step once
+abbrev pub PlayFixesClosed : Parts → List Step → ℕ → Option StepError → Parts → Type 0
+PlayFixesClosed = PlayFixesClosedBy Next
 
 -- a step that is answered so leaves the store's count of failures as it is, unless it is refused for a read or a write
 -- that failed, which counts

@@ -1,6 +1,6 @@
 //! What holds of every world, whoever moves it.
 
-ghost use Rattle.cdc_world.specs.Laws.{ClosedSubscribersStay, NewWorldsAreReached, PlaysGoOn, StepsGoOn, SubscribersAreFaithful};
+ghost use Rattle.cdc_world.specs.Laws.{ClosedSubscribersStay, NewWorldsAreReached, PlaysGoOn, PlaysPastGoOn, StepsGoOn, SubscribersAreFaithful};
 
 /// Does nothing: each clause holds of every world that steps lead to from one in which nothing has happened, over a store
 /// that holds nothing or the timestamp 0. A subscriber has applied the first so
@@ -13,4 +13,5 @@ pub fn world_laws()
     ensures begins { NewWorldsAreReached }
     ensures goes_on { StepsGoOn }
     ensures plays { PlaysGoOn }
+    ensures plays_past { PlaysPastGoOn }
 {}

@@ -1,8 +1,10 @@
 //! What no clause says: that steps find memory, and that whole courses of them go as they should.
 
+mod retries;
+
 use crate::{Did, Step, StepError, World};
 use cdc_match::Binding;
-use cdc_progress::MemoryStore;
+use cdc_progress::{MemoryStore, StoreError};
 use cdc_types::{Batch, Items, NewAccount, NewTransfer};
 use std::alloc::{AllocError, Global};
 use std::process::Abort;
@@ -122,10 +124,21 @@ fn open_course(alloc: Global) -> Result<Vec<Step>, AllocError> {
     )?)
 }
 
-// A world with one subscriber of all events.
-fn world(alloc: Global) -> Result<World<MemoryStore>, Fail> {
+// A world with one subscriber of all events, over this store.
+fn world_over(alloc: Global, store: MemoryStore) -> Result<World<MemoryStore>, Fail> {
     let bindings = Vec::from_array(alloc, [Binding::parse(alloc, &["all"])?])?;
-    Ok(World::new(alloc, bindings, 1, MemoryStore::new())?)
+    Ok(World::new(alloc, bindings, 1, store)?)
+}
+
+// The same over a store that holds nothing and never fails.
+fn world(alloc: Global) -> Result<World<MemoryStore>, Fail> {
+    world_over(alloc, MemoryStore::new())
+}
+
+// The session and the timestamp that a world's store holds.
+fn saved(world: &mut World<MemoryStore>) -> Result<Option<(u64, u64)>, StoreError> {
+    let progress = world.progress()?;
+    Ok(progress.map(|progress| (progress.session(), progress.timestamp())))
 }
 
 // What a play is to leave.

@@ -5,9 +5,10 @@ ghost use Rattle.cdc_laws.specs.Faithful.{IsFaithful, kept_from};
 ghost use Rattle.cdc_progress.specs.Stores.{MayRefuseLoad};
 ghost use Rattle.cdc_subscriber.specs.Heard.{kept_of};
 ghost use Rattle.cdc_types.specs.declared.steps.Step.TheVariants.{Save, Start};
-ghost use Rattle.cdc_world.specs.Moves.{IsStoreCounted, Moves, PlayFixesClosed, Plays, StepFixesClosed};
+ghost use Rattle.cdc_world.specs.Moves.{IsStoreCounted, Moves, PlayFixesClosed, PlayFixesClosedBy, Plays, PlaysBy, StepFixesClosed};
 ghost use Rattle.cdc_world.specs.Next.{IsReached};
 ghost use Rattle.cdc_world.specs.Stands.{Stands};
+ghost use Rattle.cdc_world.specs.Tries.{MovesPast, NextPast, is_passing};
 ghost use Rattle.cdc_world.specs.Worlds.{Subscription, WorldState, new_world, numbered};
 
 use crate::actors::Actors;
@@ -55,6 +56,13 @@ impl<S: ProgressStore> Model for World<S> {
     } };
 }
 
+// Whether a step that is answered so may be done at a further try: the store failed, or memory ran out.
+fn is_passing(answer: &Result<Did, StepError>) -> bool
+    ensures { result ≡ is_passing answer.now }
+{
+    matches!(answer, Err(StepError::Store(_) | StepError::OutOfMemory))
+}
+
 impl<S: ProgressStore + Drop> World<S> {
     /// A world in which nothing has happened, with a subscriber for each binding. The session waits for `window` events
     /// at a time.
@@ -99,8 +107,20 @@ impl<S: ProgressStore> World<S> {
         ensures fixed { PlayFixesClosed self.old steps.now result.done result.refusal self.new }
         ensures honest { self.new.honest ≡ self.old.honest }
     {
+        self.play_past(alloc, steps, 0)
+    }
+
+    /// Takes these steps in order, up to the first that is refused. One that is refused because the store failed or memory
+    /// ran out is taken again, at most `tries` times more; the answer of the last try is the step's.
+    pub fn play_past(&mut self, alloc: Global, steps: &[Step], tries: usize) -> Played
+        ensures plays { PlaysBy (NextPast tries) self.old steps.now result.done result.refusal
+            self.new }
+        ensures fixed { PlayFixesClosedBy (NextPast tries) self.old steps.now result.done
+            result.refusal self.new }
+        ensures honest { self.new.honest ≡ self.old.honest }
+    {
         for (done, step) in steps.iter().enumerate() {
-            if let Err(why) = self.step(alloc, step) {
+            if let Err(why) = self.step_past(alloc, step, tries) {
                 return Played {
                     done,
                     refusal: Some(why),
@@ -192,6 +212,20 @@ impl<S: ProgressStore> World<S> {
             → numbered w.subscriptions i ≡ Some s → result ≡ length s.acks }
     {
         self.actors.subscription(i).acks.len()
+    }
+
+    /// Takes one step, and again after each refusal that may pass, at most `tries` times more.
+    fn step_past(&mut self, alloc: Global, step: &Step, tries: usize) -> Result<Did, StepError>
+        ensures next { MovesPast tries self.old step.now result self.new }
+        ensures honest { self.new.honest ≡ self.old.honest }
+    {
+        for _ in 0..tries {
+            let answer = self.step(alloc, step);
+            if !is_passing(&answer) {
+                return answer;
+            }
+        }
+        self.step(alloc, step)
     }
 
     /// The connector starts a session, where it is down.

@@ -1,4 +1,4 @@
-use Rattle.cdc_world.proofs.Leading.{IsReached-new, IsReached-next, IsReached-played}
+use Rattle.cdc_world.proofs.Leading.{IsReached-new, IsReached-next, IsReached-played, IsReached-played-past}
 use Rattle.cdc_world.proofs.Reached.{faithful-reached}
 use Rattle.cdc_world.proofs.SubClosed.{AllStay-next}
 use Rattle.cdc_world.proofs.laws.world_laws.Goals as goal
@@ -17,3 +17,6 @@ returns-clause-goes_on c = IsReached-next
 
 pub returns-clause-plays : goal.returns-clause-plays
 returns-clause-plays c = IsReached-played
+
+pub returns-clause-plays_past : goal.returns-clause-plays_past
+returns-clause-plays_past c = IsReached-played-past

@@ -1,30 +1,17 @@
-use Rattle.std.proofs.Common.{Some, None, length}
+use Rattle.cdc_world.specs.Next.{Next}
 use Rattle.cdc_world.proofs.Fixed.{PlayFixesClosed-plays}
-use Rattle.cdc_world.proofs.Playing.{HasDone-more, Plays-ended, Plays-stopped}
+use Rattle.cdc_world.proofs.Playing.{Plays-once}
+use Rattle.cdc_world.proofs.SubClosed.{AllStay-next}
 use Rattle.cdc_world.proofs.world.World.play.Goals as goal
 
-pub loop-done-preserved : goal.loop-done-preserved
-loop-done-preserved g c =
-    HasDone-more c.args.self.now c.loop-done.self c.step.new.self c.args.steps.now c.loop-done.done
-    c.index-steps-done.result
-    c.in_default.field-0 c.loop-done-test.true c.index-steps-done.is c.loop-done.invariant c.in_default.ensures.next
-    c.in_default.ensures.honest
-
-pub returns-in-Err-clause-plays : goal.returns-in-Err-clause-plays
-returns-in-Err-clause-plays g c =
-    Plays-stopped c.args.self.now c.loop-done.self c.step.new.self c.args.steps.now c.loop-done.done
-    c.index-steps-done.result c.in-Err.why c.loop-done-test.true c.index-steps-done.is c.loop-done.invariant
-    c.in-Err.ensures.next
-
-pub returns-in-Err-clause-fixed : goal.returns-in-Err-clause-fixed
-returns-in-Err-clause-fixed g c =
-    PlayFixesClosed-plays c.args.self.now c.args.steps.now c.loop-done.done (Some c.in-Err.why) c.step.new.self
-    (Plays-stopped c.args.self.now c.loop-done.self c.step.new.self c.args.steps.now c.loop-done.done
-    c.index-steps-done.result c.in-Err.why c.loop-done-test.true c.index-steps-done.is c.loop-done.invariant
-    c.in-Err.ensures.next)
+pub returns-clause-plays : goal.returns-clause-plays
+returns-clause-plays g c =
+    Plays-once c.args.self.now c.args.steps.now c.play_past.result.done c.play_past.result.refusal c.play_past.new.self
+    c.play_past.ensures.plays
 
 pub returns-clause-fixed : goal.returns-clause-fixed
 returns-clause-fixed g c =
-    PlayFixesClosed-plays c.args.self.now c.args.steps.now (length c.args.steps.now) None c.loop-done.self
-    (Plays-ended c.args.self.now c.loop-done.self c.args.steps.now c.loop-done.done c.loop-done-test.false
-    c.loop-done.auto.done-end c.loop-done.invariant)
+    PlayFixesClosed-plays Next AllStay-next c.args.self.now c.args.steps.now c.play_past.result.done
+    c.play_past.result.refusal c.play_past.new.self
+    (Plays-once c.args.self.now c.args.steps.now c.play_past.result.done c.play_past.result.refusal
+    c.play_past.new.self c.play_past.ensures.plays)

@@ -1,0 +1,66 @@
+-- Tries of a step that failed, one more at a time, and the last one.
+use Rattle.std.proofs.Common.{◌≡◌, ℕ, suc, ◌+◌, ◌≤◌, false, IsTrue, Result, refl, subst, ◌∙◌, arith}
+use Rattle.cdc_types.specs.declared.steps.Step.{Step}
+use Rattle.cdc_world.specs.declared.steps.Did.{Did}
+use Rattle.cdc_world.specs.declared.steps.StepError.{StepError}
+use Rattle.cdc_world.specs.Moves.{Moves}
+use Rattle.cdc_world.specs.Next.{loads}
+use Rattle.cdc_world.specs.Parts.{Parts}
+use Rattle.cdc_world.specs.Stands.{Stands}
+use Rattle.cdc_world.specs.Tries.{FailsTimes, MovesPast, is_passing}
+use Rattle.cdc_world.specs.Worlds.{WorldState}
+
+-- a step was tried so often, and each try failed
+pub record HasFailed (p p' : Parts) (step : Step) (failed : ℕ) : Type 0 where
+  pub honest : p'.honest ≡ p.honest
+  pub leads : (IsTrue (loads step) → IsTrue p.honest) → (w : WorldState) → Stands p w
+      → ((w' : WorldState) × (Stands p' w' × FailsTimes failed w step w'))
+
+-- before the first try
+pub HasFailed-none : (p : Parts) (step : Step) → HasFailed p p step 0
+HasFailed-none p step = record { honest = refl; leads = λ honest w st. (w, (st, refl)) }
+
+-- one more
+pub HasFailed-more : (p p' p'' : Parts) (step : Step) (failed : ℕ) (answer : Result Did StepError)
+    → IsTrue (is_passing answer) → HasFailed p p' step failed → Moves p' step answer p'' → p''.honest ≡ p'.honest
+    → HasFailed p p'' step (failed + 1)
+HasFailed-more p p' p'' step failed answer passing has moves honest' =
+    let more : suc failed ≡ failed + 1 = omega arith in record {
+      honest = honest' ∙ has.honest;
+      leads = λ honest w st.
+          let before = has.leads honest w st in
+          let after = moves (λ reads. has.honest ∙ honest reads) before.0 before.1.0 in (
+            after.0,
+            (
+              after.1.0,
+              subst (λ (n : ℕ). FailsTimes n w step after.0) more
+                  (answer, before.0, (before.1.1, (passing, after.1.1))),
+            ),
+          );
+    }
+
+-- an answer after which no further try is made
+pub isnt_passing : {P : Type 0} (answer : Result Did StepError) → is_passing answer ≡ false
+    → IsTrue (is_passing answer) → P
+isnt_passing answer isnt is = cc
+
+-- the last
+pub MovesPast-last : (p p' p'' : Parts) (step : Step) (tries failed : ℕ) (answer : Result Did StepError)
+    → failed ≤ tries → (IsTrue (is_passing answer) → failed ≡ tries) → HasFailed p p' step failed
+    → Moves p' step answer p'' → MovesPast tries p step answer p''
+MovesPast-last p p' p'' step tries failed answer within spent has moves honest w st =
+    let before = has.leads honest w st in
+    let after = moves (λ reads. has.honest ∙ honest reads) before.0 before.1.0 in (
+      after.0,
+      (
+        after.1.0,
+        record {
+          failed = failed;
+          within = within;
+          before = before.0;
+          fails = before.1.1;
+          last = after.1.1;
+          spent = spent;
+        },
+      ),
+    )

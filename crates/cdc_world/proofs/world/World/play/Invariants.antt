@@ -1,5 +1,0 @@
-use Rattle.cdc_world.proofs.Playing.{HasDone}
-use Rattle.cdc_world.proofs.world.World.play.Given as goal
-
-abbrev pub invariant-loop-done : goal.invariant-loop-done
-invariant-loop-done g l = HasDone l.fn.self l.self l.steps l.done

@@ -1,0 +1,6 @@
+use Rattle.cdc_world.specs.Tries.{NextPast}
+use Rattle.cdc_world.proofs.Playing.{HasDone}
+use Rattle.cdc_world.proofs.world.World.play_past.Given as goal
+
+abbrev pub invariant-loop-done : goal.invariant-loop-done
+invariant-loop-done g l = HasDone (NextPast l.tries) l.fn.self l.self l.steps l.done

@@ -1,0 +1,34 @@
+use Rattle.std.proofs.Common.{◌≡◌, ◌∙◌, sym, subst, IsTrue, true, arith}
+use Rattle.cdc_world.specs.Tries.{is_passing}
+use Rattle.cdc_world.proofs.Trying.{HasFailed-more, HasFailed-none, MovesPast-last, isnt_passing}
+use Rattle.cdc_world.proofs.world.World.step_past.Goals as goal
+
+pub loop-init : goal.loop-init
+loop-init g c = record { within = omega arith; failed = HasFailed-none c.args.self.now c.args.step.now }
+
+pub returns-then-not-is_passing-clause-next : goal.returns-then-not-is_passing-clause-next
+returns-then-not-is_passing-clause-next g c =
+    MovesPast-last c.args.self.now c.loop.self c.step-answer.new.self c.args.step.now c.args.tries c.loop.counter c.step-answer.result
+    c.loop.invariant.within
+    (isnt_passing c.step-answer.result (sym c.is_passing.ensures ∙ c.if-not-is_passing.true))
+    c.loop.invariant.failed c.step-answer.ensures.next
+
+pub returns-then-not-is_passing-clause-honest : goal.returns-then-not-is_passing-clause-honest
+returns-then-not-is_passing-clause-honest g c = c.step-answer.ensures.honest ∙ c.loop.invariant.failed.honest
+
+pub loop-preserved : goal.loop-preserved
+loop-preserved g c = record {
+  within = omega arith;
+  failed = HasFailed-more c.args.self.now c.loop.self c.step-answer.new.self c.args.step.now c.loop.counter c.step-answer.result
+      (sym c.is_passing.ensures ∙ c.if-not-is_passing.false) c.loop.invariant.failed c.step-answer.ensures.next
+      c.step-answer.ensures.honest;
+}
+
+pub returns-clause-next : goal.returns-clause-next
+returns-clause-next g c =
+    MovesPast-last c.args.self.now c.loop.self c.step.new.self c.args.step.now c.args.tries c.loop.counter c.step.result
+    c.loop.invariant.within (λ passing. omega (arith, c.loop-test.false, c.loop.invariant.within))
+    c.loop.invariant.failed c.step.ensures.next
+
+pub returns-clause-honest : goal.returns-clause-honest
+returns-clause-honest g c = c.step.ensures.honest ∙ c.loop.invariant.failed.honest

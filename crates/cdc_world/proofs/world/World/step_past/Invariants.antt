@@ -1,0 +1,9 @@
+use Rattle.std.proofs.Common.{◌≤◌}
+use Rattle.cdc_world.proofs.Trying.{HasFailed}
+use Rattle.cdc_world.proofs.world.World.step_past.Given as goal
+
+abbrev pub invariant-loop : goal.invariant-loop
+invariant-loop g l = record {
+  within : l.counter ≤ l.tries;
+  failed : HasFailed l.fn.self l.self l.step l.counter;
+}

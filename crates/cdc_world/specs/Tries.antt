@@ -1,0 +1,42 @@
+-- Steps that are tried again.
+use Rattle.std.specs.Prelude.{◌≡◌, ◌≤◌, ℕ, zero, suc, Bool, true, false, IsTrue, Result, Ok, Err}
+use Rattle.cdc_types.specs.declared.steps.Step.{Step}
+use Rattle.cdc_world.specs.declared.steps.Did.{Did}
+use Rattle.cdc_world.specs.declared.steps.StepError.{StepError}
+use Rattle.cdc_world.specs.declared.steps.StepError.TheVariants.{NotEnabled, Refused, Store, SessionsExhausted, OutOfMemory}
+use Rattle.cdc_world.specs.Moves.{GoesOn, Going}
+use Rattle.cdc_world.specs.Next.{Next, loads}
+use Rattle.cdc_world.specs.Parts.{Parts}
+use Rattle.cdc_world.specs.Worlds.{WorldState}
+
+-- a try that is answered so may be made again: the store failed, or memory ran out
+abbrev pub is_passing : Result Did StepError → Bool
+is_passing (Ok did) = false
+is_passing (Err NotEnabled) = false
+is_passing (Err (Refused why)) = false
+is_passing (Err (Store why)) = true
+is_passing (Err SessionsExhausted) = false
+is_passing (Err OutOfMemory) = true
+
+-- this many tries of a step, one after another, each of them answered so
+abbrev pub FailsTimes : ℕ → WorldState → Step → WorldState → Type 0
+FailsTimes zero w step w' = w' ≡ w
+FailsTimes (suc failed) w step w' =
+    (answer : Result Did StepError) × (between : WorldState)
+    × (FailsTimes failed w step between × (IsTrue (is_passing answer) × Next between step answer w'))
+
+-- a step that is tried again after such an answer, at most this many times more: the tries that failed, and the last
+-- one, whose answer is the step's; that one too has failed only where as many failed before it as may be tried again
+pub record NextPast (tries : ℕ) (w : WorldState) (step : Step) (answer : Result Did StepError) (w' : WorldState)
+    : Type 0 where
+  pub failed : ℕ
+  pub within : failed ≤ tries
+  pub before : WorldState
+  pub fails : FailsTimes failed w step before
+  pub last : Next before step answer w'
+  pub spent : IsTrue (is_passing answer) → failed ≡ tries
+
+-- what is kept goes on by a step that is tried so; of a step that loads this is said over an honest store
+abbrev pub MovesPast : ℕ → Parts → Step → Result Did StepError → Parts → Type 0
+MovesPast tries p step answer p' =
+    (IsTrue (loads step) → IsTrue p.honest) → GoesOn p (λ w w'. NextPast tries w step answer w') p'

@@ -1,0 +1,191 @@
+/* Makes one call of the C library fail, or all of them fall short, as a plan says. sweep.py builds it and has it loaded
+ * before the C library.
+ *
+ *   FAULT   KIND:N   the call of this kind that comes as number N, from 1, is refused: growth (memory is asked for),
+ *                    open, read, write, sync or rename
+ *           short    a read gives one byte, and a write takes one
+ *   CALLS   a path: when the process ends, this file gets the number of calls of each kind, a line each
+ *   TRACE   a path: this file gets a line for each open to write, write, sync and rename, as it comes
+ *
+ * The process's own start is counted too, where the C library asks for memory before main.
+ */
+#define _GNU_SOURCE
+#include <errno.h>
+#include <fcntl.h>
+#include <stdarg.h>
+#include <stddef.h>
+#include <stdint.h>
+#include <stdio.h>
+#include <stdlib.h>
+#include <string.h>
+#include <sys/syscall.h>
+#include <unistd.h>
+
+enum kind { GROWTH, OPEN, READ, WRITE, SYNC, RENAME, KINDS };
+static const char *const names[KINDS] = {"growth", "open", "read", "write", "sync", "rename"};
+static long counts[KINDS];
+
+/* The C library's own, under the names that it keeps for those who stand before it. */
+extern void *__libc_malloc(size_t);
+extern void *__libc_calloc(size_t, size_t);
+extern void *__libc_realloc(void *, size_t);
+extern void *__libc_memalign(size_t, size_t);
+
+/* The plan is read at the first call; getenv takes no memory. */
+static const char *plan(void) {
+    static const char *read_plan;
+    if (!read_plan) {
+        read_plan = getenv("FAULT");
+        if (!read_plan) read_plan = "";
+    }
+    return read_plan;
+}
+
+static int is_short(void) { return strcmp(plan(), "short") == 0; }
+
+/* Counts a call, and says whether it is the one that fails. */
+static int fails(enum kind kind) {
+    long number = __atomic_add_fetch(&counts[kind], 1, __ATOMIC_SEQ_CST);
+    size_t length = strlen(names[kind]);
+    if (strncmp(plan(), names[kind], length) != 0 || plan()[length] != ':') return 0;
+    return atol(plan() + length + 1) == number;
+}
+
+/* Writes to a file of the plan's, past the functions below. */
+static void note(const char *variable, int flags, const char *text) {
+    const char *path = getenv(variable);
+    if (!path) return;
+    long file = syscall(SYS_openat, AT_FDCWD, path, O_WRONLY | O_CREAT | flags, 0600);
+    if (file < 0) return;
+    syscall(SYS_write, file, text, strlen(text));
+    syscall(SYS_close, file);
+}
+
+static void trace(const char *what, const char *first, const char *second) {
+    char line[1024];
+    snprintf(line, sizeof line, "%s %s %s\n", what, first, second);
+    note("TRACE", O_APPEND, line);
+}
+
+/* The path of an open file. */
+static const char *path_of(int file, char *path, size_t size) {
+    char link[64];
+    snprintf(link, sizeof link, "/proc/self/fd/%d", file);
+    ssize_t length = readlink(link, path, size - 1);
+    path[length < 0 ? 0 : length] = 0;
+    return path;
+}
+
+__attribute__((destructor)) static void tell(void) {
+    char text[256];
+    size_t used = 0;
+    for (int kind = 0; kind < KINDS; kind++)
+        used += (size_t)snprintf(text + used, sizeof text - used, "%s %ld\n", names[kind], counts[kind]);
+    note("CALLS", O_TRUNC, text);
+}
+
+/* ---- memory */
+
+static void *no_memory(void) {
+    errno = ENOMEM;
+    return NULL;
+}
+
+void *malloc(size_t size) { return fails(GROWTH) ? no_memory() : __libc_malloc(size); }
+
+void *calloc(size_t count, size_t size) { return fails(GROWTH) ? no_memory() : __libc_calloc(count, size); }
+
+void *realloc(void *old, size_t size) { return fails(GROWTH) ? no_memory() : __libc_realloc(old, size); }
+
+void *memalign(size_t alignment, size_t size) {
+    return fails(GROWTH) ? no_memory() : __libc_memalign(alignment, size);
+}
+
+void *aligned_alloc(size_t alignment, size_t size) { return memalign(alignment, size); }
+
+int posix_memalign(void **place, size_t alignment, size_t size) {
+    void *block = memalign(alignment, size);
+    if (!block) return ENOMEM;
+    *place = block;
+    return 0;
+}
+
+/* ---- files */
+
+static int refused(int why) {
+    errno = why;
+    return -1;
+}
+
+static int open_at(int folder, const char *path, int flags, mode_t mode) {
+    if (flags & (O_WRONLY | O_RDWR)) trace("open", path, "");
+    if (fails(OPEN)) return refused(EACCES);
+    return (int)syscall(SYS_openat, folder, path, flags, mode);
+}
+
+/* Says the fourth argument of an open, where there is one. */
+#define MODE_OF(last, flags, mode)                                                                                     \
+    mode_t mode = 0;                                                                                                   \
+    if ((flags) & (O_CREAT | O_TMPFILE)) {                                                                             \
+        va_list rest;                                                                                                  \
+        va_start(rest, last);                                                                                          \
+        mode = va_arg(rest, mode_t);                                                                                   \
+        va_end(rest);                                                                                                  \
+    }
+
+int open(const char *path, int flags, ...) {
+    MODE_OF(flags, flags, mode)
+    return open_at(AT_FDCWD, path, flags, mode);
+}
+
+int open64(const char *path, int flags, ...) {
+    MODE_OF(flags, flags, mode)
+    return open_at(AT_FDCWD, path, flags, mode);
+}
+
+int openat(int folder, const char *path, int flags, ...) {
+    MODE_OF(flags, flags, mode)
+    return open_at(folder, path, flags, mode);
+}
+
+int openat64(int folder, const char *path, int flags, ...) {
+    MODE_OF(flags, flags, mode)
+    return open_at(folder, path, flags, mode);
+}
+
+ssize_t read(int file, void *buffer, size_t size) {
+    if (fails(READ)) return refused(EIO);
+    if (is_short() && size > 1) size = 1;
+    return syscall(SYS_read, file, buffer, size);
+}
+
+ssize_t write(int file, const void *buffer, size_t size) {
+    char path[512];
+    trace("write", path_of(file, path, sizeof path), "");
+    if (fails(WRITE)) return refused(ENOSPC);
+    if (is_short() && size > 1) size = 1;
+    return syscall(SYS_write, file, buffer, size);
+}
+
+static int synced(int file, long call) {
+    char path[512];
+    trace("sync", path_of(file, path, sizeof path), "");
+    if (fails(SYNC)) return refused(EIO);
+    return (int)syscall(call, file);
+}
+
+int fsync(int file) { return synced(file, SYS_fsync); }
+
+int fdatasync(int file) { return synced(file, SYS_fdatasync); }
+
+int rename(const char *from, const char *to) {
+    trace("rename", from, to);
+    if (fails(RENAME)) return refused(EACCES);
+    return (int)syscall(SYS_renameat, AT_FDCWD, from, AT_FDCWD, to);
+}
+
+int renameat(int from_folder, const char *from, int to_folder, const char *to) {
+    trace("rename", from, to);
+    if (fails(RENAME)) return refused(EACCES);
+    return (int)syscall(SYS_renameat, from_folder, from, to_folder, to);
+}

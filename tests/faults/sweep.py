@@ -1,0 +1,183 @@
+#!/usr/bin/env python3
+"""Makes each growth, each read and each write of the program fail in turn, and looks how it ends.
+
+  tests/faults/sweep.py [PROGRAM]    PROGRAM: crates/cdc_app/out/cdc_app
+
+A small library, faults.c, is built and loaded before the C library; it refuses the call that a plan names. For every
+run below, and for every call of it in turn:
+- a growth that is refused ends it with the one line of want of memory and status 1. Under `simulate` it refuses a step
+  where it is the step's own: what is then printed is the state that the steps before it make when they are played
+  alone. Each kind of step that always takes memory is refused so at some of its growths.
+- a read that is refused ends it with the one line of read_fault and status 1;
+- a write that is refused ends it with status 1, a beginning of what it prints, and the write_fault on standard error;
+- reads and writes that fall short change nothing.
+It needs a C compiler, `cc`. The last line is 'faults: N runs, M failed'; the status is 0 where none failed.
+"""
+import os
+import re
+import shutil
+import subprocess
+import sys
+import tempfile
+import threading
+from collections import Counter
+from concurrent.futures import ThreadPoolExecutor
+
+HERE = os.path.dirname(os.path.realpath(__file__))
+TOP = os.path.dirname(os.path.dirname(HERE))
+JOBS = 2
+SECONDS = 60
+NO_MEMORY = (1, b"fault: out_of_memory\n")
+NOT_READ = (1, b"fault: read_fault\n")
+REFUSED = re.compile(rb"^steps (\d+) of (\d+)\nrefused (\d+) out_of_memory\n", re.M)
+STEPS = re.compile(rb"^steps \d+ of \d+\n", re.M)
+# The kinds of steps that always take memory.
+GROWING = {b"batch", b"poll", b"publish", b"arrive", b"send", b"take"}
+failures = []
+counts = Counter()
+counting = threading.Lock()
+
+
+def example(name):
+    return os.path.join(TOP, "examples", name)
+
+
+EVERY = os.path.join(HERE, "every-request.script")
+# The words of each run, and the file that is its standard input, if there is one.
+CASES = [
+    (["books", example("two-phase.script")], None),
+    (["books", EVERY], None),
+    (["books", "-"], example("first-transfer.script")),
+    (["books", example("refusals.script")], None),
+    (["messages", example("two-phase.script")], None),
+    (["messages", EVERY], None),
+    (["simulate", example("two-phase.script"), example("two-phase.steps")], None),
+    (["simulate", example("two-phase.script"), example("faults.steps")], None),
+    (["simulate", EVERY, os.path.join(HERE, "every-step.steps")], None),
+]
+
+
+def built_library(folder):
+    """Builds the library that refuses calls."""
+    if not shutil.which("cc"):
+        sys.exit("faults: there is no C compiler, cc, so nothing was tried")
+    library = os.path.join(folder, "faults.so")
+    subprocess.run(["cc", "-shared", "-fPIC", "-O1", "-Wall", "-Werror", "-o", library, f"{HERE}/faults.c"], check=True)
+    return library
+
+
+class Run:
+    """How a run of the program ended: its status, what it printed, and what it said on standard error."""
+
+    def __init__(self, words, stdin, **plan):
+        with counting:
+            counts["runs"] += 1
+        env = dict(os.environ, LD_PRELOAD=library, **plan)
+        with open(stdin or os.devnull, "rb") as given:
+            done = subprocess.run([program, *words], stdin=given, capture_output=True, env=env, timeout=SECONDS)
+        self.end = (done.returncode, done.stdout)
+        self.errors = done.stderr
+
+
+class Case:
+    """A run of the program without a fault, and each with one."""
+
+    def __init__(self, number, words, stdin):
+        self.words, self.stdin = words, stdin
+        self.name = " ".join(os.path.basename(it) for it in words)
+        self.folder = os.path.join(room, str(number))
+        os.mkdir(self.folder)
+        calls = os.path.join(self.folder, "calls")
+        self.good = Run(words, stdin, CALLS=calls)
+        with open(calls, "rb") as file:
+            self.calls = {kind.decode(): int(count) for kind, count in (line.split() for line in file)}
+        self.played = {}
+        if words[0] == "simulate":
+            with open(words[2], "rb") as file:
+                self.steps = [line for line in file.read().split(b"\n") if line.strip() and line[:1] != b"#"]
+
+    def run(self, plan):
+        return Run(self.words, self.stdin, FAULT=plan)
+
+    def fail(self, plan, run):
+        failures.append(
+            f"failed: {self.name}, {plan}: status {run.end[0]}, {run.end[1][-200:]!r}, {run.errors[-200:]!r}"
+        )
+
+    def after(self, done):
+        """What is printed after so many steps and no fault, without the line that counts them."""
+        if done not in self.played:
+            steps = os.path.join(self.folder, f"{done}.steps")
+            with open(steps, "wb") as file:
+                file.write(b"".join(step + b"\n" for step in self.steps[:done]))
+            self.played[done] = STEPS.sub(b"", Run([*self.words[:2], steps], self.stdin).end[1])
+        return self.played[done]
+
+    def refused_step(self, run):
+        """The number of the step that was refused for want of memory, where the rest is as it has to be; else None."""
+        found = REFUSED.search(run.end[1])
+        if self.words[0] != "simulate" or run.end[0] != 1 or not found:
+            return None
+        done, count, refused = map(int, found.groups())
+        rest = run.end[1][: found.start()] + run.end[1][found.end() :]
+        return refused if count == len(self.steps) and refused == done + 1 and rest == self.after(done) else None
+
+    def growths(self, pool):
+        """Each growth is refused in turn."""
+        plans = [f"growth:{n}" for n in range(1, self.calls["growth"] + 1)]
+        ended = list(zip(plans, pool.map(self.run, plans)))
+        steps = [self.refused_step(run) for _, run in ended]
+        for step, (plan, run) in zip(steps, ended):
+            if step is None and run.end not in (self.good.end, NO_MEMORY):
+                self.fail(plan, run)
+        found = [step for step in steps if step is not None]
+        if found != sorted(found):
+            failures.append(f"failed: {self.name}: growths that come later are refused at earlier steps")
+        if self.words[0] == "simulate":
+            for word in sorted(GROWING - {self.steps[step - 1].split()[0] for step in found}):
+                failures.append(f"failed: {self.name}: no step `{word.decode()}` is refused for want of memory")
+        told = Counter("refused a step" if step else "ended the command" if run.end == NO_MEMORY else "changed nothing"
+                       for step, (_, run) in zip(steps, ended))
+        return f"{len(plans)} growths ({', '.join(f'{count} {what}' for what, count in sorted(told.items()))})"
+
+    def reads(self, pool):
+        """Each read is refused in turn."""
+        plans = [f"read:{n}" for n in range(1, self.calls["read"] + 1)]
+        for plan, run in zip(plans, pool.map(self.run, plans)):
+            if run.end != NOT_READ or b": read_fault: " not in run.errors:
+                self.fail(plan, run)
+        return f"{len(plans)} reads"
+
+    def writes(self, pool):
+        """Each write to standard output is refused in turn."""
+        plans = [f"write:{n}" for n in range(1, self.calls["write"] + 1)]
+        for plan, run in zip(plans, pool.map(self.run, plans)):
+            begins = self.good.end[1].startswith(run.end[1]) and run.end[1] != self.good.end[1]
+            if run.end[0] != 1 or not begins or b"standard output: write_fault: " not in run.errors:
+                self.fail(plan, run)
+        return f"{len(plans)} writes"
+
+    def short(self):
+        """Reads and writes of one byte each change nothing."""
+        run = self.run("short")
+        if run.end != self.good.end:
+            self.fail("short", run)
+
+    def sweep(self, pool):
+        if self.good.end[0] != 0:
+            self.fail("no fault", self.good)
+        parts = [self.growths(pool), self.reads(pool), self.writes(pool)]
+        self.short()
+        print(f"{self.name}: {', '.join(parts)}", flush=True)
+
+
+program = os.path.realpath(sys.argv[1] if len(sys.argv) > 1 else f"{TOP}/crates/cdc_app/out/cdc_app")
+with tempfile.TemporaryDirectory() as room:
+    library = built_library(room)
+    with ThreadPoolExecutor(JOBS) as pool:
+        for number, (words, stdin) in enumerate(CASES):
+            Case(number, words, stdin).sweep(pool)
+for it in failures[:20]:
+    print(it)
+print(f"faults: {counts['runs']} runs, {len(failures)} failed")
+sys.exit(1 if failures else 0)
