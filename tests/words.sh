@@ -245,13 +245,13 @@ subscriber 1 applied 0 last 0 ended no closed no
 ' "$out"
 has 'a refused step: standard error' 'a step was refused: not_enabled' "$err"
 run simulate "$top/examples/two-phase.script" "$top/examples/two-phase.steps"
-shown=$(sed -n '/^steps 22 of 22$/,/^```$/p' "$top/README.md")
+shown=$(sed -n '/^steps 22 of 22$/,/^```$/p' "$top/docs/GUIDE.md")
 same 'the example of steps' "batch 1: 0 0 0 0
 batch 2: 0 0 0
 ${shown%\`\`\`}" "$out"
 ends_well 'the example of steps'
 run simulate "$top/examples/two-phase.script" "$top/examples/faults.steps"
-shown=$(sed -n '/^steps 92 of 92$/,/^```$/p' "$top/README.md")
+shown=$(sed -n '/^steps 92 of 92$/,/^```$/p' "$top/docs/GUIDE.md")
 same 'the example of faults' "${shown%\`\`\`}" "$(sed -n '/^steps /,$p' output)
 "
 ends_well 'the example of faults'
@@ -310,7 +310,7 @@ for ((length = 1; length <= 200; length++)); do
 ' "$out"
 done
 
-# The example of two phases: an event of each kind that its ledger makes, and the book that the README shows.
+# The example of two phases: an event of each kind that its ledger makes, and the book that the guide shows.
 its_kinds='two_phase_pending ledger=700 0
 two_phase_pending ledger=700 0
 two_phase_pending ledger=700 0
@@ -323,7 +323,7 @@ found=$(sed -n 's/^event_type=\([a-z_]*\) \(ledger=[0-9]*\) transfer_code=1 .* t
 same 'the example of two phases: its messages' "$its_kinds" "$found"
 ends_well 'the example of two phases: its messages'
 run books "$top/examples/two-phase.script"
-shown=$(sed -n '/^batch 1: 0 0 0 0$/,/^```$/p' "$top/README.md")
+shown=$(sed -n '/^batch 1: 0 0 0 0$/,/^```$/p' "$top/docs/GUIDE.md")
 same 'the example of two phases: its books' "$out" "${shown%\`\`\`}"
 ends_well 'the example of two phases: its books'
 
