@@ -20,6 +20,14 @@ pub fn is_decimal(text: &[u8]) -> bool
 }
 
 // The number that digits write, if it has at most 128 bits.
+pub(crate) fn value_of_text(digits: &str) -> Option<u128>
+    requires { spec.is_decimal digits.now ≡ true }
+    ensures { result ≡ spec.at_most u128.MAX (digits_value 10 digits.now) }
+{
+    digits.parse().ok()
+}
+
+// The same of digits as bytes.
 fn value_of(digits: &[u8]) -> Option<u128>
     requires { spec.is_decimal digits.now ≡ true }
     ensures { result ≡ spec.at_most u128.MAX (digits_value 10 digits.now) }
@@ -27,7 +35,7 @@ fn value_of(digits: &[u8]) -> Option<u128>
     let Ok(text) = str::from_utf8(digits) else {
         return None;
     };
-    text.parse().ok()
+    value_of_text(text)
 }
 
 /// The number that a text writes in decimal, leading zeros allowed; none where it isn't one or more digits, or where

@@ -9,7 +9,7 @@ ghost use Rattle.cdc_message.specs.Found.{Finds, number_in};
 ghost use Rattle.cdc_message.specs.Reading as spec;
 ghost use Rattle.cdc_message.specs.declared.fields.Part.TheVariants.{Top, Transfer};
 
-use crate::decimals::{decimal_up_to, is_decimal};
+use crate::decimals::{is_decimal, value_of_text};
 use crate::errors::DecodeError;
 use crate::fields::{Field, FieldName, Part};
 use crate::kinds::kind_named;
@@ -29,11 +29,10 @@ fn member(object: &Value, field: Field) -> Result<&Value, DecodeError>
 fn decimal(text: &str, field: Field) -> Result<u128, DecodeError>
     ensures { result ≡ number_in field (string text.now) }
 {
-    let text = text.as_bytes();
-    if !is_decimal(text) {
+    if !is_decimal(text.as_bytes()) {
         return Err(DecodeError::WrongType(field));
     }
-    decimal_up_to(text, u128::MAX).ok_or(DecodeError::OutOfRange(field))
+    value_of_text(text).ok_or(DecodeError::OutOfRange(field))
 }
 
 // The number that a decimal string or a JSON number gives.
