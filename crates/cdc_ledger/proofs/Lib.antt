@@ -15,6 +15,7 @@ pub mod OtherLaws
 pub mod PulseLaws
 pub mod KeptLaws
 pub mod Found
+pub mod PlaceLaws
 pub mod Kept
 pub mod Legal
 pub mod Places

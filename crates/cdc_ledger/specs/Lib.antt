@@ -19,5 +19,6 @@ pub mod Follows
 pub mod Movements
 pub mod OpenTriples
 pub mod Parts
+pub mod Places
 pub mod Sound
 pub mod Tables

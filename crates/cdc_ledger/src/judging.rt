@@ -13,7 +13,6 @@ ghost use Rattle.cdc_ledger.specs.Sound.{HasAccounts};
 ghost use Rattle.cdc_ledger.specs.Movements.{IsJudged, IsPlaced};
 ghost use Rattle.cdc_ledger.specs.Verdict.{max_timestamp, known_transfer_lines, transfer_lines};
 
-use crate::accounts::find_place;
 use crate::movements::Movement;
 use crate::plain_refusals::refusal_between;
 use crate::settling_refusals::{end_refusal, field_refusal};
@@ -61,10 +60,10 @@ impl Tables {
             (λ refusal. first_line lines ≡ Some refusal) }
     {
         let accounts = self.accounts();
-        let Some(debit) = find_place(accounts, request.debit_account_id) else {
+        let Some(debit) = self.account_place(request.debit_account_id) else {
             return Err(TransferResult::DebitAccountNotFound);
         };
-        let Some(credit) = find_place(accounts, request.credit_account_id) else {
+        let Some(credit) = self.account_place(request.credit_account_id) else {
             return Err(TransferResult::CreditAccountNotFound);
         };
         if let Some(refusal) = refusal_between(
@@ -95,11 +94,12 @@ impl Tables {
         ensures placed { IsPlaced (accounts_now self.now.history) result }
         ensures settled { result.settled ≡ Some pending }
     {
-        let accounts = self.accounts();
         Movement {
             entry,
-            debit: find_place(accounts, entry.transfer.debit_account_id).unwrap(),
-            credit: find_place(accounts, entry.transfer.credit_account_id).unwrap(),
+            debit: self.account_place(entry.transfer.debit_account_id).unwrap(),
+            credit: self
+                .account_place(entry.transfer.credit_account_id)
+                .unwrap(),
             settled: Some(pending),
         }
     }

@@ -4,6 +4,7 @@
 mod accounts;
 mod batches;
 pub mod errors;
+mod id_places;
 mod judging;
 pub mod ledger;
 mod movements;

@@ -11,8 +11,8 @@ use Rattle.cdc_ledger.specs.Contents.{Contents}
 use Rattle.cdc_ledger.specs.Effects.{account_after}
 use Rattle.cdc_ledger.specs.Movements.{IsPlaced, Takes, account_ids, accounts_after, effect_of_movement}
 use Rattle.cdc_ledger.specs.Sound.{AreApart}
-use Rattle.cdc_ledger.specs.Tables.{history_of}
-use Rattle.cdc_ledger.proofs.IndexKept.{opens-end, opens-new, opens-unsettling, settled-end}
+use Rattle.cdc_ledger.specs.Tables.{contents_of, history_of}
+use Rattle.cdc_ledger.proofs.IndexKept.{opens-end, opens-new, stores-opens, settled-end}
 use Rattle.cdc_ledger.proofs.Recorded.{CanTake-from, All-Takes, AreApart-kept, IsPlaced-changed, IsPlaced-kept, history-recorded, last_timestamp-kept, items-with_items, IsKept-recorded}
 use Rattle.cdc_ledger.proofs.tables.Tables.record.Goals as goal
 
@@ -37,8 +37,16 @@ follow_end-requires-clause-fresh c =
 
 pub follow_end-requires-clause-room : goal.follow_end-requires-clause-room
 follow_end-requires-clause-room c opening =
+    let room : 0 < (contents_of c.self.inside).end_room =
     subst (λ (v : Contents). 0 < v.end_room) (sym c.self.view_is)
-    (c.requires.end_room (opens-unsettling c.args.movement.now.entry opening))
+    (c.requires.end_room (stores-opens c.args.movement.now.entry opening)) in
+    omega (arith, room)
+
+pub keep_place-requires : goal.keep_place-requires
+keep_place-requires c storing =
+    let room : 0 < (contents_of c.self.inside).end_room =
+    subst (λ (v : Contents). 0 < v.end_room) (sym c.self.view_is) (c.requires.end_room storing) in
+    omega (arith, room)
 
 pub apply-requires-clause-placed : goal.apply-requires-clause-placed
 apply-requires-clause-placed c =
@@ -96,6 +104,7 @@ invariant_of-self c =
       entries = c.push_reserved.new.self;
       log = c.push.new.self;
       index = c.follow_end.new.index;
+      transfer_places = c.keep_place.new.places;
       last = m.entry.timestamp;
     } in
     let accounts : t'.accounts.items ≡ accounts_after m t.accounts.items =
@@ -106,7 +115,8 @@ invariant_of-self c =
     c.push.ensures.events
     ∙ ap (λ (e : Event). t.log.events ++ e ∷ [])
     (c.event.ensures ∙ ap (λ (xs : List Account). event_from xs m.entry) c.as_slice.ensures.value) in
-    IsKept-recorded t t' m c.len.result can c.requires.within (omega arith) accounts told c.follow_end.ensures.triples
+    IsKept-recorded t t' m c.len-place.result can c.requires.within (omega arith) accounts told
+    c.follow_end.ensures.triples refl c.keep_place.ensures.places
     (history-recorded m t t' accounts c.push_reserved.ensures.items refl refl)
 
 pub returns-clause-history : goal.returns-clause-history
@@ -119,6 +129,7 @@ returns-clause-history c =
       entries = c.push_reserved.new.self;
       log = c.push.new.self;
       index = c.follow_end.new.index;
+      transfer_places = c.keep_place.new.places;
       last = m.entry.timestamp;
     } in
     history-recorded m t t'
