@@ -34,7 +34,7 @@ pub index_of-later : (h : History) (accounts : List Opened) (t : ℕ) (closed : 
 index_of-later h accounts t closed sound later = ap set.from_list (open_triples-later h accounts t closed sound later)
 
 -- what settles no pending transfer is a single-phase or a pending one
-settles-settled_by : (h : History) (e : Entry) → Follows h e → settled_by h e ≡ None → settles e.kind ≡ false
+pub settles-settled_by : (h : History) (e : Entry) → Follows h e → settled_by h e ≡ None → settles e.kind ≡ false
 settles-settled_by h e follows none = by_settling (settles e.kind) refl
   where
     by_settling : (b : Bool) → settles e.kind ≡ b → settles e.kind ≡ false

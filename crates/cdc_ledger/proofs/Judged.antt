@@ -1,5 +1,5 @@
 -- Which line refuses a request for a transfer, part by part of its table, and what the movement of an accepted one is.
-use Rattle.std.proofs.Common.{ℕ, ◌≤◌, Bool, true, false, cond, List, ◌++◌, ◌≡◌, Option, Some, None, length, get_or, refl, ap, ap₂, sym, ◌∙◌, subst, arith}
+use Rattle.std.proofs.Common.{ℕ, ◌≤◌, Bool, true, false, List, [], ◌∷◌, ◌++◌, ◌≡◌, Option, Some, None, length, get_or, refl, ap, ap₂, sym, ◌∙◌, subst, arith}
 use Rattle.std.specs.Prelude.{◌==◌, ◌&&◌, ◌||◌, not, nat_le, nat_lt, if◌then◌else◌, option_map, IsSome}
 use Rattle.std.specs.List.{list_any, position_or_len}
 use Rattle.std.proofs.lemmas.Bool.{le-leb, false≢true, ltb-false}
@@ -19,11 +19,11 @@ use Rattle.cdc_ledger.specs.Accounts.{HasBoundedSums, lines_between}
 use Rattle.cdc_ledger.specs.Balances.{balances, some_by}
 use Rattle.cdc_ledger.specs.Effects.{settled_in, settled_by}
 use Rattle.cdc_ledger.specs.Events.{account_now, account_with, accounts_now}
-use Rattle.cdc_ledger.specs.Filling.{stored, filled, filled_by, filled_from, as_asked}
+use Rattle.cdc_ledger.specs.Endings.{ending_among, ending_from, ended_refusal}
+use Rattle.cdc_ledger.specs.Filling.{stored, filled, filled_by, filled_from, as_asked, expires_at}
 use Rattle.cdc_ledger.specs.History.{History, Opened, opened}
 use Rattle.cdc_ledger.specs.Kinds.{posts, voids, expires}
 use Rattle.cdc_ledger.specs.Movements.{IsPlace}
-use Rattle.cdc_ledger.specs.Parts.{end_lines_of}
 use Rattle.cdc_ledger.specs.Places.{account_place}
 use Rattle.cdc_ledger.specs.Balances.{IsBounded}
 use Rattle.cdc_ledger.specs.Submit.{entry_of}
@@ -68,6 +68,12 @@ module _ (h : History) (r : NewTransfer) (t : ℕ) (shape : transfer_refusal fea
       → first_line (transfer_lines features h r t) ≡ first_line (settling_lines (stored h r.pending_id) h r t)
   unfolding own_lines
   first_line-settling is = decides false is
+
+  -- where there is none, that is the refusal
+  pub first_line-no_pending : is_plain_request r ≡ false → stored h r.pending_id ≡ None
+      → first_line (transfer_lines features h r t) ≡ Some transfer.PendingTransferNotFound
+  first_line-no_pending is none =
+      first_line-settling is ∙ ap (λ o. first_line (settling_lines o h r t)) none
 
 -- where no account is shown, none was opened
 none_from_option_map : {A B : Type 0} (f : A → B) (o : Option A) → None ≡ option_map f o → o ≡ None
@@ -155,6 +161,26 @@ some_by-all h t test within =
     (AllByRecursion-weaker (λ e. e.timestamp ≤ t) (λ e. (nat_le e.timestamp t && test e) ≡ test e)
     (λ e at. ap (λ b. b && test e) (le-leb e.timestamp t at)) h.entries within)
 
+-- the lines on a pending transfer that was settled already, by these entries or by its timeout
+abbrev end_lines_of : List Entry → Transfer → ℕ → List (Bool × TransferResult)
+end_lines_of entries p t =
+    (list_any (λ x. posts x.kind x.transfer p) entries, transfer.PendingTransferAlreadyPosted) ∷
+    (list_any (λ x. voids x.kind x.transfer p) entries, transfer.PendingTransferAlreadyVoided) ∷ (
+      list_any (λ x. expires x.kind x.transfer p) entries || (not (p.timeout == 0) && nat_le (expires_at p) t),
+      transfer.PendingTransferExpired,
+    ) ∷
+    []
+
+-- so its ending decides
+end_lines-ending : (posted voided expired : Bool) (p : Transfer) (t : ℕ)
+    → first_line ((posted, transfer.PendingTransferAlreadyPosted) ∷ (voided, transfer.PendingTransferAlreadyVoided)
+    ∷ (expired || (not (p.timeout == 0) && nat_le (expires_at p) t), transfer.PendingTransferExpired) ∷ [])
+    ≡ ended_refusal (ending_from posted voided expired) p t
+end_lines-ending true voided expired p t = refl
+end_lines-ending false true expired p t = refl
+end_lines-ending false false true p t = refl
+end_lines-ending false false false p t = refl
+
 -- the lines on a post or a void whose pending transfer is there: by its fields, and then by what came before
 module _ (h : History) (r : NewTransfer) (t : ℕ) (x : Entry) (shape : transfer_refusal features r ≡ None)
     (unknown : first_line (known_transfer_lines (stored h r.id) h r) ≡ None) (settles : is_plain_request r ≡ false)
@@ -183,10 +209,13 @@ module _ (h : History) (r : NewTransfer) (t : ℕ) (x : Entry) (shape : transfer
 
   -- where its fields are right, the end of the pending transfer decides
   pub first_line-end : first_line (field_lines x r) ≡ None
-      → first_line (transfer_lines features h r t) ≡ first_line (end_lines_of h.entries x.transfer t)
+      → first_line (transfer_lines features h r t) ≡ ended_refusal (ending_among h.entries x.transfer) x.transfer t
   first_line-end none =
       first_line-settling h r t shape unknown settles
       ∙ by_parts ∙ first_line-append_none (field_lines x r) (end_lines_of h.entries x.transfer t) none
+      ∙ end_lines-ending (list_any (λ e. posts e.kind e.transfer x.transfer) h.entries)
+      (list_any (λ e. voids e.kind e.transfer x.transfer) h.entries)
+      (list_any (λ e. expires e.kind e.transfer x.transfer) h.entries) x.transfer t
 
 -- what a request asks for, by its flags
 plain_settles : (pending post void : Bool) (h : History) (x : Transfer) → not (post || void) ≡ true

@@ -7,6 +7,7 @@ use Rattle.cdc_types.specs.declared.accounts.NewAccount.{NewAccount}
 use Rattle.cdc_ledger.specs.declared.tables.Tables.TheInside.{Inside}
 use Rattle.cdc_ledger.specs.Accounts.{opened_as, fresh_account}
 use Rattle.cdc_ledger.specs.Changes.{with_account}
+use Rattle.cdc_ledger.specs.Endings.{endings_of}
 use Rattle.cdc_ledger.specs.Events.{accounts_now, events}
 use Rattle.cdc_ledger.specs.History.{History, Opened, opened}
 use Rattle.cdc_ledger.specs.OpenTriples.{index_of}
@@ -29,13 +30,15 @@ index_of-later h accounts t closed sound later = ap from_list (open_triples-late
 pub IsKept-from : (t : Inside) (h : History) → history_of t ≡ h → t.accounts.items ≡ accounts_now h
     → t.log.events ≡ events h → t.index.triples ≡ index_of h
     → ((id : ℕ) → place_of t.account_places id ≡ account_place t.accounts.items id)
-    → ((id : ℕ) → place_of t.transfer_places id ≡ stored_place t.entries.items id) → IsSound h → IsKept t
-IsKept-from t h same balanced logged indexed accounts_placed transfers_placed sound = record {
+    → ((id : ℕ) → place_of t.transfer_places id ≡ stored_place t.entries.items id)
+    → t.endings.items ≡ endings_of t.entries.items → IsSound h → IsKept t
+IsKept-from t h same balanced logged indexed accounts_placed transfers_placed ended sound = record {
   balanced = balanced ∙ ap accounts_now (sym same);
   logged = logged ∙ ap events (sym same);
   indexed = indexed ∙ ap index_of (sym same);
   accounts_placed = accounts_placed;
   transfers_placed = transfers_placed;
+  ended = ended;
   sound = subst IsSound (sym same) sound;
 }
 
@@ -47,6 +50,7 @@ IsKept-timed t n kept later within = record {
   indexed = kept.indexed ∙ sym (index_of-later (history_of t) (history_of t).accounts n t.closed kept.sound later);
   accounts_placed = kept.accounts_placed;
   transfers_placed = kept.transfers_placed;
+  ended = kept.ended;
   sound = IsSound-timed (history_of t) n kept.sound later within;
 }
 
@@ -68,9 +72,10 @@ pub IsKept-opened : (t t' : Inside) (r : NewAccount) (n : ℕ) → IsKept t → 
     → t'.index.triples ≡ t.index.triples
     → ((id : ℕ) → place_of t'.account_places id
     ≡ (if r.id == id then Some (length t.accounts.items) else place_of t.account_places id))
-    → t'.transfer_places ≡ t.transfer_places → t'.entries.items ≡ t.entries.items
+    → t'.transfer_places ≡ t.transfer_places → t'.endings.items ≡ t.endings.items
+    → t'.entries.items ≡ t.entries.items
     → history_of t' ≡ with_account (history_of t) (record { request = r; timestamp = n }) → IsKept t'
-IsKept-opened t t' r n kept free later within accounts log index added places entries same =
+IsKept-opened t t' r n kept free later within accounts log index added places endings entries same =
     let h : History = history_of t in
     let o : Opened = record { request = r; timestamp = n } in
     IsKept-from t' (with_account h o) same
@@ -82,4 +87,5 @@ IsKept-opened t t' r n kept free later within accounts log index added places en
     kept.balanced free kept.accounts_placed added id ∙ ap (λ xs. account_place xs id) (sym accounts))
     (λ id. ap (λ ids. place_of ids id) places ∙ kept.transfers_placed id
     ∙ ap (λ es. stored_place es id) (sym entries))
+    (endings ∙ kept.ended ∙ ap endings_of (sym entries))
     (IsSound-with_account h o kept.sound free later within)

@@ -26,6 +26,7 @@ pub mod IndexLaws
 pub mod DueLaws
 pub mod IndexTimes
 pub mod IndexKept
+pub mod EndingLaws
 pub mod IndexNext
 pub mod Expiring
 pub mod Pulsed

@@ -21,11 +21,12 @@ use Rattle.cdc_ledger.specs.Balances.{balances}
 use Rattle.cdc_ledger.specs.Changes.{pushed}
 use Rattle.cdc_ledger.specs.Contents.{Contents}
 use Rattle.cdc_ledger.specs.Effects.{Effect, effect_of, effect_by, settled_by, account_after}
+use Rattle.cdc_ledger.specs.Endings.{endings_after, endings_of}
 use Rattle.cdc_ledger.specs.Events.{accounts_now, account_now, account_at, events, shown_account, shown_transfer, event_of, nobody}
 use Rattle.cdc_ledger.specs.Follows.{Follows}
 use Rattle.cdc_ledger.specs.History.{History, Opened, opened}
 use Rattle.cdc_ledger.specs.Kinds.{settles, stores}
-use Rattle.cdc_ledger.specs.Movements.{IsPlace, IsPlaced, IsMovement, SideFits, Takes, account_ids, accounts_after, effect_of_movement}
+use Rattle.cdc_ledger.specs.Movements.{IsPlace, IsPlaced, IsMovement, SideFits, Takes, account_ids, accounts_after, effect_of_movement, settled_transfer}
 use Rattle.cdc_ledger.specs.OpenTriples.{index_of, ends_after}
 use Rattle.cdc_ledger.specs.Places.{account_place, place_of, stored_place}
 use Rattle.cdc_ledger.specs.Sound.{AreApart, IsSound}
@@ -38,6 +39,7 @@ use Rattle.cdc_ledger.proofs.IndexKept.{index_of-ended}
 use Rattle.cdc_ledger.proofs.Found.{find-accounts_now}
 use Rattle.cdc_ledger.proofs.OpenedLaws.{opened_id}
 use Rattle.cdc_ledger.proofs.PlaceLaws.{transfers_placed-pushed}
+use Rattle.cdc_ledger.proofs.EndingLaws.{endings_of-pushed}
 use Rattle.cdc_ledger.proofs.EventLaws.{events-pushed}
 use Rattle.cdc_ledger.proofs.SoundLaws.{both_fit, IsSound-pushed}
 
@@ -82,7 +84,7 @@ module _ (h : History) (e : Entry) (sound : IsSound h) (follows : Follows h e) (
       (λ k d inside. (debit_fits (get_or h.accounts k d).request.id, credit_fits (get_or h.accounts k d).request.id))
 
 -- the movement of an entry has its effect
-effect-movement : (h : History) (m : Movement) → m.settled ≡ settled_by h m.entry
+effect-movement : (h : History) (m : Movement) → settled_transfer m ≡ settled_by h m.entry
     → effect_of_movement m ≡ effect_of h m.entry
 effect-movement h m settled = ap (λ p. effect_by p m.entry) settled
 
@@ -229,19 +231,20 @@ pub IsKept-recorded : (t t' : Inside) (m : Movement) (place : ℕ) → CanTake t
     → place ≡ length t.entries.items
     → t'.accounts.items ≡ accounts_after m t.accounts.items
     → t'.log.events ≡ t.log.events ++ event_from t'.accounts.items m.entry ∷ []
-    → t'.index.triples ≡ ends_after m.settled m.entry place t.index.triples
+    → t'.index.triples ≡ ends_after (settled_transfer m) m.entry place t.index.triples
     → t'.account_places ≡ t.account_places
     → ((id : ℕ) → place_of t'.transfer_places id
     ≡ (if stores m.entry.kind && (m.entry.transfer.id == id) then Some place else place_of t.transfer_places id))
+    → t'.endings.items ≡ endings_after m.settled m.entry.kind t.endings.items
     → history_of t' ≡ pushed (history_of t) m.entry → IsKept t'
-IsKept-recorded t t' m place can top at accounts log index places added same =
+IsKept-recorded t t' m place can top at accounts log index places added endings same =
     let h : History = history_of t in
     let now : t'.accounts.items ≡ accounts_now (pushed h m.entry) =
     accounts ∙ accounts-recorded t m can in
     let told : event_from t'.accounts.items m.entry ≡ event_of (pushed h m.entry) m.entry =
     ap (λ (xs : List Account). event_from xs m.entry) now
     ∙ event_from-now (pushed h m.entry) m.entry can.follows.accounts.0 can.follows.accounts.1 refl in
-    let ends : ends_after m.settled m.entry place t.index.triples ≡ index_of (pushed h m.entry) =
+    let ends : ends_after (settled_transfer m) m.entry place t.index.triples ≡ index_of (pushed h m.entry) =
     ap (λ (o : Option Transfer). ends_after o m.entry place t.index.triples) can.movement.settled
     ∙ ap₂ (λ n s. ends_after (settled_by h m.entry) m.entry n s) at can.kept.indexed
     ∙ sym (index_of-ended h m.entry can.kept.sound can.follows can.later) in
@@ -258,5 +261,8 @@ IsKept-recorded t t' m place can top at accounts log index places added same =
           (λ n. added n ∙ ap (λ k. if stores m.entry.kind && (m.entry.transfer.id == n) then Some k
           else place_of t.transfer_places n) at) id
           ∙ ap (λ (g : History). stored_place g.entries id) (sym same);
+      ended = endings ∙ ap (endings_after m.settled m.entry.kind) can.kept.ended
+          ∙ sym (endings_of-pushed h m.entry can.kept.sound can.follows m.settled can.movement.settled can.movement.found)
+          ∙ ap (λ (g : History). endings_of g.entries) (sym same);
       sound = subst IsSound (sym same) (IsSound-pushed h m.entry can.kept.sound can.follows can.later top);
     }

@@ -13,7 +13,7 @@ ghost use Rattle.cdc_ledger.specs.Sound.{HasAccounts};
 ghost use Rattle.cdc_ledger.specs.Movements.{IsJudged, IsPlaced};
 ghost use Rattle.cdc_ledger.specs.Verdict.{max_timestamp, known_transfer_lines, transfer_lines};
 
-use crate::movements::Movement;
+use crate::movements::{Movement, Pending};
 use crate::plain_refusals::refusal_between;
 use crate::settling_refusals::{end_refusal, field_refusal};
 use crate::tables::Tables;
@@ -88,7 +88,7 @@ impl Tables {
     }
 
     /// The movement of an entry that posts, voids or ends this pending transfer, whose accounts are there.
-    pub(crate) fn settling(&self, entry: Entry, pending: Transfer) -> Movement
+    pub(crate) fn settling(&self, entry: Entry, pending: Pending) -> Movement
         requires { HasAccounts self.now.history entry }
         ensures entry { result.entry ≡ entry }
         ensures placed { IsPlaced (accounts_now self.now.history) result }
@@ -121,22 +121,23 @@ impl Tables {
             (λ refusal. first_line lines ≡ Some refusal) }
     {
         let entries = self.entries();
-        let Some(entry) = self.entry(request.pending_id) else {
+        let Some(place) = self.entry_place(request.pending_id) else {
             return Err(TransferResult::PendingTransferNotFound);
         };
-        if let Some(refusal) = field_refusal(entry, request) {
+        let entry = entries[place];
+        if let Some(refusal) = field_refusal(&entry, request) {
             return Err(refusal);
         }
-        let pending = entry.transfer;
-        if let Some(refusal) = end_refusal(entries, &pending, timestamp) {
+        let transfer = entry.transfer;
+        if let Some(refusal) = end_refusal(self.ending(place), &transfer, timestamp) {
             return Err(refusal);
         }
         let entry = Entry {
             timestamp,
             kind: kind_of(request),
-            transfer: filled_from(&pending, request, timestamp),
+            transfer: filled_from(&transfer, request, timestamp),
         };
-        Ok(self.settling(entry, pending))
+        Ok(self.settling(entry, Pending { transfer, place }))
     }
 
     /// What a request for a transfer leads to at this moment, or the first line that refuses it.

@@ -3,6 +3,7 @@
 
 mod accounts;
 mod batches;
+mod endings;
 pub mod errors;
 mod id_places;
 mod judging;

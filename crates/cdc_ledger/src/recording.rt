@@ -7,7 +7,7 @@ ghost use Rattle.cdc_ledger.specs.Filling as filling;
 ghost use Rattle.cdc_ledger.specs.Follows.{Follows};
 ghost use Rattle.cdc_ledger.specs.History.{opened};
 ghost use Rattle.cdc_ledger.specs.Kinds as kinds;
-ghost use Rattle.cdc_ledger.specs.Movements.{IsMovement};
+ghost use Rattle.cdc_ledger.specs.Movements.{IsMovement, settled_transfer};
 ghost use Rattle.cdc_ledger.specs.OpenTriples as triples;
 ghost use Rattle.cdc_ledger.specs.OpenTriples.{ends_after};
 ghost use Rattle.cdc_ledger.specs.Places.{place_of};
@@ -15,6 +15,7 @@ ghost use Rattle.cdc_ledger.specs.Submit.{opened_by};
 ghost use Rattle.cdc_ledger.specs.Verdict.{max_timestamp};
 
 use crate::accounts::opened_account;
+use crate::endings::follow_ending;
 use crate::id_places::IdPlaces;
 use crate::movements::Movement;
 use crate::tables::Tables;
@@ -32,19 +33,21 @@ fn opens(entry: &Entry) -> bool
 /// Keeps the end that the pending transfer of an entry at this place will come to, and forgets that of one that is
 /// settled.
 fn follow_end(index: &mut DueIndex, movement: &Movement, place: usize)
-    requires settled { IfSome movement.now.settled (λ p. filling.expires_at p < 2 ^ 64) }
+    requires settled { IfSome (settled_transfer movement.now)
+        (λ p. filling.expires_at p < 2 ^ 64) }
     requires timely { triples.opens movement.now.entry ≡ true
         → filling.expires_at movement.now.entry.transfer < 2 ^ 64 }
     requires fresh { triples.opens movement.now.entry ≡ true
         → IsNewTimestamp index.old.triples movement.now.entry.transfer.timestamp }
     requires room { triples.opens movement.now.entry ≡ true → 0 < index.old.room }
     ensures triples { index.new.triples
-        ≡ ends_after movement.now.settled movement.now.entry place index.old.triples }
+        ≡ ends_after (settled_transfer movement.now) movement.now.entry place index.old.triples }
     ensures room { index.old.room ≤ index.new.room + 1 }
 {
     let entry = &movement.entry;
     if let Some(pending) = movement.settled {
-        let _had_an_end = index.remove(expires_at(&pending), pending.timestamp);
+        let transfer = pending.transfer;
+        let _had_an_end = index.remove(expires_at(&transfer), transfer.timestamp);
     } else if opens(entry) {
         index.add(Triple {
             expires_at: expires_at(&entry.transfer),
@@ -109,6 +112,7 @@ impl Tables {
         let place = self.entries.len();
         follow_end(&mut self.index, movement, place);
         keep_place(&mut self.transfer_places, &movement.entry, place);
+        follow_ending(&mut self.endings, movement);
         movement.apply(self.accounts.as_mut_slice());
         self.log.push(movement.event(self.accounts.as_slice()));
         self.entries.push_reserved(movement.entry);

@@ -1,7 +1,8 @@
 //! What the ledger keeps between two batches.
 
-ghost use Rattle.std.specs.Prelude.{◌≡◌, ◌≤◌, true, option_map, OnOk, IfErr};
+ghost use Rattle.std.specs.Prelude.{◌≡◌, ◌<◌, ◌≤◌, true, Some, length, option_map, slice_get, OnOk, IfErr};
 ghost use Rattle.std.specs.Option.{option_copied};
+ghost use Rattle.cdc_ledger.specs.Endings.{ending_of};
 ghost use Rattle.cdc_ledger.specs.Events.{account_now, accounts_now, events};
 ghost use Rattle.cdc_ledger.specs.Filling.{stored};
 ghost use Rattle.cdc_ledger.specs.History.{empty_history, opened};
@@ -9,6 +10,7 @@ ghost use Rattle.cdc_ledger.specs.Places.{account_place, stored_place};
 ghost use Rattle.cdc_ledger.specs.Sound.{IsSound};
 ghost use Rattle.cdc_ledger.specs.Verdict.{max_timestamp};
 
+use crate::endings::Ending;
 use crate::errors::BatchError;
 use crate::id_places::IdPlaces;
 use cdc_expiry::DueIndex;
@@ -27,6 +29,8 @@ pub(crate) struct Tables {
     pub(crate) entries: Vec<Entry>,
     /// The place of the entry that stored each transfer.
     pub(crate) transfer_places: IdPlaces,
+    /// How the transfer of each entry ended.
+    pub(crate) endings: Vec<Ending>,
     pub(crate) log: EventLog,
     /// A triple for each pending transfer with a timeout that is neither posted, voided nor expired; its slot is the
     /// place of the entry.
@@ -57,6 +61,7 @@ impl Tables {
             account_places: IdPlaces::new(alloc),
             entries: Vec::new(alloc),
             transfer_places: IdPlaces::new(alloc),
+            endings: Vec::new(alloc),
             log: EventLog::new(alloc),
             index: DueIndex::new(alloc),
             last: 0,
@@ -113,6 +118,15 @@ impl Tables {
         self.transfer_places.find(id)
     }
 
+    /// How the transfer of the entry at this place ended.
+    pub(crate) fn ending(&self, place: usize) -> Ending
+        requires { place < length self.now.history.entries }
+        ensures { let entries = self.now.history.entries in
+            option_map (ending_of entries) (slice_get entries place) ≡ Some result }
+    {
+        self.endings[place]
+    }
+
     /// The events of the entries.
     pub(crate) fn log(&self) -> &EventLog
         ensures { result.now.events ≡ events self.now.history }
@@ -160,6 +174,7 @@ impl Tables {
         ensures memory { IfErr result (λ e. e ≡ BatchError.OutOfMemory) }
     {
         self.entries.reserve(additional)?;
+        self.endings.reserve(additional)?;
         self.log.reserve(additional)?;
         Ok(())
     }

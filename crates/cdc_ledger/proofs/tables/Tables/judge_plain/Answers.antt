@@ -103,6 +103,7 @@ returns c =
           credit = rw c.as_asked.ensures credit;
         };
         settled = sym (ap (settled_by h) entry ∙ settled-plain h r n c.requires.plain);
+        found = tt;
       };
       follows = subst (Follows h) (sym entry)
           (Follows-accepted features h r n c.accounts-accounts.ensures.sound (omega arith) unrefused);
