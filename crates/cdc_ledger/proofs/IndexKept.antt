@@ -34,7 +34,7 @@ pub index_of-later : (h : History) (accounts : List Opened) (t : ℕ) (closed : 
 index_of-later h accounts t closed sound later = ap set.from_list (open_triples-later h accounts t closed sound later)
 
 -- what settles no pending transfer is a single-phase or a pending one
-settles-settled_by : (h : History) (e : Entry) → Follows h e → settled_by h e ≡ None → settles e.kind ≡ false
+pub settles-settled_by : (h : History) (e : Entry) → Follows h e → settled_by h e ≡ None → settles e.kind ≡ false
 settles-settled_by h e follows none = by_settling (settles e.kind) refl
   where
     by_settling : (b : Bool) → settles e.kind ≡ b → settles e.kind ≡ false
@@ -149,16 +149,9 @@ due-none h now least =
     none_long [] long = refl
     none_long (x ∷ xs) long = absurd (omega arith)
 
--- an entry that has a triple of its own settles nothing
-pub opens-unsettling : (e : Entry) → opens e ≡ true → settles e.kind ≡ false
-opens-unsettling e is = by_kind e.kind (and_parts (holds e.kind) (not (e.transfer.timeout == 0)) is).0
-  where
-    by_kind : (k : EventKind) → holds k ≡ true → settles k ≡ false
-    by_kind SinglePhase held = refl
-    by_kind TwoPhasePending held = refl
-    by_kind TwoPhasePosted held = absurd (false≢true held)
-    by_kind TwoPhaseVoided held = absurd (false≢true held)
-    by_kind TwoPhaseExpired held = absurd (false≢true held)
+-- an entry that has a triple of its own stores its transfer
+pub stores-opens : (e : Entry) → opens e ≡ true → stores e.kind ≡ true
+stores-opens e is = stores-holds e.kind (and_parts (holds e.kind) (not (e.transfer.timeout == 0)) is).0
 
 -- so after an entry the set is that of the history with the entry, whatever the entry does
 pub index_of-ended : (h : History) (e : Entry) → IsSound h → Follows h e → h.last < e.timestamp

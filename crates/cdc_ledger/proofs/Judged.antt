@@ -1,10 +1,8 @@
 -- Which line refuses a request for a transfer, part by part of its table, and what the movement of an accepted one is.
-use Rattle.std.proofs.Common.{ℕ, ◌≤◌, Bool, true, false, cond, List, ◌++◌, ◌≡◌, Option, Some, None, length, get_or, refl, ap, ap₂, sym, ◌∙◌, subst, arith}
-use Rattle.std.specs.Prelude.{◌==◌, ◌&&◌, ◌||◌, not, nat_le, nat_lt, if◌then◌else◌, position, option_map, IsSome}
+use Rattle.std.proofs.Common.{ℕ, ◌≤◌, Bool, true, false, List, [], ◌∷◌, ◌++◌, ◌≡◌, Option, Some, None, length, get_or, refl, ap, ap₂, sym, ◌∙◌, subst, arith}
+use Rattle.std.specs.Prelude.{◌==◌, ◌&&◌, ◌||◌, not, nat_le, nat_lt, if◌then◌else◌, option_map, IsSome}
 use Rattle.std.specs.List.{list_any, position_or_len}
 use Rattle.std.proofs.lemmas.Bool.{le-leb, false≢true, ltb-false}
-use Rattle.std.proofs.lemmas.List.Folds.{find_at}
-use Rattle.std.proofs.lemmas.Option.{slice_get_past}
 use Rattle.cdc_types.specs.declared.accounts.Account.{Account}
 use Rattle.cdc_types.specs.declared.events.Entry.{Entry}
 use Rattle.cdc_types.specs.declared.events.EventKind.TheVariants.{SinglePhase, TwoPhasePending, TwoPhasePosted, TwoPhaseVoided}
@@ -21,20 +19,22 @@ use Rattle.cdc_ledger.specs.Accounts.{HasBoundedSums, lines_between}
 use Rattle.cdc_ledger.specs.Balances.{balances, some_by}
 use Rattle.cdc_ledger.specs.Effects.{settled_in, settled_by}
 use Rattle.cdc_ledger.specs.Events.{account_now, account_with, accounts_now}
-use Rattle.cdc_ledger.specs.Filling.{stored, filled, filled_by, filled_from, as_asked}
+use Rattle.cdc_ledger.specs.Endings.{ending_among, ending_from, ended_refusal}
+use Rattle.cdc_ledger.specs.Filling.{stored, filled, filled_by, filled_from, as_asked, expires_at}
 use Rattle.cdc_ledger.specs.History.{History, Opened, opened}
 use Rattle.cdc_ledger.specs.Kinds.{posts, voids, expires}
 use Rattle.cdc_ledger.specs.Movements.{IsPlace}
-use Rattle.cdc_ledger.specs.Parts.{end_lines_of}
+use Rattle.cdc_ledger.specs.Places.{account_place}
 use Rattle.cdc_ledger.specs.Balances.{IsBounded}
 use Rattle.cdc_ledger.specs.Submit.{entry_of}
 use Rattle.cdc_ledger.specs.Verdict.{transfer_lines, known_transfer_lines, plain_lines, field_lines, settling_lines}
 use Rattle.cdc_ledger.proofs.BalanceLaws.{balances_later}
 use Rattle.cdc_ledger.proofs.Changes.{IsUpTo}
 use Rattle.cdc_ledger.proofs.Elements.{AllByRecursion-weaker, list_any_same}
-use Rattle.cdc_ledger.proofs.Found.{find-same}
+use Rattle.cdc_ledger.proofs.Found.{find-accounts_now}
 use Rattle.cdc_ledger.proofs.LineLaws.{first_line-append_none, first_line-append_some, test_fails}
 use Rattle.cdc_ledger.proofs.OpenedLaws.{opened_id}
+use Rattle.cdc_ledger.proofs.PlaceLaws.{find-no_place}
 use Rattle.cdc_ledger.proofs.Places.{place-find}
 
 -- the lines on a request's own fields and on a known id don't apply: its own lines decide
@@ -69,6 +69,12 @@ module _ (h : History) (r : NewTransfer) (t : ℕ) (shape : transfer_refusal fea
   unfolding own_lines
   first_line-settling is = decides false is
 
+  -- where there is none, that is the refusal
+  pub first_line-no_pending : is_plain_request r ≡ false → stored h r.pending_id ≡ None
+      → first_line (transfer_lines features h r t) ≡ Some transfer.PendingTransferNotFound
+  first_line-no_pending is none =
+      first_line-settling is ∙ ap (λ o. first_line (settling_lines o h r t)) none
+
 -- where no account is shown, none was opened
 none_from_option_map : {A B : Type 0} (f : A → B) (o : Option A) → None ≡ option_map f o → o ≡ None
 none_from_option_map f None e = refl
@@ -86,30 +92,24 @@ opened_from : (h : History) (id : ℕ) (a : Account) (o : Option Opened) → ope
 opened_from h id a None is e = cc
 opened_from h id a (Some o) is e = record { account = o; found = is; now = cc }
 
--- a search that answers no place has come past the end
-no_place : (b : Bool) (n : ℕ) → cond b (Some n) None ≡ None → b ≡ false
-no_place true n e = cc
-no_place false n e = refl
-
 -- where a search among the accounts with their balances now ends, its account is there, or there is none
-module _ (h : History) (xs : List Account) (id : ℕ) (same : xs ≡ accounts_now h) where
+module _ (h : History) (id : ℕ) where
   -- the account at the place of an id is the one that was opened with it, so its running balances may decide
-  pub IsOpened-place : (place : ℕ) (d : Account) → IsPlace xs id place → IsOpened h id (get_or xs place d)
-  IsOpened-place place d at =
+  pub IsOpened-place : (xs : List Account) → xs ≡ accounts_now h → (place : ℕ) (d : Account)
+      → IsPlace (accounts_now h) id place → IsOpened h id (get_or xs place d)
+  IsOpened-place xs same place d at =
       opened_from h id (get_or xs place d) (opened h id) refl
-      (sym (place-find xs id place d at) ∙ find-same h xs id same)
+      (ap (λ ys. Some (get_or ys place d)) same ∙ sym (place-find (accounts_now h) id place d at)
+      ∙ find-accounts_now h id)
 
   -- an id without a place was never opened, so that the line on a missing account applies
-  pub unopened-no_place : position (λ a. a.id == id) xs ≡ None → opened h id ≡ None
+  pub unopened-no_place : account_place (accounts_now h) id ≡ None → opened h id ≡ None
   unopened-no_place at =
-      let p : Account → Bool = λ a. a.id == id in
-      let past : length xs ≤ position_or_len p xs =
-      ltb-false (position_or_len p xs) (length xs) (no_place (nat_lt (position_or_len p xs) (length xs)) _ at) in
       none_from_option_map (account_now h) (opened h id)
-      (sym (find_at p xs ∙ slice_get_past xs _ past) ∙ find-same h xs id same)
+      (sym (find-no_place (λ a. a.id == id) (accounts_now h) at) ∙ find-accounts_now h id)
 
   -- an account that is there has a place
-  pub IsSome-place : (place : Option ℕ) → IsSome (opened h id) → place ≡ position (λ a. a.id == id) xs → IsSome place
+  pub IsSome-place : (place : Option ℕ) → IsSome (opened h id) → place ≡ account_place (accounts_now h) id → IsSome place
   IsSome-place None has at = subst IsSome (unopened-no_place (sym at)) has
   IsSome-place (Some place) has at = refl
 
@@ -161,6 +161,26 @@ some_by-all h t test within =
     (AllByRecursion-weaker (λ e. e.timestamp ≤ t) (λ e. (nat_le e.timestamp t && test e) ≡ test e)
     (λ e at. ap (λ b. b && test e) (le-leb e.timestamp t at)) h.entries within)
 
+-- the lines on a pending transfer that was settled already, by these entries or by its timeout
+abbrev end_lines_of : List Entry → Transfer → ℕ → List (Bool × TransferResult)
+end_lines_of entries p t =
+    (list_any (λ x. posts x.kind x.transfer p) entries, transfer.PendingTransferAlreadyPosted) ∷
+    (list_any (λ x. voids x.kind x.transfer p) entries, transfer.PendingTransferAlreadyVoided) ∷ (
+      list_any (λ x. expires x.kind x.transfer p) entries || (not (p.timeout == 0) && nat_le (expires_at p) t),
+      transfer.PendingTransferExpired,
+    ) ∷
+    []
+
+-- so its ending decides
+end_lines-ending : (posted voided expired : Bool) (p : Transfer) (t : ℕ)
+    → first_line ((posted, transfer.PendingTransferAlreadyPosted) ∷ (voided, transfer.PendingTransferAlreadyVoided)
+    ∷ (expired || (not (p.timeout == 0) && nat_le (expires_at p) t), transfer.PendingTransferExpired) ∷ [])
+    ≡ ended_refusal (ending_from posted voided expired) p t
+end_lines-ending true voided expired p t = refl
+end_lines-ending false true expired p t = refl
+end_lines-ending false false true p t = refl
+end_lines-ending false false false p t = refl
+
 -- the lines on a post or a void whose pending transfer is there: by its fields, and then by what came before
 module _ (h : History) (r : NewTransfer) (t : ℕ) (x : Entry) (shape : transfer_refusal features r ≡ None)
     (unknown : first_line (known_transfer_lines (stored h r.id) h r) ≡ None) (settles : is_plain_request r ≡ false)
@@ -189,10 +209,13 @@ module _ (h : History) (r : NewTransfer) (t : ℕ) (x : Entry) (shape : transfer
 
   -- where its fields are right, the end of the pending transfer decides
   pub first_line-end : first_line (field_lines x r) ≡ None
-      → first_line (transfer_lines features h r t) ≡ first_line (end_lines_of h.entries x.transfer t)
+      → first_line (transfer_lines features h r t) ≡ ended_refusal (ending_among h.entries x.transfer) x.transfer t
   first_line-end none =
       first_line-settling h r t shape unknown settles
       ∙ by_parts ∙ first_line-append_none (field_lines x r) (end_lines_of h.entries x.transfer t) none
+      ∙ end_lines-ending (list_any (λ e. posts e.kind e.transfer x.transfer) h.entries)
+      (list_any (λ e. voids e.kind e.transfer x.transfer) h.entries)
+      (list_any (λ e. expires e.kind e.transfer x.transfer) h.entries) x.transfer t
 
 -- what a request asks for, by its flags
 plain_settles : (pending post void : Bool) (h : History) (x : Transfer) → not (post || void) ≡ true

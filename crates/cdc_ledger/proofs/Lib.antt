@@ -15,6 +15,7 @@ pub mod OtherLaws
 pub mod PulseLaws
 pub mod KeptLaws
 pub mod Found
+pub mod PlaceLaws
 pub mod Kept
 pub mod Legal
 pub mod Places
@@ -25,6 +26,7 @@ pub mod IndexLaws
 pub mod DueLaws
 pub mod IndexTimes
 pub mod IndexKept
+pub mod EndingLaws
 pub mod IndexNext
 pub mod Expiring
 pub mod Pulsed

@@ -4,11 +4,9 @@ use Rattle.std.specs.Prelude.{◌==◌, nat_lt, find, position, All, unwrap_or, 
 use Rattle.std.specs.List.{AllByRecursion, AllPairs, position_or_len, slice_get}
 use Rattle.std.proofs.lemmas.Bool.{ltb-true, ltb-false, eqb-true, eq-eqb, ne_eqb, eqb-false, false≢true}
 use Rattle.std.proofs.lemmas.List.{ext_get_or, length-set, length-map, get_or-map, get_or-set_same, get_or-set_other}
-use Rattle.std.proofs.lemmas.List.Folds.{find_at}
 use Rattle.std.proofs.lemmas.List.Elements.{All-nil, All-cons}
 use Rattle.std.proofs.lemmas.List.Kept.{AllPairs-cons}
 use Rattle.std.proofs.lemmas.List.Quantifiers.{position-Some}
-use Rattle.std.proofs.lemmas.Option.{slice_get-get_or}
 use Rattle.cdc_types.specs.declared.accounts.Account.{Account}
 use Rattle.cdc_types.specs.declared.accounts.Balances.{Balances}
 use Rattle.cdc_ledger.specs.Accounts.{no_balances, shown_as, shown_in}
@@ -17,18 +15,7 @@ use Rattle.cdc_ledger.specs.Events.{nobody, shown_account}
 use Rattle.cdc_ledger.specs.declared.movements.Movement.{Movement}
 use Rattle.cdc_ledger.specs.Movements.{IsPlace, IsPlaced, account_ids, accounts_after, debited_account, credited_account, effect_of_movement}
 use Rattle.cdc_ledger.specs.Sound.{AreApart}
-
--- the place that a search answers is the one where it stopped
-place_from : (b : Bool) (n k : ℕ) → cond b (Some n) None ≡ Some k → n ≡ k
-place_from true n k e = cc
-place_from false n k e = cc
-
--- what was found among the accounts was found among the same ones elsewhere
-pub position_in : (xs ys : List Account) (id : ℕ) (found now : Option ℕ) → found ≡ position (λ a. a.id == id) xs
-    → xs ≡ ys
-    → found ≡ now → position (λ a. a.id == id) ys ≡ now
-position_in xs ys id found now at same is =
-    ap (λ (zs : List Account). position (λ a. a.id == id) zs) (sym same) ∙ sym at ∙ is
+use Rattle.cdc_ledger.proofs.PlaceLaws.{find-place}
 
 -- the account at its place
 module _ (accounts : List Account) (id place : ℕ) (d : Account) (at : IsPlace accounts id place) where
@@ -42,10 +29,7 @@ module _ (accounts : List Account) (id place : ℕ) (d : Account) (at : IsPlace 
 
   -- it is the account that a search for the id gives
   pub place-find : find (λ a. a.id == id) accounts ≡ Some (get_or accounts place d)
-  place-find =
-      let same : position_or_len (λ (a : Account). a.id == id) accounts ≡ place =
-      place_from (nat_lt (position_or_len (λ (a : Account). a.id == id) accounts) (length accounts)) _ place at in
-      find_at (λ a. a.id == id) accounts ∙ ap (slice_get accounts) same ∙ slice_get-get_or accounts place d place-inside
+  place-find = find-place (λ a. a.id == id) accounts place d at
 
   -- what an event shows of the account
   pub place-shown : shown_in accounts id ≡ shown_as (get_or accounts place d)

@@ -1,6 +1,6 @@
 -- What the ledger's tables are after one more entry.
 use Rattle.std.proofs.Common.{ℕ, ◌+◌, ◌<◌, ◌≤◌, List, [], ◌∷◌, ◌++◌, ◌≡◌, Option, Some, None, cond, get_or, length, map, refl, ap, ap₂, sym, ◌∙◌, subst, arith}
-use Rattle.std.specs.Prelude.{◌==◌, not, nat_lt, unwrap_or, option_map, IsSome, All}
+use Rattle.std.specs.Prelude.{◌==◌, ◌&&◌, if◌then◌else◌, not, nat_lt, unwrap_or, option_map, IsSome, All}
 use Rattle.std.specs.List.{AllByRecursion, position_or_len}
 use Rattle.std.specs.Vec.{with_items}
 use Rattle.std.specs.declared.vec.Vec.{Vec}
@@ -21,12 +21,14 @@ use Rattle.cdc_ledger.specs.Balances.{balances}
 use Rattle.cdc_ledger.specs.Changes.{pushed}
 use Rattle.cdc_ledger.specs.Contents.{Contents}
 use Rattle.cdc_ledger.specs.Effects.{Effect, effect_of, effect_by, settled_by, account_after}
+use Rattle.cdc_ledger.specs.Endings.{endings_after, endings_of}
 use Rattle.cdc_ledger.specs.Events.{accounts_now, account_now, account_at, events, shown_account, shown_transfer, event_of, nobody}
 use Rattle.cdc_ledger.specs.Follows.{Follows}
 use Rattle.cdc_ledger.specs.History.{History, Opened, opened}
-use Rattle.cdc_ledger.specs.Kinds.{settles}
-use Rattle.cdc_ledger.specs.Movements.{IsPlace, IsPlaced, IsMovement, SideFits, Takes, account_ids, accounts_after, effect_of_movement}
+use Rattle.cdc_ledger.specs.Kinds.{settles, stores}
+use Rattle.cdc_ledger.specs.Movements.{IsPlace, IsPlaced, IsMovement, SideFits, Takes, account_ids, accounts_after, effect_of_movement, settled_transfer}
 use Rattle.cdc_ledger.specs.OpenTriples.{index_of, ends_after}
+use Rattle.cdc_ledger.specs.Places.{account_place, place_of, stored_place}
 use Rattle.cdc_ledger.specs.Sound.{AreApart, IsSound}
 use Rattle.cdc_ledger.specs.Tables.{IsKept, contents_of, history_of}
 use Rattle.cdc_ledger.specs.Verdict.{max_timestamp}
@@ -36,6 +38,8 @@ use Rattle.cdc_ledger.proofs.Elements.{map-map}
 use Rattle.cdc_ledger.proofs.IndexKept.{index_of-ended}
 use Rattle.cdc_ledger.proofs.Found.{find-accounts_now}
 use Rattle.cdc_ledger.proofs.OpenedLaws.{opened_id}
+use Rattle.cdc_ledger.proofs.PlaceLaws.{transfers_placed-pushed}
+use Rattle.cdc_ledger.proofs.EndingLaws.{endings_of-pushed}
 use Rattle.cdc_ledger.proofs.EventLaws.{events-pushed}
 use Rattle.cdc_ledger.proofs.SoundLaws.{both_fit, IsSound-pushed}
 
@@ -80,7 +84,7 @@ module _ (h : History) (e : Entry) (sound : IsSound h) (follows : Follows h e) (
       (λ k d inside. (debit_fits (get_or h.accounts k d).request.id, credit_fits (get_or h.accounts k d).request.id))
 
 -- the movement of an entry has its effect
-effect-movement : (h : History) (m : Movement) → m.settled ≡ settled_by h m.entry
+effect-movement : (h : History) (m : Movement) → settled_transfer m ≡ settled_by h m.entry
     → effect_of_movement m ≡ effect_of h m.entry
 effect-movement h m settled = ap (λ p. effect_by p m.entry) settled
 
@@ -139,17 +143,18 @@ module _ (m : Movement) where
   before_changed id [] = refl
   before_changed id (a ∷ rest) = ap (λ n. cond (not (a.id == id)) (1 + n) 0) (before_changed id rest)
 
-  -- so it keeps its place
-  place_changed : (id place : ℕ) (xs : List Account) → IsPlace xs id place → IsPlace (accounts_after m xs) id place
-  place_changed id place xs at =
-      ap₂ (λ n l. cond (nat_lt n l) (Some n) None) (before_changed id xs) (length-map xs _) ∙ at
+  -- so it has the place that it had
+  pub account_place-changed : (id : ℕ) (xs : List Account)
+      → account_place (accounts_after m xs) id ≡ account_place xs id
+  account_place-changed id xs =
+      ap₂ (λ n l. cond (nat_lt n l) (Some n) None) (before_changed id xs) (length-map xs _)
 
   -- so the movement's places still hold when its event is made of the changed accounts
   pub IsPlaced-changed : (xs ys : List Account) → ys ≡ accounts_after m xs → IsPlaced xs m → IsPlaced ys m
   IsPlaced-changed xs ys same placed =
       subst (λ zs. IsPlaced zs m) (sym same) (record {
-        debit = place_changed m.entry.transfer.debit_account_id m.debit xs placed.debit;
-        credit = place_changed m.entry.transfer.credit_account_id m.credit xs placed.credit;
+        debit = account_place-changed m.entry.transfer.debit_account_id xs ∙ placed.debit;
+        credit = account_place-changed m.entry.transfer.credit_account_id xs ∙ placed.credit;
       })
 
   -- so the tables hold the history with one more entry, and nothing else new
@@ -226,16 +231,20 @@ pub IsKept-recorded : (t t' : Inside) (m : Movement) (place : ℕ) → CanTake t
     → place ≡ length t.entries.items
     → t'.accounts.items ≡ accounts_after m t.accounts.items
     → t'.log.events ≡ t.log.events ++ event_from t'.accounts.items m.entry ∷ []
-    → t'.index.triples ≡ ends_after m.settled m.entry place t.index.triples
+    → t'.index.triples ≡ ends_after (settled_transfer m) m.entry place t.index.triples
+    → t'.account_places ≡ t.account_places
+    → ((id : ℕ) → place_of t'.transfer_places id
+    ≡ (if stores m.entry.kind && (m.entry.transfer.id == id) then Some place else place_of t.transfer_places id))
+    → t'.endings.items ≡ endings_after m.settled m.entry.kind t.endings.items
     → history_of t' ≡ pushed (history_of t) m.entry → IsKept t'
-IsKept-recorded t t' m place can top at accounts log index same =
+IsKept-recorded t t' m place can top at accounts log index places added endings same =
     let h : History = history_of t in
     let now : t'.accounts.items ≡ accounts_now (pushed h m.entry) =
     accounts ∙ accounts-recorded t m can in
     let told : event_from t'.accounts.items m.entry ≡ event_of (pushed h m.entry) m.entry =
     ap (λ (xs : List Account). event_from xs m.entry) now
     ∙ event_from-now (pushed h m.entry) m.entry can.follows.accounts.0 can.follows.accounts.1 refl in
-    let ends : ends_after m.settled m.entry place t.index.triples ≡ index_of (pushed h m.entry) =
+    let ends : ends_after (settled_transfer m) m.entry place t.index.triples ≡ index_of (pushed h m.entry) =
     ap (λ (o : Option Transfer). ends_after o m.entry place t.index.triples) can.movement.settled
     ∙ ap₂ (λ n s. ends_after (settled_by h m.entry) m.entry n s) at can.kept.indexed
     ∙ sym (index_of-ended h m.entry can.kept.sound can.follows can.later) in
@@ -245,5 +254,15 @@ IsKept-recorded t t' m place can top at accounts log index same =
           ∙ sym (events-pushed h m.entry can.kept.sound.past can.later)
           ∙ ap events (sym same);
       indexed = index ∙ ends ∙ ap index_of (sym same);
+      accounts_placed = λ id. ap (λ ids. place_of ids id) places ∙ can.kept.accounts_placed id
+          ∙ sym (account_place-changed m id t.accounts.items) ∙ ap (λ xs. account_place xs id) (sym accounts);
+      transfers_placed = λ id. transfers_placed-pushed h t.transfer_places t'.transfer_places m.entry can.follows.fresh
+          can.kept.transfers_placed
+          (λ n. added n ∙ ap (λ k. if stores m.entry.kind && (m.entry.transfer.id == n) then Some k
+          else place_of t.transfer_places n) at) id
+          ∙ ap (λ (g : History). stored_place g.entries id) (sym same);
+      ended = endings ∙ ap (endings_after m.settled m.entry.kind) can.kept.ended
+          ∙ sym (endings_of-pushed h m.entry can.kept.sound can.follows m.settled can.movement.settled can.movement.found)
+          ∙ ap (λ (g : History). endings_of g.entries) (sym same);
       sound = subst IsSound (sym same) (IsSound-pushed h m.entry can.kept.sound can.follows can.later top);
     }

@@ -2,7 +2,8 @@
 use Rattle.std.specs.Prelude.{ℕ}
 use Rattle.cdc_ledger.specs.History.{History}
 
--- the history that they hold, and for how many more accounts, entries with their events, and ends there is room
+-- the history that they hold, and for how many more accounts, entries with their events, and stored transfers with
+-- their ends there is room
 pub record Contents : Type 0 where
   pub history : History
   pub account_room : ℕ

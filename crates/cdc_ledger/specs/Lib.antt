@@ -15,9 +15,10 @@ pub mod Verdict
 pub mod Accounts
 pub mod Contents
 pub mod Effects
+pub mod Endings
 pub mod Follows
 pub mod Movements
 pub mod OpenTriples
-pub mod Parts
+pub mod Places
 pub mod Sound
 pub mod Tables

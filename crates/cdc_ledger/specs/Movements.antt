@@ -1,12 +1,15 @@
 -- What an entry and the places of its two accounts are beside a history (for private contracts).
-use Rattle.std.specs.Prelude.{ℕ, ◌+◌, ◌-◌, ◌<◌, ◌≤◌, ◌^◌, ◌≡◌, ◌==◌, Some, None, List, map, position}
+use Rattle.std.specs.Prelude.{ℕ, ◌+◌, ◌-◌, ◌<◌, ◌≤◌, ◌^◌, ◌≡◌, ◌==◌, Option, Some, None, option_map, IfSome, List, map, position, slice_get}
 use Rattle.cdc_types.specs.declared.accounts.Account.{Account}
+use Rattle.cdc_types.specs.declared.events.Entry.{Entry}
 use Rattle.cdc_types.specs.declared.transfers.NewTransfer.{NewTransfer}
+use Rattle.cdc_types.specs.declared.transfers.Transfer.{Transfer}
 use Rattle.cdc_types.specs.Features.{features}
 use Rattle.cdc_types.specs.Lines.{first_line}
 use Rattle.cdc_ledger.specs.declared.movements.Movement.{Movement}
 use Rattle.cdc_ledger.specs.Effects.{Effect, effect_by, settled_by, account_after}
 use Rattle.cdc_ledger.specs.Events.{accounts_now}
+use Rattle.cdc_ledger.specs.Filling.{stored}
 use Rattle.cdc_ledger.specs.Follows.{Follows}
 use Rattle.cdc_ledger.specs.History.{History}
 use Rattle.cdc_ledger.specs.Submit.{entry_of}
@@ -16,9 +19,17 @@ use Rattle.cdc_ledger.specs.Verdict.{transfer_lines}
 abbrev pub IsPlace : List Account → ℕ → ℕ → Type 0
 IsPlace accounts id place = position (λ a. a.id == id) accounts ≡ Some place
 
+-- the pending transfer that the movement settles, if it settles one
+abbrev pub settled_transfer : Movement → Option Transfer
+settled_transfer m = option_map (λ p. p.transfer) m.settled
+
 -- what the movement does to its two accounts
 abbrev pub effect_of_movement : Movement → Effect
-effect_of_movement m = effect_by m.settled m.entry
+effect_of_movement m = effect_by (settled_transfer m) m.entry
+
+-- the entry that stored the transfer of this id stands at this place
+abbrev pub IsStoredAt : History → ℕ → ℕ → Type 0
+IsStoredAt h id place = (e : Entry) × (slice_get h.entries place ≡ Some e) × (stored h id ≡ Some e)
 
 -- both accounts of the movement stand at its places
 pub record IsPlaced (accounts : List Account) (m : Movement) : Type 0 where
@@ -26,10 +37,11 @@ pub record IsPlaced (accounts : List Account) (m : Movement) : Type 0 where
   pub credit : IsPlace accounts m.entry.transfer.credit_account_id m.credit
 
 -- the movement is that of its entry after the history: it knows the places of its two accounts, and the pending
--- transfer that it settles
+-- transfer that it settles with the place of its entry
 pub record IsMovement (h : History) (m : Movement) : Type 0 where
   pub placed : IsPlaced (accounts_now h) m
-  pub settled : m.settled ≡ settled_by h m.entry
+  pub settled : settled_transfer m ≡ settled_by h m.entry
+  pub found : IfSome m.settled (λ p. IsStoredAt h p.transfer.id p.place)
 
 -- no line refuses the request at the moment n, and the movement is that of its entry, which may come next
 pub record IsJudged (h : History) (r : NewTransfer) (n : ℕ) (m : Movement) : Type 0 where

@@ -1,7 +1,6 @@
-//! The accounts of a ledger: a list in the order in which they were opened, searched from the front.
+//! The accounts of a ledger: how one is opened, compared and shown.
 
-ghost use Rattle.std.specs.Prelude.{◌≡◌, ◌==◌, find, position};
-ghost use Rattle.std.specs.Option.{option_copied};
+ghost use Rattle.std.specs.Prelude.{◌≡◌};
 ghost use Rattle.cdc_ledger.specs.Accounts.{fresh_account, shown_as, opened_as};
 ghost use Rattle.cdc_ledger.specs.Verdict.{is_same_account as same_account};
 
@@ -60,18 +59,4 @@ pub(crate) fn is_same_account(account: &Account, request: &NewAccount) -> bool
         && request.ledger == account.ledger
         && request.code == account.code
         && request.flags == account.flags
-}
-
-/// The account of this id.
-pub(crate) fn find_account(accounts: &[Account], id: u128) -> Option<&Account>
-    ensures { option_copied result ≡ find (λ a. a.id == id) accounts.now }
-{
-    accounts.iter().find(|account| account.id == id)
-}
-
-/// The place of the account of this id, from 0.
-pub(crate) fn find_place(accounts: &[Account], id: u128) -> Option<usize>
-    ensures { result ≡ position (λ a. a.id == id) accounts.now }
-{
-    accounts.iter().position(|account| account.id == id)
 }

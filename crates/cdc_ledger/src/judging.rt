@@ -13,8 +13,7 @@ ghost use Rattle.cdc_ledger.specs.Sound.{HasAccounts};
 ghost use Rattle.cdc_ledger.specs.Movements.{IsJudged, IsPlaced};
 ghost use Rattle.cdc_ledger.specs.Verdict.{max_timestamp, known_transfer_lines, transfer_lines};
 
-use crate::accounts::find_place;
-use crate::movements::Movement;
+use crate::movements::{Movement, Pending};
 use crate::plain_refusals::refusal_between;
 use crate::settling_refusals::{end_refusal, field_refusal};
 use crate::tables::Tables;
@@ -61,10 +60,10 @@ impl Tables {
             (λ refusal. first_line lines ≡ Some refusal) }
     {
         let accounts = self.accounts();
-        let Some(debit) = find_place(accounts, request.debit_account_id) else {
+        let Some(debit) = self.account_place(request.debit_account_id) else {
             return Err(TransferResult::DebitAccountNotFound);
         };
-        let Some(credit) = find_place(accounts, request.credit_account_id) else {
+        let Some(credit) = self.account_place(request.credit_account_id) else {
             return Err(TransferResult::CreditAccountNotFound);
         };
         if let Some(refusal) = refusal_between(
@@ -89,17 +88,18 @@ impl Tables {
     }
 
     /// The movement of an entry that posts, voids or ends this pending transfer, whose accounts are there.
-    pub(crate) fn settling(&self, entry: Entry, pending: Transfer) -> Movement
+    pub(crate) fn settling(&self, entry: Entry, pending: Pending) -> Movement
         requires { HasAccounts self.now.history entry }
         ensures entry { result.entry ≡ entry }
         ensures placed { IsPlaced (accounts_now self.now.history) result }
         ensures settled { result.settled ≡ Some pending }
     {
-        let accounts = self.accounts();
         Movement {
             entry,
-            debit: find_place(accounts, entry.transfer.debit_account_id).unwrap(),
-            credit: find_place(accounts, entry.transfer.credit_account_id).unwrap(),
+            debit: self.account_place(entry.transfer.debit_account_id).unwrap(),
+            credit: self
+                .account_place(entry.transfer.credit_account_id)
+                .unwrap(),
             settled: Some(pending),
         }
     }
@@ -121,22 +121,23 @@ impl Tables {
             (λ refusal. first_line lines ≡ Some refusal) }
     {
         let entries = self.entries();
-        let Some(entry) = self.entry(request.pending_id) else {
+        let Some(place) = self.entry_place(request.pending_id) else {
             return Err(TransferResult::PendingTransferNotFound);
         };
-        if let Some(refusal) = field_refusal(entry, request) {
+        let entry = entries[place];
+        if let Some(refusal) = field_refusal(&entry, request) {
             return Err(refusal);
         }
-        let pending = entry.transfer;
-        if let Some(refusal) = end_refusal(entries, &pending, timestamp) {
+        let transfer = entry.transfer;
+        if let Some(refusal) = end_refusal(self.ending(place), &transfer, timestamp) {
             return Err(refusal);
         }
         let entry = Entry {
             timestamp,
             kind: kind_of(request),
-            transfer: filled_from(&pending, request, timestamp),
+            transfer: filled_from(&transfer, request, timestamp),
         };
-        Ok(self.settling(entry, pending))
+        Ok(self.settling(entry, Pending { transfer, place }))
     }
 
     /// What a request for a transfer leads to at this moment, or the first line that refuses it.

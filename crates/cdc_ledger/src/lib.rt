@@ -3,7 +3,9 @@
 
 mod accounts;
 mod batches;
+mod endings;
 pub mod errors;
+mod id_places;
 mod judging;
 pub mod ledger;
 mod movements;

@@ -45,6 +45,13 @@ impl Effect {
     }
 }
 
+/// A pending transfer, with the place of the entry that stored it, from 0.
+#[derive(Clone, Copy)]
+pub(crate) struct Pending {
+    pub(crate) transfer: Transfer,
+    pub(crate) place: usize,
+}
+
 /// An entry that the ledger can take, with the places of its two accounts.
 #[derive(Clone, Copy)]
 pub(crate) struct Movement {
@@ -54,7 +61,7 @@ pub(crate) struct Movement {
     /// The place of the account that is credited, from 0.
     pub(crate) credit: usize,
     /// The pending transfer that it posts, voids or brings to its end.
-    pub(crate) settled: Option<Transfer>,
+    pub(crate) settled: Option<Pending>,
 }
 
 /// Whether an entry of this kind moves its amount for good.
@@ -74,7 +81,7 @@ impl Movement {
         let holds = self.entry.kind == EventKind::TwoPhasePending;
         Effect {
             released: match self.settled {
-                Some(pending) => pending.amount,
+                Some(pending) => pending.transfer.amount,
                 None => 0,
             },
             held: if holds { amount } else { 0 },

@@ -5,12 +5,14 @@ ghost use Rattle.cdc_ledger.specs.Answers.{Answers};
 ghost use Rattle.cdc_ledger.specs.Changes.{pushed, expiry};
 ghost use Rattle.cdc_ledger.specs.Due.{due};
 ghost use Rattle.cdc_ledger.specs.Follows.{Follows, IsDueNext};
+ghost use Rattle.cdc_ledger.specs.Movements.{IsStoredAt};
 ghost use Rattle.cdc_ledger.specs.Submit.{expiries_from};
 ghost use Rattle.cdc_ledger.specs.Verdict.{max_timestamp};
 
 use crate::errors::BatchError;
+use crate::movements::Pending;
 use crate::tables::Tables;
-use cdc_types::{Batch, BatchResults, Entry, EventKind, Transfer};
+use cdc_types::{Batch, BatchResults, Entry, EventKind};
 
 impl Tables {
     /// How many pending transfers are due at the moment `now`.
@@ -21,27 +23,33 @@ impl Tables {
     }
 
     /// Of the pending transfers that are due at the moment `now`, of which there are some, the first to end.
-    fn first_due(&self, now: u64) -> Transfer
+    fn first_due(&self, now: u64) -> Pending
         requires { due self.now.history now ≢ [] }
-        ensures { IsDueNext self.now.history now result }
+        ensures next { IsDueNext self.now.history now result.transfer }
+        ensures found { IsStoredAt self.now.history result.transfer.id result.place }
     {
         let first = self.index.due(now).unwrap();
-        self.entries[first.slot].transfer
+        Pending {
+            transfer: self.entries[first.slot].transfer,
+            place: first.slot,
+        }
     }
 
     /// Brings the pending transfer, which nothing brought to its end yet, to its end. There is room for its entry.
-    fn expire(&mut self, pending: Transfer, timestamp: u64)
+    fn expire(&mut self, pending: Pending, timestamp: u64)
         requires later { self.old.history.last < timestamp }
         requires within { timestamp ≤ max_timestamp }
         requires room { 0 < self.old.entry_room }
-        requires follows { Follows self.old.history (expiry pending timestamp) }
-        ensures history { self.new.history ≡ pushed self.old.history (expiry pending timestamp) }
+        requires follows { Follows self.old.history (expiry pending.transfer timestamp) }
+        requires found { IsStoredAt self.old.history pending.transfer.id pending.place }
+        ensures history { self.new.history
+            ≡ pushed self.old.history (expiry pending.transfer timestamp) }
         ensures room { self.new.entry_room + 1 ≡ self.old.entry_room }
     {
         let entry = Entry {
             timestamp,
             kind: EventKind::TwoPhaseExpired,
-            transfer: pending,
+            transfer: pending.transfer,
         };
         let movement = self.settling(entry, pending);
         self.record(&movement);

@@ -1,13 +1,12 @@
 //! What refuses a post or a void of a pending transfer.
 
 ghost use Rattle.std.specs.Prelude.{◌≡◌, ◌≢◌, ◌==◌, ◌&&◌, not, nat_le, ◌<◌, ◌^◌};
-ghost use Rattle.std.specs.List.{list_any};
 ghost use Rattle.cdc_types.specs.Lines.{first_line};
-ghost use Rattle.cdc_ledger.specs.Kinds as kinds;
+ghost use Rattle.cdc_ledger.specs.Endings.{ended_refusal};
 ghost use Rattle.cdc_ledger.specs.Filling as filling;
-ghost use Rattle.cdc_ledger.specs.Parts.{end_lines_of};
 ghost use Rattle.cdc_ledger.specs.Verdict as lines;
 
+use crate::endings::Ending;
 use crate::transfers::{expires_at, settled_amount};
 use cdc_types::{Entry, EventKind, NewTransfer, Transfer, TransferResult};
 
@@ -43,27 +42,6 @@ pub(crate) fn field_refusal(entry: &Entry, request: &NewTransfer) -> Option<Tran
     }
 }
 
-/// Whether the entry posts the pending transfer.
-fn posts(entry: &Entry, pending: &Transfer) -> bool
-    ensures { result ≡ kinds.posts entry.now.kind entry.now.transfer pending.now }
-{
-    entry.kind == EventKind::TwoPhasePosted && entry.transfer.pending_id == pending.id
-}
-
-/// Whether the entry voids the pending transfer.
-fn voids(entry: &Entry, pending: &Transfer) -> bool
-    ensures { result ≡ kinds.voids entry.now.kind entry.now.transfer pending.now }
-{
-    entry.kind == EventKind::TwoPhaseVoided && entry.transfer.pending_id == pending.id
-}
-
-/// Whether the entry is the end of the pending transfer.
-fn expires(entry: &Entry, pending: &Transfer) -> bool
-    ensures { result ≡ kinds.expires entry.now.kind entry.now.transfer pending.now }
-{
-    entry.kind == EventKind::TwoPhaseExpired && entry.transfer.id == pending.id
-}
-
 /// Whether the pending transfer has a timeout that is up at this moment.
 fn is_up(pending: &Transfer, timestamp: u64) -> bool
     requires { pending.now.timeout ≢ 0 → filling.expires_at pending.now < 2 ^ 64 }
@@ -73,44 +51,21 @@ fn is_up(pending: &Transfer, timestamp: u64) -> bool
     pending.timeout != 0 && expires_at(pending) <= timestamp
 }
 
-/// Whether one of the entries posts the pending transfer.
-fn is_posted(entries: &[Entry], pending: &Transfer) -> bool
-    ensures { result ≡ list_any (λ x. kinds.posts x.kind x.transfer pending.now) entries.now }
-{
-    entries.iter().any(|entry| posts(entry, pending))
-}
-
-/// Whether one of the entries voids the pending transfer.
-fn is_voided(entries: &[Entry], pending: &Transfer) -> bool
-    ensures { result ≡ list_any (λ x. kinds.voids x.kind x.transfer pending.now) entries.now }
-{
-    entries.iter().any(|entry| voids(entry, pending))
-}
-
-/// Whether one of the entries is the end of the pending transfer.
-fn is_expired(entries: &[Entry], pending: &Transfer) -> bool
-    ensures { result ≡ list_any (λ x. kinds.expires x.kind x.transfer pending.now) entries.now }
-{
-    entries.iter().any(|entry| expires(entry, pending))
-}
-
-/// Why the pending transfer can't be settled any more, if so: it was posted or voided, or it has come to its end,
-/// swept or not.
+/// Why a pending transfer that ended so can't be settled any more, if so: it was posted or voided, or it has come to its
+/// end, swept or not.
 pub(crate) fn end_refusal(
-    entries: &[Entry],
+    ending: Ending,
     pending: &Transfer,
     timestamp: u64,
 ) -> Option<TransferResult>
     requires { pending.now.timeout ≢ 0 → filling.expires_at pending.now < 2 ^ 64 }
-    ensures { result ≡ first_line (end_lines_of entries.now pending.now timestamp) }
+    ensures { result ≡ ended_refusal ending pending.now timestamp }
 {
-    if is_posted(entries, pending) {
-        Some(TransferResult::PendingTransferAlreadyPosted)
-    } else if is_voided(entries, pending) {
-        Some(TransferResult::PendingTransferAlreadyVoided)
-    } else if is_expired(entries, pending) || is_up(pending, timestamp) {
-        Some(TransferResult::PendingTransferExpired)
-    } else {
-        None
+    match ending {
+        Ending::Posted => Some(TransferResult::PendingTransferAlreadyPosted),
+        Ending::Voided => Some(TransferResult::PendingTransferAlreadyVoided),
+        Ending::Expired => Some(TransferResult::PendingTransferExpired),
+        Ending::Open if is_up(pending, timestamp) => Some(TransferResult::PendingTransferExpired),
+        Ending::Open => None,
     }
 }

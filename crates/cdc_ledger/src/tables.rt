@@ -1,16 +1,18 @@
 //! What the ledger keeps between two batches.
 
-ghost use Rattle.std.specs.Prelude.{◌≡◌, ◌≤◌, true, option_map, OnOk, IfErr};
+ghost use Rattle.std.specs.Prelude.{◌≡◌, ◌<◌, ◌≤◌, true, Some, length, option_map, slice_get, OnOk, IfErr};
 ghost use Rattle.std.specs.Option.{option_copied};
+ghost use Rattle.cdc_ledger.specs.Endings.{ending_of};
 ghost use Rattle.cdc_ledger.specs.Events.{account_now, accounts_now, events};
 ghost use Rattle.cdc_ledger.specs.Filling.{stored};
 ghost use Rattle.cdc_ledger.specs.History.{empty_history, opened};
+ghost use Rattle.cdc_ledger.specs.Places.{account_place, stored_place};
 ghost use Rattle.cdc_ledger.specs.Sound.{IsSound};
 ghost use Rattle.cdc_ledger.specs.Verdict.{max_timestamp};
 
-use crate::accounts::find_account;
+use crate::endings::Ending;
 use crate::errors::BatchError;
-use crate::transfers::find_entry;
+use crate::id_places::IdPlaces;
 use cdc_expiry::DueIndex;
 use cdc_log::EventLog;
 use cdc_types::{Account, Entry};
@@ -22,7 +24,13 @@ use std::marker::Model;
 #[derive(Drop)]
 pub(crate) struct Tables {
     pub(crate) accounts: Vec<Account>,
+    /// The place of each account.
+    pub(crate) account_places: IdPlaces,
     pub(crate) entries: Vec<Entry>,
+    /// The place of the entry that stored each transfer.
+    pub(crate) transfer_places: IdPlaces,
+    /// How the transfer of each entry ended.
+    pub(crate) endings: Vec<Ending>,
     pub(crate) log: EventLog,
     /// A triple for each pending transfer with a timeout that is neither posted, voided nor expired; its slot is the
     /// place of the entry.
@@ -50,7 +58,10 @@ impl Tables {
     {
         Tables {
             accounts: Vec::new(alloc),
+            account_places: IdPlaces::new(alloc),
             entries: Vec::new(alloc),
+            transfer_places: IdPlaces::new(alloc),
+            endings: Vec::new(alloc),
             log: EventLog::new(alloc),
             index: DueIndex::new(alloc),
             last: 0,
@@ -72,7 +83,16 @@ impl Tables {
             option_copied result ≡ option_map (account_now h) (opened h id) }
         ensures sound { IsSound self.now.history }
     {
-        find_account(self.accounts.as_slice(), id)
+        let accounts = self.accounts();
+        let place = self.account_place(id)?;
+        Some(&accounts[place])
+    }
+
+    /// The place of the account of this id, from 0.
+    pub(crate) fn account_place(&self, id: u128) -> Option<usize>
+        ensures { result ≡ account_place (accounts_now self.now.history) id }
+    {
+        self.account_places.find(id)
     }
 
     /// The entries in the order of their timestamps.
@@ -87,7 +107,24 @@ impl Tables {
     pub(crate) fn entry(&self, id: u128) -> Option<&Entry>
         ensures { option_copied result ≡ stored self.now.history id }
     {
-        find_entry(self.entries.as_slice(), id)
+        let place = self.entry_place(id)?;
+        Some(&self.entries[place])
+    }
+
+    /// The place of the entry that stored the transfer of this id, from 0.
+    pub(crate) fn entry_place(&self, id: u128) -> Option<usize>
+        ensures { result ≡ stored_place self.now.history.entries id }
+    {
+        self.transfer_places.find(id)
+    }
+
+    /// How the transfer of the entry at this place ended.
+    pub(crate) fn ending(&self, place: usize) -> Ending
+        requires { place < length self.now.history.entries }
+        ensures { let entries = self.now.history.entries in
+            option_map (ending_of entries) (slice_get entries place) ≡ Some result }
+    {
+        self.endings[place]
     }
 
     /// The events of the entries.
@@ -125,6 +162,7 @@ impl Tables {
         ensures room { OnOk result (additional ≤ self.new.account_room) }
         ensures memory { IfErr result (λ e. e ≡ BatchError.OutOfMemory) }
     {
+        self.account_places.reserve(additional)?;
         self.accounts.reserve(additional)?;
         Ok(())
     }
@@ -136,6 +174,7 @@ impl Tables {
         ensures memory { IfErr result (λ e. e ≡ BatchError.OutOfMemory) }
     {
         self.entries.reserve(additional)?;
+        self.endings.reserve(additional)?;
         self.log.reserve(additional)?;
         Ok(())
     }
@@ -148,6 +187,7 @@ impl Tables {
         ensures memory { IfErr result (λ e. e ≡ BatchError.OutOfMemory) }
     {
         self.reserve_entries(additional)?;
+        self.transfer_places.reserve(additional)?;
         self.index.reserve(additional)?;
         Ok(())
     }

@@ -1,8 +1,6 @@
-//! Transfers: what is stored for a request, and where a stored one is found.
+//! Transfers: what is stored for a request.
 
 ghost use Rattle.std.specs.Prelude.{◌≡◌, ◌<◌, ◌^◌};
-ghost use Rattle.std.specs.Option.{option_copied};
-ghost use Rattle.cdc_ledger.specs.Filling.{stored_in};
 ghost use Rattle.cdc_ledger.specs.Events as shown;
 ghost use Rattle.cdc_ledger.specs.Filling as filling;
 ghost use Rattle.cdc_ledger.specs.Kinds as kinds;
@@ -150,17 +148,8 @@ pub(crate) fn is_same_transfer(asked: &Transfer, stored: &Transfer) -> bool
 }
 
 /// Whether an entry of this kind stored its transfer: an expiry shows one that was stored before.
-fn stores(kind: EventKind) -> bool
+pub(crate) fn stores(kind: EventKind) -> bool
     ensures { result ≡ kinds.stores kind }
 {
     kind != EventKind::TwoPhaseExpired
-}
-
-/// The entry that stored the transfer of this id.
-pub(crate) fn find_entry(entries: &[Entry], id: u128) -> Option<&Entry>
-    ensures { option_copied result ≡ stored_in entries.now id }
-{
-    entries
-        .iter()
-        .find(|entry| stores(entry.kind) && entry.transfer.id == id)
 }

@@ -1,19 +1,26 @@
-use Rattle.std.proofs.Common.{ap, ◌∙◌, List, subst}
-use Rattle.std.specs.Prelude.{option_map, ◌==◌, find}
+use Rattle.std.proofs.Common.{◌∙◌, Some, ap, get_or, sym, List}
+use Rattle.std.specs.Prelude.{option_map}
+use Rattle.std.specs.Option.{option_copied}
 use Rattle.cdc_types.specs.declared.accounts.Account.{Account}
-use Rattle.cdc_ledger.specs.Contents.{Contents}
-use Rattle.cdc_ledger.specs.Events.{account_now}
-use Rattle.cdc_ledger.specs.History.{opened}
-use Rattle.cdc_ledger.specs.Sound.{IsSound}
-use Rattle.cdc_ledger.specs.Tables.{history_of}
-use Rattle.cdc_ledger.proofs.Found.{find-same}
+use Rattle.cdc_ledger.specs.Accounts.{no_balances}
+use Rattle.cdc_ledger.specs.Events.{account_now, account_with, accounts_now, nobody}
+use Rattle.cdc_ledger.proofs.Found.{find-accounts_now}
+use Rattle.cdc_ledger.proofs.Judged.{unopened-no_place}
+use Rattle.cdc_ledger.proofs.Places.{place-find}
 use Rattle.cdc_ledger.proofs.tables.Tables.account.Goals as goal
+
+pub returns-in_err-place-clause-account : goal.returns-in_err-place-clause-account
+returns-in_err-place-clause-account c =
+    let h = c.args.self.now.history in
+    ap option_copied c.from_residual.ensures
+    ∙ ap (option_map (account_now h))
+    (sym (unopened-no_place h c.args.id (sym c.account_place.ensures ∙ c.in_err-place.was)))
 
 pub returns-clause-account : goal.returns-clause-account
 returns-clause-account c =
-    c.find_account.ensures ∙ ap (λ (xs : List Account). find (λ a. a.id == c.args.id) xs) c.as_slice.ensures.value
-    ∙ find-same (history_of c.self.inside) c.self.inside.accounts.items c.args.id c.self.invariant.balanced
-    ∙ ap (λ (v : Contents). option_map (account_now v.history) (opened v.history c.args.id)) c.self.view_is
-
-pub returns-clause-sound : goal.returns-clause-sound
-returns-clause-sound c = subst (λ (v : Contents). IsSound v.history) c.self.view_is c.self.invariant.sound
+    let h = c.args.self.now.history in
+    let place = c.in_ok-place.place in
+    let none : Account = account_with nobody no_balances in
+    ap (λ (xs : List Account). Some (get_or xs place none)) c.accounts-accounts.ensures.accounts
+    ∙ sym (place-find (accounts_now h) c.args.id place none (sym c.account_place.ensures ∙ c.in_ok-place.was))
+    ∙ find-accounts_now h c.args.id

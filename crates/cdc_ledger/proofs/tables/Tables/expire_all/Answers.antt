@@ -10,19 +10,20 @@ first_due-pending-requires c =
     c.loop-place.self.history c.loop-place.invariant.on c.loop-place-test.true
 
 pub expire-requires-clause-follows : goal.expire-requires-clause-follows
-expire-requires-clause-follows c = c.first_due-pending.ensures.follows (c.args.base + c.loop-place.place)
+expire-requires-clause-follows c = c.first_due-pending.ensures.next.follows (c.args.base + c.loop-place.place)
 
 pub loop-place-preserved : goal.loop-place-preserved
 loop-place-preserved c =
     let end : c.expire.new.self.history ≡ pushed c.loop-place.self.history
-    (expiry c.first_due-pending.result (c.args.base + c.loop-place.place)) = c.expire.ensures.history in
+    (expiry c.first_due-pending.result.transfer (c.args.base + c.loop-place.place)) = c.expire.ensures.history in
     let last : c.expire.new.self.history.last ≡ c.args.base + c.loop-place.place =
     ap (λ (g : History). g.last) end in
     let room : c.expire.new.self.entry_room + 1 ≡ c.loop-place.self.entry_room = c.expire.ensures.room in
     record {
       on = subst (GoesOn c.args.self.now.history c.args.base c.args.now c.args.count (c.loop-place.place + 1)) (sym end)
           (GoesOn-step c.args.self.now.history c.args.base c.args.now c.args.count c.loop-place.place
-          c.loop-place.self.history c.first_due-pending.result c.loop-place.invariant.on c.first_due-pending.ensures
+          c.loop-place.self.history c.first_due-pending.result.transfer c.loop-place.invariant.on
+          c.first_due-pending.ensures.next
           c.loop-place.invariant.later);
       later = omega (arith, last);
       room = omega (arith, room, c.loop-place.invariant.room);

@@ -4,6 +4,7 @@ use Rattle.cdc_types.specs.declared.events.Entry.{Entry}
 use Rattle.cdc_ledger.specs.Contents.{Contents}
 use Rattle.cdc_ledger.specs.Due.{due}
 use Rattle.cdc_ledger.specs.Follows.{IsDueNext}
+use Rattle.cdc_ledger.specs.Movements.{IsStoredAt}
 use Rattle.cdc_ledger.specs.Tables.{history_of}
 use Rattle.cdc_ledger.proofs.Expiring.{IsSome-answer, IsNext-answer, IsDueNext-next}
 use Rattle.cdc_ledger.proofs.IndexNext.{IsNext}
@@ -23,8 +24,8 @@ index-requires c =
     c.unwrap-first.result c.self.invariant.sound c.self.invariant.indexed c.due.ensures some in
     omega (arith, next.found.within)
 
-pub returns : goal.returns
-returns c =
+pub returns-clause-next : goal.returns-clause-next
+returns-clause-next c =
     let h = history_of c.self.inside in
     let some : c.due.result ≡ Some c.unwrap-first.result = cc in
     let next : IsNext h c.args.now c.unwrap-first.result =
@@ -34,3 +35,16 @@ returns c =
     subst (λ (v : Contents). IsDueNext v.history c.args.now c.index.result.now.transfer) c.self.view_is
     (subst (λ (p : Transfer). IsDueNext h c.args.now p) (sym (ap (λ (e : Entry). e.transfer) same))
     (IsDueNext-next h c.args.now c.unwrap-first.result c.self.invariant.sound next))
+
+pub returns-clause-found : goal.returns-clause-found
+returns-clause-found c =
+    let h = history_of c.self.inside in
+    let some : c.due.result ≡ Some c.unwrap-first.result = cc in
+    let next : IsNext h c.args.now c.unwrap-first.result =
+    IsNext-answer h c.self.inside.index.triples c.args.now c.due.result c.unwrap-first.result
+    c.self.invariant.sound c.self.invariant.indexed c.due.ensures some in
+    let same : c.index.result.now ≡ next.found.entry = c.index.ensures ∙ next.found.at c.index.result.now in
+    subst (λ (v : Contents). IsStoredAt v.history c.index.result.now.transfer.id c.unwrap-first.result.slot)
+    c.self.view_is
+    (subst (λ (e : Entry). IsStoredAt h e.transfer.id c.unwrap-first.result.slot) (sym same)
+    (next.found.entry, next.found.there, next.found.stored))

@@ -9,10 +9,11 @@ use Rattle.cdc_ledger.specs.Accounts.{event_from}
 use Rattle.cdc_ledger.specs.Changes.{pushed}
 use Rattle.cdc_ledger.specs.Contents.{Contents}
 use Rattle.cdc_ledger.specs.Effects.{account_after}
-use Rattle.cdc_ledger.specs.Movements.{IsPlaced, Takes, account_ids, accounts_after, effect_of_movement}
+use Rattle.cdc_ledger.specs.Movements.{IsPlaced, Takes, account_ids, accounts_after, effect_of_movement, settled_transfer}
 use Rattle.cdc_ledger.specs.Sound.{AreApart}
-use Rattle.cdc_ledger.specs.Tables.{history_of}
-use Rattle.cdc_ledger.proofs.IndexKept.{opens-end, opens-new, opens-unsettling, settled-end}
+use Rattle.cdc_ledger.specs.Tables.{contents_of, history_of}
+use Rattle.cdc_ledger.proofs.EndingLaws.{settled_within}
+use Rattle.cdc_ledger.proofs.IndexKept.{opens-end, opens-new, stores-opens, settled-end}
 use Rattle.cdc_ledger.proofs.Recorded.{CanTake-from, All-Takes, AreApart-kept, IsPlaced-changed, IsPlaced-kept, history-recorded, last_timestamp-kept, items-with_items, IsKept-recorded}
 use Rattle.cdc_ledger.proofs.tables.Tables.record.Goals as goal
 
@@ -21,7 +22,7 @@ follow_end-requires-clause-settled c =
     let m = c.args.movement.now in
     let can = CanTake-from c.self.inside c.args.self.now m c.self.view_is c.self.invariant c.requires.follows
     c.requires.later c.requires.movement in
-    settled-end (history_of c.self.inside) m.entry m.settled can.kept.sound can.follows can.movement.settled
+    settled-end (history_of c.self.inside) m.entry (settled_transfer m) can.kept.sound can.follows can.movement.settled
 
 pub follow_end-requires-clause-timely : goal.follow_end-requires-clause-timely
 follow_end-requires-clause-timely c =
@@ -37,8 +38,24 @@ follow_end-requires-clause-fresh c =
 
 pub follow_end-requires-clause-room : goal.follow_end-requires-clause-room
 follow_end-requires-clause-room c opening =
+    let room : 0 < (contents_of c.self.inside).end_room =
     subst (λ (v : Contents). 0 < v.end_room) (sym c.self.view_is)
-    (c.requires.end_room (opens-unsettling c.args.movement.now.entry opening))
+    (c.requires.end_room (stores-opens c.args.movement.now.entry opening)) in
+    omega (arith, room)
+
+pub keep_place-requires : goal.keep_place-requires
+keep_place-requires c storing =
+    let room : 0 < (contents_of c.self.inside).end_room =
+    subst (λ (v : Contents). 0 < v.end_room) (sym c.self.view_is) (c.requires.end_room storing) in
+    omega (arith, room)
+
+pub follow_ending-requires-clause-there : goal.follow_ending-requires-clause-there
+follow_ending-requires-clause-there c =
+    let m = c.args.movement.now in
+    let can = CanTake-from c.self.inside c.args.self.now m c.self.view_is c.self.invariant c.requires.follows
+    c.requires.later c.requires.movement in
+    settled_within (history_of c.self.inside) m.settled c.self.inside.endings.items c.self.invariant.ended
+    can.movement.found
 
 pub apply-requires-clause-placed : goal.apply-requires-clause-placed
 apply-requires-clause-placed c =
@@ -96,6 +113,8 @@ invariant_of-self c =
       entries = c.push_reserved.new.self;
       log = c.push.new.self;
       index = c.follow_end.new.index;
+      transfer_places = c.keep_place.new.places;
+      endings = c.follow_ending.new.endings;
       last = m.entry.timestamp;
     } in
     let accounts : t'.accounts.items ≡ accounts_after m t.accounts.items =
@@ -106,7 +125,9 @@ invariant_of-self c =
     c.push.ensures.events
     ∙ ap (λ (e : Event). t.log.events ++ e ∷ [])
     (c.event.ensures ∙ ap (λ (xs : List Account). event_from xs m.entry) c.as_slice.ensures.value) in
-    IsKept-recorded t t' m c.len.result can c.requires.within (omega arith) accounts told c.follow_end.ensures.triples
+    IsKept-recorded t t' m c.len-place.result can c.requires.within (omega arith) accounts told
+    c.follow_end.ensures.triples refl c.keep_place.ensures.places
+    c.follow_ending.ensures.endings
     (history-recorded m t t' accounts c.push_reserved.ensures.items refl refl)
 
 pub returns-clause-history : goal.returns-clause-history
@@ -119,6 +140,8 @@ returns-clause-history c =
       entries = c.push_reserved.new.self;
       log = c.push.new.self;
       index = c.follow_end.new.index;
+      transfer_places = c.keep_place.new.places;
+      endings = c.follow_ending.new.endings;
       last = m.entry.timestamp;
     } in
     history-recorded m t t'

@@ -1,0 +1,24 @@
+use Rattle.std.proofs.Common.{◌<◌, ◌≡◌, ◌∙◌, Some, ap, arith, length, subst, sym}
+use Rattle.std.specs.Prelude.{option_map, slice_get}
+use Rattle.cdc_ledger.specs.Contents.{Contents}
+use Rattle.cdc_ledger.specs.Endings.{ending_of}
+use Rattle.cdc_ledger.specs.Tables.{history_of}
+use Rattle.cdc_ledger.proofs.EndingLaws.{ending_within, ending_read}
+use Rattle.cdc_ledger.proofs.tables.Tables.ending.Goals as goal
+
+pub index-requires : goal.index-requires
+index-requires c =
+    let there : c.args.place < length (history_of c.self.inside).entries =
+    subst (λ (v : Contents). c.args.place < length v.history.entries) (sym c.self.view_is) c.requires in
+    let within = ending_within (history_of c.self.inside) c.self.inside.endings.items c.args.place
+    c.self.invariant.ended there in
+    omega (arith, within)
+
+pub returns : goal.returns
+returns c =
+    let there : c.args.place < length (history_of c.self.inside).entries =
+    subst (λ (v : Contents). c.args.place < length v.history.entries) (sym c.self.view_is) c.requires in
+    subst (λ (v : Contents). option_map (ending_of v.history.entries) (slice_get v.history.entries c.args.place)
+    ≡ Some c.index.result.now) c.self.view_is
+    (ending_read (history_of c.self.inside) c.self.inside.endings.items c.args.place c.index.result.now
+    c.self.invariant.ended there ∙ ap Some (sym c.index.ensures))

@@ -1,0 +1,56 @@
+-- How the pending transfers of a list of entries ended (for private contracts and the laws).
+use Rattle.std.specs.Prelude.{ℕ, ◌+◌, ◌&&◌, ◌==◌, Bool, true, false, not, nat_le, List, [], ◌∷◌, ◌++◌, map, set, Option, Some, None, if◌then◌else◌}
+use Rattle.std.specs.List.{list_any}
+use Rattle.cdc_types.specs.declared.events.Entry.{Entry}
+use Rattle.cdc_types.specs.declared.events.EventKind.{EventKind}
+use Rattle.cdc_types.specs.declared.events.EventKind.TheVariants.{SinglePhase, TwoPhasePending, TwoPhasePosted, TwoPhaseVoided, TwoPhaseExpired}
+use Rattle.cdc_types.specs.declared.results.TransferResult.{TransferResult}
+use Rattle.cdc_types.specs.declared.results.TransferResult.TheVariants as transfer
+use Rattle.cdc_types.specs.declared.transfers.Transfer.{Transfer}
+use Rattle.cdc_ledger.specs.declared.endings.Ending.{Ending}
+use Rattle.cdc_ledger.specs.declared.endings.Ending.TheVariants.{Open, Posted, Voided, Expired}
+use Rattle.cdc_ledger.specs.declared.movements.Pending.{Pending}
+use Rattle.cdc_ledger.specs.Filling.{expires_at}
+use Rattle.cdc_ledger.specs.Kinds.{holds, posts, voids, expires}
+
+-- how a transfer ended, by whether it was posted, voided, expired
+abbrev pub ending_from : Bool → Bool → Bool → Ending
+ending_from true voided expired = Posted
+ending_from false true expired = Voided
+ending_from false false true = Expired
+ending_from false false false = Open
+
+-- how the pending transfer p ended among these entries
+abbrev pub ending_among : List Entry → Transfer → Ending
+ending_among entries p =
+    ending_from (list_any (λ x. posts x.kind x.transfer p) entries) (list_any (λ x. voids x.kind x.transfer p) entries)
+    (list_any (λ x. expires x.kind x.transfer p) entries)
+
+-- how the transfer of an entry ended, where it is pending
+abbrev pub ending_of : List Entry → Entry → Ending
+ending_of entries e = if holds e.kind then ending_among entries e.transfer else Open
+
+-- how each one ended
+abbrev pub endings_of : List Entry → List Ending
+endings_of entries = map (ending_of entries) entries
+
+-- the end to which an entry of this kind brings the pending transfer that it settles
+abbrev pub ending_by : EventKind → Ending
+ending_by SinglePhase = Open
+ending_by TwoPhasePending = Open
+ending_by TwoPhasePosted = Posted
+ending_by TwoPhaseVoided = Voided
+ending_by TwoPhaseExpired = Expired
+
+-- the endings after an entry of this kind, which settles this pending transfer, if any
+abbrev pub endings_after : Option Pending → EventKind → List Ending → List Ending
+endings_after None kind endings = endings ++ Open ∷ []
+endings_after (Some p) kind endings = set endings p.place (ending_by kind) ++ Open ∷ []
+
+-- why a pending transfer that ended so can't be settled at the moment t, if so: its timeout ends it too
+abbrev pub ended_refusal : Ending → Transfer → ℕ → Option TransferResult
+ended_refusal Posted p t = Some transfer.PendingTransferAlreadyPosted
+ended_refusal Voided p t = Some transfer.PendingTransferAlreadyVoided
+ended_refusal Expired p t = Some transfer.PendingTransferExpired
+ended_refusal Open p t =
+    if not (p.timeout == 0) && nat_le (expires_at p) t then Some transfer.PendingTransferExpired else None

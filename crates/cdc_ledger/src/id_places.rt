@@ -1,0 +1,68 @@
+//! The places of accounts and of transfers by their ids: a hash map, with room that was made ahead.
+
+ghost use Rattle.std.specs.Prelude.{◌≡◌, ◌+◌, ◌≤◌, ◌<◌, ◌==◌, ℕ, [], Some, if◌then◌else◌, OnOk};
+ghost use Rattle.cdc_ledger.specs.Places.{place_of};
+
+use indexmap::IndexMap;
+use std::alloc::{AllocError, Global};
+use std::marker::Model;
+
+/// A map from ids to places. A clause sees the ids with their places, and for how many more there is room.
+#[derive(Drop)]
+pub(crate) struct IdPlaces {
+    map: IndexMap<u128, usize>,
+    /// How many more ids can be added; the map has room for as many at least.
+    room: usize,
+}
+
+impl Model for IdPlaces {
+    ghost use Rattle.std.specs.Prelude.{◌≤◌};
+    ghost use Rattle.indexmap.specs.IndexMap.{spare};
+    ghost use Rattle.cdc_ledger.specs.Places.{PlacesById};
+
+    ghost Value = { PlacesById };
+
+    ghost view = { λ p. record { places = p.map.entries; room = p.room } };
+
+    ghost invariant = { λ p. p.room ≤ spare p.map };
+}
+
+impl IdPlaces {
+    /// No id has a place.
+    pub(crate) fn new(alloc: Global) -> IdPlaces
+        ensures { result.places ≡ [] }
+    {
+        IdPlaces {
+            map: IndexMap::new(alloc),
+            room: 0,
+        }
+    }
+
+    /// The place of this id.
+    pub(crate) fn find(&self, id: u128) -> Option<usize>
+        ensures { result ≡ place_of self.now id }
+    {
+        self.map.get(&id).copied()
+    }
+
+    /// Makes room for this many more ids.
+    pub(crate) fn reserve(&mut self, additional: usize) -> Result<(), AllocError>
+        ensures places { self.new.places ≡ self.old.places }
+        ensures room { OnOk result (additional ≤ self.new.room) }
+    {
+        self.map.reserve(additional)?;
+        self.room = self.room.max(additional);
+        Ok(())
+    }
+
+    /// Gives the id this place. There is room for it.
+    pub(crate) fn add(&mut self, id: u128, place: usize)
+        requires { 0 < self.old.room }
+        ensures places { (other : ℕ) → place_of self.new other
+            ≡ (if id == other then Some place else place_of self.old other) }
+        ensures room { self.new.room + 1 ≡ self.old.room }
+    {
+        let _none = self.map.insert(id, place).unwrap();
+        self.room -= 1;
+    }
+}
