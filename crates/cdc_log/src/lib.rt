@@ -2,6 +2,7 @@
 #![tactic(auto)]
 
 pub mod log;
+mod segment;
 #[cfg(test)]
 mod tests;
 

@@ -1,15 +1,35 @@
-use Rattle.std.proofs.Common.{sym, ap, ◌∙◌, ◌≡◌, length, ◌-◌, subst, List}
-use Rattle.std.specs.Prelude.{Some, slice_get}
+use Rattle.std.proofs.Common.{◌≡◌, ℕ, ◌<◌, ◌-◌, length, List, [], ◌∷◌, Some, slice_get, refl, sym, ap, ◌∙◌, arith}
 use Rattle.cdc_types.specs.declared.events.Event.{Event}
-use Rattle.cdc_log.specs.Log.{Log}
+use Rattle.cdc_types.specs.Timestamps.{last_timestamp}
 use Rattle.cdc_types.proofs.Rising.{last_timestamp_from-slice_get}
+use Rattle.cdc_log.specs.Log.{Log}
+use Rattle.cdc_log.proofs.Segments.{length-joined}
 use Rattle.cdc_log.proofs.log.EventLog.last_timestamp.Goals as goal
+
+pub event-requires : goal.event-requires
+event-requires c =
+    let joined_long = length-joined c.self.inside.len c.self.inside.segments.items c.self.invariant.filled in
+    let long : c.self.inside.len ≡ length c.args.self.now.events =
+    sym joined_long ∙ ap (λ (log : Log). length log.events) c.self.view_is in
+    omega (arith, c.in-Some.ensures.0, c.in-Some.ensures.1)
 
 pub returns-in-Some-clause-last : goal.returns-in-Some-clause-last
 returns-in-Some-clause-last c =
-    let same : c.deref.result.now ≡ c.args.self.now.events =
-    c.deref.ensures.value ∙ ap (λ (log : Log). log.events) c.self.view_is in
-    let last = c.in-Some.event.now in
-    let IsLast = λ (es : List Event). slice_get es (length es - 1) ≡ Some last in
-    let found : IsLast c.deref.result.now = sym c.in-Some.ensures.value in
-    sym (last_timestamp_from-slice_get c.args.self.now.events last (subst IsLast same found))
+    let es = c.args.self.now.events in
+    let joined_long = length-joined c.self.inside.len c.self.inside.segments.items c.self.invariant.filled in
+    let long : c.self.inside.len ≡ length es =
+    sym joined_long ∙ ap (λ (log : Log). length log.events) c.self.view_is in
+    let at : length es - 1 ≡ c.in-Some.last = omega (arith, c.in-Some.ensures.1) in
+    sym (last_timestamp_from-slice_get es c.event.result.now (ap (slice_get es) at ∙ c.event.ensures))
+
+-- no events have the moment 0 for the last
+nothing_last : (es : List Event) → length es ≡ 0 → 0 ≡ last_timestamp es
+nothing_last [] none = refl
+nothing_last (e ∷ es) none = absurd (omega arith)
+
+pub returns-in-None-clause-last : goal.returns-in-None-clause-last
+returns-in-None-clause-last c =
+    let joined_long = length-joined c.self.inside.len c.self.inside.segments.items c.self.invariant.filled in
+    let long : c.self.inside.len ≡ length c.args.self.now.events =
+    sym joined_long ∙ ap (λ (log : Log). length log.events) c.self.view_is in
+    nothing_last c.args.self.now.events (omega (arith, c.in-None.ensures))

@@ -2,7 +2,7 @@ use Rattle.std.proofs.Common.{rules, nat_le}
 use Rattle.std.proofs.lemmas.List.Sorted.{IsPartitionPoint-from_clause, IsPartitionedBy-leb}
 use Rattle.cdc_types.specs.declared.events.Event.{Event}
 use Rattle.cdc_log.proofs.Rising.{IsNonDecreasingBy-rising, drop-events_after}
-use Rattle.cdc_log.proofs.log.first_after.Goals as goal
+use Rattle.cdc_log.proofs.segment.first_after.Goals as goal
 
 pub returns-clause-parts : goal.returns-clause-parts
 returns-clause-parts c =
