@@ -135,12 +135,15 @@ const STEPS: u64 = 300;
 // so is tried again; says whether each step is answered alike, and what is seen of both in the end.
 fn both_seen(
     alloc: Global,
-    fails_at: u64,
+    fails_at: u8,
     keeps_new: bool,
 ) -> Result<(bool, Option<Seen>, Option<Seen>), Fail> {
     let mut sound = world(alloc)?;
-    let mut faulty = world_over(alloc, MemoryStore::with_faults(None, fails_at, keeps_new))?;
-    let mut random = fails_at;
+    let mut faulty = world_over(
+        alloc,
+        MemoryStore::with_faults(None, u64::from(fails_at), keeps_new),
+    )?;
+    let mut random = u64::from(fails_at);
     let mut alike = true;
     let _ = sound.step(alloc, &accounts(alloc)?);
     let _ = faulty.step(alloc, &accounts(alloc)?);
@@ -154,7 +157,7 @@ fn both_seen(
 
 #[test]
 fn a_store_that_fails_once_changes_nothing_in_the_end(rt: HostRuntime) -> Result<(), Fail> {
-    for fails_at in 1..=40u64 {
+    for fails_at in 1..=40u8 {
         for keeps_new in [false, true] {
             let (alike, sound, faulty) = both_seen(rt.alloc(), fails_at, keeps_new)?;
             assert!(rt; alike, "{fails_at}");
