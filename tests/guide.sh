@@ -1,7 +1,7 @@
 #!/usr/bin/env bash
 # docs/GUIDE.md as its reader meets it: each `sh` block is run, in their order, in one folder that begins with the program
 # and the examples, and what it prints on standard output is compared with the block of output behind it. A block with
-# none behind it prints nothing.
+# none behind it prints nothing. Of README the output of its first command is compared.
 # Takes the program's path, crates/cdc_app/out/cdc_app where none is given. Prints each block that fails.
 set -uo pipefail
 top=$(cd "$(dirname "${BASH_SOURCE[0]}")/.." && pwd)
@@ -64,6 +64,10 @@ while IFS= read -r text; do
 done <"$guide"
 run_block
 [ "$blocks" -gt 0 ] || wrong 'no block was found'
+
+# README shows what its first command prints.
+shown=$(sed -n '/^batch 1: 0 0$/,/^```$/p' "$top/README.md" | sed '$d')
+[ "$shown" == "$(./relayplum books examples/first-transfer.script)" ] || wrong "README: its first command's output"
 
 echo "guide: $blocks blocks, $failed failed, $passed_over passed over"
 [ "$failed" == 0 ]
