@@ -50,7 +50,8 @@ ONE_JOB = ["--jobs", "1"]
 # The functions of a source file, and what an edit changes of it.
 
 # A function: its full path as a check prints it, the bytes of its body with the braces, the places in the list of
-# tokens where its text begins and where its body begins and ends, and the names that its body has.
+# tokens where its text begins and where its body begins and ends (none for one that the script adds), and the names that
+# its body has.
 Function = namedtuple("Function", "path start end tokens names")
 Token = namedtuple("Token", "start end kind text")
 # An edit that changes one function's body and nothing else: the file, the function, and its other body.
@@ -221,12 +222,13 @@ class Sources:
         for file in {it.file for it in changes}:
             text, done, place = self.texts[file], b"", 0
             for it in sorted((it for it in changes if it.file == file), key=lambda it: it.function.start):
-                start = self.tokens[file][it.function.tokens[0]].start
+                function = it.function
+                start = self.tokens[file][function.tokens[0]].start if function.tokens else function.start
                 done += text[place:start]
                 first = done.count(b"\n") + 1
                 done += it.body
-                lines[it.function] = file, first, done.count(b"\n") + 1
-                place = it.function.end
+                lines[function] = file, first, done.count(b"\n") + 1
+                place = function.end
             texts[file] = (done + text[place:]).decode()
         return texts, lines
 
@@ -236,6 +238,15 @@ class Sources:
         start = self.tokens[file][function.tokens[0]].start
         head, rest = self.texts[file][start : function.start + 1], self.texts[file][function.start + 1 : function.end]
         return Change(file, function, head + f" {statement} ".encode() + rest)
+
+    def with_function(self, name, statement):
+        """Returns the Change that puts one function more at the end of the crate's root file, with this statement alone."""
+        file = next(it for it in ("src/main.rt", "src/lib.rt") if it in self.texts)
+        while any(name.encode() in it for it in self.texts.values()):
+            name += "_"
+        end = len(self.texts[file])
+        function = Function(f"{self.crate.name}::{name}", end, end, None, frozenset())
+        return Change(file, function, f"\nfn {name}() {{\n    {statement}\n}}\n".encode())
 
     def reached_from(self, function):
         """Returns each function that the function may call, by any way: those whose names its body has, and so on."""
@@ -402,28 +413,19 @@ class Trial:
         return edit
 
     def groups(self, edits, first):
-        """Parts the edits into groups, each with one edit of a function at the most. With each group come two functions
-        more, one for the statement that does no harm, one for the statement that has to be refused."""
+        """Parts the edits into groups, each with one edit of a function at the most. With each group come two changes more,
+        one that does no harm and one that has to be refused."""
         while edits:
             group, taken, left = [], set(), []
             for it in edits:
                 (left if it.change.function in taken else group).append(it)
                 taken.add(it.change.function)
-            spare = self.spare(group, first)
-            while not spare and group:
-                left.insert(0, group.pop())
-                spare = self.spare(group, first)
-            if not group:
-                # no function is left for the two statements that test a group: each goes alone
-                for it in left:
-                    self.try_alone(it)
-                return
-            yield group, spare
+            yield group, self.controls(taken, first)
             edits = left
 
-    def spare(self, group, first):
-        """Returns a function for the harmless statement, which calls no edited one, and one for the control."""
-        taken = {it.change.function for it in group}
+    def controls(self, taken, first):
+        """Returns the harmless change, in a function that calls none of those taken, and the false one, in another; where
+        the crate has no such functions left, they are two functions more."""
         free = [
             it
             for it in self.sources.all
@@ -436,13 +438,14 @@ class Trial:
         for control in free:
             for harmless in free:
                 if harmless != control and not self.sources.reached_from(harmless) & {control, *taken}:
-                    return harmless, control
-        return None
+                    pairs = (harmless, HARMLESS), (control, CONTROL)
+                    return [self.sources.with_statement(*it) for it in pairs]
+        pairs = ("a_harmless_addition", HARMLESS), ("a_false_addition", CONTROL)
+        return [self.sources.with_function(*it) for it in pairs]
 
-    def try_group(self, group, spare):
-        """Checks the crate once with all edits of the group, and reads how each came out."""
-        harmless, control = spare
-        own = [self.sources.with_statement(harmless, HARMLESS), self.sources.with_statement(control, CONTROL)]
+    def try_group(self, group, own):
+        """Checks the crate once with all edits of the group and the two of the script's own, and reads how each came out."""
+        harmless, control = (it.function for it in own)
         group = [*group]
         while True:
             texts, lines = self.sources.with_changes([it.change for it in group] + own)

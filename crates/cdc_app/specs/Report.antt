@@ -12,10 +12,7 @@ use Rattle.cdc_app.specs.declared.faults.ProgramFault.{ProgramFault}
 use Rattle.cdc_app.specs.declared.faults.ProgramFault.TheVariants as fault
 use Rattle.cdc_script.specs.declared.faults.ScriptFault.{ScriptFault}
 use Rattle.cdc_script.specs.Faults.{kind_name}
-
--- a number behind a space
-abbrev pub spaced : ℕ → List ℕ
-spaced n = codes " " ++ decimal n
+use Rattle.cdc_subscriber.specs.Lines.{spaced}
 
 -- what the ledger answered to a batch: a number for each item, or how many transfers a pulse brought to their end
 abbrev pub answer_text : Result BatchResults BatchError → List ℕ

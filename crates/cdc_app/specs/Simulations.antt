@@ -19,7 +19,8 @@ use Rattle.cdc_script.specs.declared.scripts.ClientBatch.{ClientBatch}
 use Rattle.cdc_script.specs.declared.scripts.Script.{Script}
 use Rattle.cdc_script.specs.declared.step_files.Act.{Act}
 use Rattle.cdc_script.specs.declared.step_files.Act.TheVariants as act
-use Rattle.cdc_app.specs.Report.{batch_line, spaced}
+use Rattle.cdc_app.specs.Report.{batch_line}
+use Rattle.cdc_subscriber.specs.Lines.{spaced}
 
 -- how far a simulation has come: the world, how many of the script's batches are done, their lines, and how many acts
 -- are done

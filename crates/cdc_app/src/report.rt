@@ -4,7 +4,8 @@ ghost use Rattle.std.specs.Prelude.{◌≡◌, ◌++◌, codes, Err, OnOk, strin
 ghost use Rattle.std.specs.List.{flat_map};
 ghost use Rattle.cdc_types.specs.Results.{account_number, transfer_number};
 ghost use Rattle.cdc_script.specs.Faults.{kind_name};
-ghost use Rattle.cdc_app.specs.Report.{spaced, answer_text, batch_line, file_fault_line};
+ghost use Rattle.cdc_subscriber.specs.Lines.{spaced};
+ghost use Rattle.cdc_app.specs.Report.{answer_text, batch_line, file_fault_line};
 
 use crate::endings::Ending;
 use cdc_ledger::BatchError;

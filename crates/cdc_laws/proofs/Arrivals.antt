@@ -12,7 +12,8 @@ use Rattle.cdc_ledger.specs.Sound.{IsSound}
 use Rattle.cdc_laws.specs.Arrivals.{AreAmong, AreOfTaken, taken_after, taken_of}
 use Rattle.cdc_laws.specs.ConnectorRuns.{AreSessions, IsConfirmed, IsConnectorRun, Shown, sent_by}
 use Rattle.cdc_laws.specs.Line.{line, line_after}
-use Rattle.cdc_laws.proofs.Bases.{HasTakenUpTo, bases_taken, prefix_at}
+use Rattle.cdc_laws.proofs.Bases.{bases_taken, prefix_at}
+use Rattle.cdc_laws.specs.Takings.{HasTakenUpTo}
 use Rattle.cdc_laws.proofs.Lines.{line_splits, split_events}
 use Rattle.cdc_laws.proofs.Places.{Contains_slice_get, each_from, each_has, none_there, slice_get-before, slice_get-behind}
 use Rattle.cdc_laws.proofs.Replays.{from_places}

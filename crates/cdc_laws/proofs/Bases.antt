@@ -10,6 +10,7 @@ use Rattle.cdc_ledger.specs.History.{History}
 use Rattle.cdc_ledger.specs.Sound.{IsSound}
 use Rattle.cdc_laws.specs.ConnectorRuns.{AreSessions, IsBase, IsConfirmed, IsConfirmedTo, MayFollow, Shown}
 use Rattle.cdc_laws.specs.Line.{end_mark_if, line_after, told}
+use Rattle.cdc_laws.specs.Takings.{HasTakenUpTo}
 use Rattle.cdc_laws.proofs.Lines.{split_events}
 use Rattle.cdc_laws.proofs.Places.{Contains-cons_cases, each_has, none_there, slice_get-append, slice_get-before}
 use Rattle.cdc_laws.proofs.Rising.{RiseFrom-earlier, TimestampsRise-from, all_later, events_rise}
@@ -20,11 +21,6 @@ use Rattle.cdc_message.specs.declared.items.Item.TheVariants.{Event as OfEvent}
 use Rattle.cdc_message.specs.declared.packets.Confirm.{Confirm}
 use Rattle.cdc_message.specs.Replays.{IsPrefix}
 use Rattle.cdc_types.specs.declared.events.Event.{Event}
-
--- every event of the history up to this moment was taken
-abbrev pub HasTakenUpTo : History → List Item → ℕ → Type 0
-HasTakenUpTo h taken t =
-    (event : Event) → Contains (events h) event → event.timestamp ≤ t → Contains taken (OfEvent event)
 
 -- ---- events by their places
 

@@ -13,7 +13,7 @@ use Rattle.cdc_ledger.specs.History.{History}
 use Rattle.cdc_ledger.specs.Sound.{IsSound}
 use Rattle.cdc_laws.specs.Arrivals.{AreAmong}
 use Rattle.cdc_laws.specs.ConnectorRuns.{AreConfirmed, AreSessions, IsBase, IsConfirmed, IsConfirmedTo, IsConnectorRun, Shown, packets_of, publishes_from, sent_by}
-use Rattle.cdc_laws.specs.Connectors.{ConnectorState, IsLive, KeepsTo, SendsInTurn, StandsLast, after_answer, after_confirm, held_number, held_timestamp, shown_of}
+use Rattle.cdc_laws.specs.Connectors.{ConnectorState, IsLive, KeepsTo, SendsInTurn, StandsLast, after_confirm, held_number, held_timestamp, shown_of}
 use Rattle.cdc_laws.specs.GoingOn.{GoesOn}
 use Rattle.cdc_laws.specs.Line.{told}
 use Rattle.cdc_laws.proofs.Bases.{prefix_has, told_at}
@@ -32,7 +32,7 @@ use Rattle.cdc_message.specs.declared.packets.Packet.{Packet}
 use Rattle.cdc_message.specs.declared.packets.Packet.TheVariants.{Connect, Publish}
 use Rattle.cdc_message.specs.Replays.{IsPrefix}
 use Rattle.cdc_progress.specs.Records.{Saved}
-use Rattle.cdc_publisher.specs.Courses.{Course, begun, confirmed_timestamp, is_confirmed, is_sent, last_session, may_end, new_course, next_packet, numbers_from, progress_of, publish_packet, tags_sent, takes_confirm, with_confirm, with_sent}
+use Rattle.cdc_publisher.specs.Courses.{Course, after_answer, begun, confirmed_timestamp, is_confirmed, is_sent, last_session, may_end, new_course, next_packet, numbers_from, progress_of, publish_packet, tags_sent, takes_confirm, with_confirm, with_sent}
 use Rattle.cdc_types.specs.declared.events.Event.{Event}
 
 -- a connector keeps to a history by the packets that it has sent and the confirms that it has received
@@ -396,11 +396,11 @@ IsLive-confirmed h confirms sessions number session tag course live there =
 -- whatever the broker answers
 IsLive-answered : (h : History) (confirms : List Confirm) (sessions : List Shown) (number : ℕ) (confirm : Confirm)
     (course : Course) → IsLive h confirms sessions number course → Contains confirms confirm
-    → IsLive h confirms sessions number (after_answer confirm.session confirm.answer course)
+    → IsLive h confirms sessions number (after_answer course confirm.session confirm.answer)
 IsLive-answered h confirms sessions number confirm course live there = by_answer confirm.answer refl
   where
     by_answer : (answer : Answer) → answer ≡ confirm.answer
-        → IsLive h confirms sessions number (after_answer confirm.session answer course)
+        → IsLive h confirms sessions number (after_answer course confirm.session answer)
     by_answer (Confirmed tag) is =
         IsLive-confirmed h confirms sessions number confirm.session tag course live
         (subst (λ (a : Answer). Contains confirms (record { session = confirm.session; answer = a })) (sym is) there)
@@ -427,7 +427,7 @@ KeepsTo-confirm h c confirm keeps =
       numbers = keeps.numbers;
       base = IsBase-more c.confirms more kept keeps.sessions (held_timestamp c.held) keeps.base;
       live = λ course there.
-          let before = mapped (after_answer confirm.session confirm.answer) c.session course there in
+          let before = mapped (λ x. after_answer x confirm.session confirm.answer) c.session course there in
           subst (IsLive h more keeps.sessions (held_number c.held)) before.1.1
           (IsLive-answered h more keeps.sessions (held_number c.held) confirm before.0
           (IsLive-more h c.confirms more kept keeps.sessions (held_number c.held) before.0

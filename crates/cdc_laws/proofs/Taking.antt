@@ -8,6 +8,7 @@ use Rattle.std.proofs.lemmas.List.Sums.{fold-append}
 use Rattle.std.proofs.lemmas.Option.{cond_some}
 use Rattle.cdc_broker.specs.Packets.{current_session, expected_after, expected_tag, is_tag, is_taken, items_of, packet_item, session_after, tag_after}
 use Rattle.cdc_laws.specs.Arrivals.{taken_after}
+use Rattle.cdc_laws.specs.Takings.{session_of}
 use Rattle.cdc_laws.proofs.Places.{Contains-cons_cases, none_there}
 use Rattle.cdc_message.specs.declared.items.Item.{Item}
 use Rattle.cdc_message.specs.declared.packets.Packet.{Packet}
@@ -57,11 +58,6 @@ item_taken (Publish c t x ∷ packets) session tag item there =
     ]
 
 -- ---- the current session only rises
-
--- the session of a packet
-abbrev pub session_of : Packet → ℕ
-session_of (Connect session) = session
-session_of (Publish session tag item) = session
 
 -- what a test of two numbers says
 below_from : (t n : ℕ) → nat_lt t n ≡ true → t < n

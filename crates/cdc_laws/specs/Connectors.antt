@@ -6,13 +6,11 @@ use Rattle.cdc_ledger.specs.History.{History}
 use Rattle.cdc_laws.specs.ConnectorRuns.{AreConfirmed, AreSessions, IsBase, IsConfirmed, Shown, sent_by}
 use Rattle.cdc_laws.specs.Line.{told}
 use Rattle.cdc_log.specs.Log.{events_after}
-use Rattle.cdc_message.specs.declared.packets.Answer.{Answer}
-use Rattle.cdc_message.specs.declared.packets.Answer.TheVariants.{Connected, Confirmed, Ignored, Broken}
 use Rattle.cdc_message.specs.declared.packets.Confirm.{Confirm}
 use Rattle.cdc_message.specs.declared.packets.Packet.{Packet}
 use Rattle.cdc_message.specs.Replays.{IsPrefix}
 use Rattle.cdc_progress.specs.Records.{Saved}
-use Rattle.cdc_publisher.specs.Courses.{Course, is_confirmed, tags_sent, with_confirm}
+use Rattle.cdc_publisher.specs.Courses.{Course, after_answer, is_confirmed, tags_sent}
 
 -- a connector: what its store holds, its session, none where it is down, the packets that it has sent, and the confirms
 -- that it has received
@@ -81,18 +79,11 @@ pub record KeepsTo (h : History) (c : ConnectorState) : Type 0 where
 
 -- ---- its steps
 
--- a course after an answer of the broker to a packet of this session
-abbrev pub after_answer : ℕ → Answer → Course → Course
-after_answer session (Confirmed tag) course = with_confirm session tag course
-after_answer session Connected course = course
-after_answer session Ignored course = course
-after_answer session Broken course = course
-
 -- the connector after one more confirm that came, for this session or an earlier one
 abbrev pub after_confirm : Confirm → ConnectorState → ConnectorState
 after_confirm confirm c = record {
   held = c.held;
-  session = option_map (after_answer confirm.session confirm.answer) c.session;
+  session = option_map (λ course. after_answer course confirm.session confirm.answer) c.session;
   sent = c.sent;
   confirms = c.confirms ++ confirm ∷ [];
 }

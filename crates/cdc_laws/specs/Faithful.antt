@@ -1,5 +1,5 @@
 -- What a subscriber may rely on: said of a ledger's history, its binding and what it has heard.
-use Rattle.std.specs.Prelude.{◌≡◌, ℕ, ◌-◌, ◌^◌, min, true, List, length, unwrap_or}
+use Rattle.std.specs.Prelude.{◌≡◌, ℕ, min, true, List, length, unwrap_or}
 use Rattle.cdc_ledger.specs.Balances.{as_of}
 use Rattle.cdc_ledger.specs.Events.{events}
 use Rattle.cdc_ledger.specs.History.{History}
@@ -14,6 +14,7 @@ use Rattle.cdc_subscriber.specs.Kept.{Kept}
 use Rattle.cdc_types.specs.declared.accounts.Balances.{Balances}
 use Rattle.cdc_types.specs.declared.events.Event.{Event}
 use Rattle.cdc_types.specs.Timestamps.{last_timestamp}
+use Rattle.cdc_types.specs.Widths.{max_64}
 
 -- the events that a subscriber has applied: those that it has heard, without repeats
 abbrev pub applied : Heard → List Event
@@ -45,7 +46,7 @@ abbrev pub kept_from : Heard → Kept
 kept_from heard = record {
   book = book_of (applied heard);
   last = last_timestamp (applied heard);
-  applied = min (length (applied heard)) (2 ^ 64 - 1);
+  applied = min (length (applied heard)) max_64;
   ended = has_ended heard;
   closed = heard.closed;
 }

@@ -11,3 +11,4 @@ pub mod Line
 pub mod Readings
 pub mod RunLaws
 pub mod StepLaws
+pub mod Takings

@@ -5,6 +5,8 @@ use Rattle.std.specs.List.{list_all, list_any}
 use Rattle.cdc_types.specs.declared.bounds.TheConstants.Limits.{SESSION}
 use Rattle.cdc_types.specs.declared.events.Event.{Event}
 use Rattle.cdc_message.specs.declared.items.Item.TheVariants.{Event as OfEvent, EndMark}
+use Rattle.cdc_message.specs.declared.packets.Answer.{Answer}
+use Rattle.cdc_message.specs.declared.packets.Answer.TheVariants.{Connected, Confirmed, Ignored, Broken}
 use Rattle.cdc_message.specs.declared.packets.Packet.{Packet}
 use Rattle.cdc_message.specs.declared.packets.Packet.TheVariants.{Connect, Publish}
 use Rattle.cdc_types.specs.Timestamps.{last_timestamp_from}
@@ -123,6 +125,13 @@ takes_confirm course session tag =
 abbrev pub with_confirm : ℕ → ℕ → Course → Course
 with_confirm session tag course =
     if takes_confirm course session tag then record course { confirmed = course.confirmed ++ tag ∷ [] } else course
+
+-- the session after the broker's answer to a packet of the session of this number
+abbrev pub after_answer : Course → ℕ → Answer → Course
+after_answer course session (Confirmed tag) = with_confirm session tag course
+after_answer course session Connected = course
+after_answer course session Ignored = course
+after_answer course session Broken = course
 
 -- the timestamp of the last event before the first unconfirmed one, where the events begin with this tag, after this
 -- moment

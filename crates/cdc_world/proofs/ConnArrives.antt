@@ -8,7 +8,8 @@ use Rattle.std.proofs.lemmas.Option.{same_Some}
 use Rattle.cdc_broker.specs.Packets.{current_session, expected_tag, is_tag, is_taken, items_of}
 use Rattle.cdc_laws.specs.Line.{line, line_after}
 use Rattle.cdc_laws.specs.Connectors.{held_number, held_timestamp}
-use Rattle.cdc_world.specs.Connector.{HasTakenUpTo, IsCurrent, IsOfLine, IsOrderly, IsTakenAt, IsTakenBy}
+use Rattle.cdc_laws.specs.Takings.{HasTakenUpTo}
+use Rattle.cdc_world.specs.Connector.{IsCurrent, IsOfLine, IsOrderly, IsTakenAt, IsTakenBy}
 use Rattle.cdc_world.specs.Next.{with_arrival}
 use Rattle.cdc_world.specs.Worlds.{WorldState, numbered, taken_items}
 use Rattle.cdc_laws.proofs.Arrivals.{IsReplay-behind, each_of_map}

@@ -12,7 +12,8 @@ use Rattle.cdc_publisher.specs.Courses.{Course}
 use Rattle.cdc_broker.specs.Packets.{current_session}
 use Rattle.cdc_laws.specs.Line.{line_after}
 use Rattle.cdc_laws.specs.Connectors.{held_number}
-use Rattle.cdc_world.specs.Connector.{HasTakenUpTo, IsCurrent, IsOfLine, IsOrderly, IsTakenAt, IsTakenBy, session_of}
+use Rattle.cdc_laws.specs.Takings.{HasTakenUpTo, session_of}
+use Rattle.cdc_world.specs.Connector.{IsCurrent, IsOfLine, IsOrderly, IsTakenAt, IsTakenBy}
 use Rattle.cdc_world.specs.Worlds.{Subscription, WorldState, numbered, taken_items}
 
 -- the subscribers

@@ -17,7 +17,8 @@ use Rattle.cdc_publisher.specs.Courses.{Course}
 use Rattle.cdc_broker.specs.Packets.{current_session}
 use Rattle.cdc_laws.specs.Line.{line, line_after}
 use Rattle.cdc_laws.specs.Connectors.{held_number, held_timestamp}
-use Rattle.cdc_world.specs.Connector.{HasTakenUpTo, IsCurrent, IsOfLine, IsOrderly, IsTakenAt, IsTakenBy, KeepsTo}
+use Rattle.cdc_laws.specs.Takings.{HasTakenUpTo}
+use Rattle.cdc_world.specs.Connector.{IsCurrent, IsOfLine, IsOrderly, IsTakenAt, IsTakenBy, KeepsTo}
 use Rattle.cdc_world.specs.Worlds.{WorldState, numbered, taken_items}
 use Rattle.cdc_laws.proofs.Lines.{GoesOn, events_after-goes_on, line-goes_on, line_after-goes_on}
 use Rattle.cdc_laws.proofs.Places.{each_has}

@@ -23,13 +23,14 @@ use Rattle.cdc_message.specs.declared.packets.Packet.{Packet}
 use Rattle.cdc_message.specs.declared.packets.Packet.TheVariants.{Connect, Publish}
 use Rattle.cdc_types.specs.Timestamps.{last_timestamp_from}
 use Rattle.cdc_progress.specs.Records.{Saved}
-use Rattle.cdc_publisher.specs.Courses.{Course, all_sent, begun, confirmed_from, confirmed_timestamp, is_confirmed, is_sent, last_session, may_end, new_course, next_packet, numbers_from, progress_of, publish_packet, tags_sent, takes_confirm, unconfirmed, next_poll, with_confirm, with_offer, with_sent}
+use Rattle.cdc_publisher.specs.Courses.{Course, after_answer, all_sent, begun, confirmed_from, confirmed_timestamp, is_confirmed, is_sent, last_session, may_end, new_course, next_packet, next_poll, numbers_from, progress_of, publish_packet, tags_sent, takes_confirm, unconfirmed, with_confirm, with_offer, with_sent}
 use Rattle.cdc_publisher.specs.declared.session.Poll.{Poll}
 use Rattle.cdc_types.specs.declared.events.Event.{Event}
 use Rattle.cdc_laws.specs.Line.{line_after}
 use Rattle.cdc_laws.specs.Connectors.{held_number, held_timestamp}
-use Rattle.cdc_world.specs.Connector.{HasTakenUpTo, IsCurrent, IsOfLine, IsOrderly, IsTakenAt, IsTakenBy, KeepsTo, session_of}
-use Rattle.cdc_world.specs.Next.{after_answer, none_follow, with_packet, with_poll}
+use Rattle.cdc_laws.specs.Takings.{HasTakenUpTo, session_of}
+use Rattle.cdc_world.specs.Connector.{IsCurrent, IsOfLine, IsOrderly, IsTakenAt, IsTakenBy, KeepsTo}
+use Rattle.cdc_world.specs.Next.{none_follow, with_packet, with_poll}
 use Rattle.cdc_world.specs.Worlds.{WorldState, numbered, taken_items}
 use Rattle.cdc_laws.proofs.Lines.{events_past, split_events}
 use Rattle.cdc_laws.proofs.Places.{each_has, slice_get-append, slice_get-behind}

@@ -10,7 +10,7 @@ use Rattle.cdc_progress.specs.Records.{Saved}
 use Rattle.cdc_progress.specs.Stores.{MayRefuseSave}
 use Rattle.cdc_progress.specs.declared.errors.StoreError.{StoreError}
 use Rattle.cdc_progress.specs.declared.errors.StoreError.TheVariants as store
-use Rattle.cdc_publisher.specs.Courses.{Course, begun, new_course, next_packet, progress_of, next_poll, with_offer, with_sent}
+use Rattle.cdc_publisher.specs.Courses.{Course, after_answer, begun, new_course, next_packet, next_poll, progress_of, with_offer, with_sent}
 use Rattle.cdc_publisher.specs.Kept.{Kept}
 use Rattle.cdc_publisher.specs.Stands.{StandsFor}
 use Rattle.cdc_publisher.specs.Starts.{HasStarted, MayRefuseStart}
@@ -22,7 +22,7 @@ use Rattle.cdc_types.specs.declared.steps.Step.TheVariants.{Start, Crash, Poll a
 use Rattle.cdc_world.specs.declared.steps.Did.TheVariants.{Counted, Done}
 use Rattle.cdc_world.specs.declared.steps.StepError.TheVariants.{NotEnabled}
 use Rattle.cdc_world.specs.Moves.{Moves}
-use Rattle.cdc_world.specs.Next.{IsTried, Outcome, ◌>>=◌, after_answer, counts, next, none_follow, success, with_answer, with_crash, with_packet, with_poll, with_progress, with_session, with_start}
+use Rattle.cdc_world.specs.Next.{IsTried, Outcome, ◌>>=◌, counts, next, none_follow, success, with_answer, with_crash, with_packet, with_poll, with_progress, with_session, with_start}
 use Rattle.cdc_world.specs.Parts.{ActorParts, Parts}
 use Rattle.cdc_world.specs.Refusals.{start_refusal, store_refusal}
 use Rattle.cdc_world.specs.Stands.{ActorsStand, SessionStands, Stands}

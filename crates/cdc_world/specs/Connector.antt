@@ -4,6 +4,7 @@ use Rattle.std.specs.Prelude.{◌≡◌, ℕ, ◌<◌, ◌≤◌, true, Some, Li
 use Rattle.cdc_broker.specs.Packets.{current_session, expected_tag}
 use Rattle.cdc_laws.specs.Connectors.{held_number, held_timestamp}
 use Rattle.cdc_laws.specs.Line.{line, line_after}
+use Rattle.cdc_laws.specs.Takings.{HasTakenUpTo, session_of}
 use Rattle.cdc_world.specs.Worlds.{WorldState, numbered, taken_items}
 use Rattle.cdc_ledger.specs.Events.{events}
 use Rattle.cdc_ledger.specs.History.{History}
@@ -20,11 +21,6 @@ use Rattle.cdc_message.specs.Replays.{IsPrefix, IsReplay}
 use Rattle.cdc_publisher.specs.Courses.{Course, is_confirmed}
 use Rattle.cdc_types.specs.declared.events.Event.{Event}
 
--- the session of a packet
-abbrev pub session_of : Packet → ℕ
-session_of (Connect session) = session
-session_of (Publish session tag item) = session
-
 -- the item under this number, from 1 on, is there and was taken
 abbrev pub IsTakenAt : List Item → List Item → ℕ → Type 0
 IsTakenAt taken items k = (item : Item) × (numbered items k ≡ Some item) × Contains taken item
@@ -40,11 +36,6 @@ IsTakenBy taken items Broken = Unit {0}
 abbrev pub IsOfLine : History → (ℕ → ℕ) → Packet → Type 0
 IsOfLine h base_of (Connect session) = Unit {0}
 IsOfLine h base_of (Publish session tag item) = numbered (line_after h (base_of session)) tag ≡ Some item
-
--- every event of the history up to this moment was taken
-abbrev pub HasTakenUpTo : History → List Item → ℕ → Type 0
-HasTakenUpTo h taken t =
-    (event : Event) → Contains (events h) event → event.timestamp ≤ t → Contains taken (OfEvent event)
 
 -- a session keeps to the history: it was offered the first events after its base, and all of them where none are to
 -- follow; and what was confirmed to it was taken

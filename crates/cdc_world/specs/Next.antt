@@ -18,7 +18,7 @@ use Rattle.cdc_message.specs.declared.packets.Packet.TheVariants.{Connect, Publi
 use Rattle.cdc_progress.specs.declared.errors.StoreError.{StoreError}
 use Rattle.cdc_progress.specs.declared.errors.StoreError.TheVariants as store
 use Rattle.cdc_progress.specs.Records.{Saved}
-use Rattle.cdc_publisher.specs.Courses.{Course, begun, new_course, next_packet, progress_of, takes_confirm, next_poll, with_confirm, with_offer, with_sent}
+use Rattle.cdc_publisher.specs.Courses.{Course, after_answer, begun, new_course, next_packet, progress_of, takes_confirm, next_poll, with_offer, with_sent}
 use Rattle.cdc_publisher.specs.declared.session.Poll.{Poll}
 use Rattle.cdc_subscriber.specs.Answers.{answer_to}
 use Rattle.cdc_subscriber.specs.Heard.{kept_of, next as next_heard}
@@ -96,13 +96,6 @@ counts course session (Confirmed tag) = takes_confirm course session tag
 counts course session Connected = false
 counts course session Ignored = false
 counts course session Broken = false
-
--- the session after the broker has said so of one of its packets
-abbrev pub after_answer : Course → ℕ → BrokerAnswer → Course
-after_answer course session (Confirmed tag) = with_confirm session tag course
-after_answer course session Connected = course
-after_answer course session Ignored = course
-after_answer course session Broken = course
 
 -- a confirm comes to the session
 abbrev pub with_answer : WorldState → Course → Confirm → Outcome

@@ -3,10 +3,10 @@
 ghost use Rattle.std.specs.Prelude.{◌≡◌, ◌≤◌, IfErr, IfOk, length, take};
 ghost use Rattle.cdc_ledger.specs.Events.{events as events_of};
 ghost use Rattle.cdc_log.specs.Log.{events_after};
-ghost use Rattle.cdc_publisher.specs.Courses.{Course};
+ghost use Rattle.cdc_publisher.specs.Courses.{Course, after_answer};
 ghost use Rattle.cdc_publisher.specs.Offers.{IsReply};
 ghost use Rattle.cdc_publisher.specs.Stands.{StandsFor};
-ghost use Rattle.cdc_world.specs.Next.{after_answer, counts, none_follow as none_follows};
+ghost use Rattle.cdc_world.specs.Next.{counts, none_follow as none_follows};
 ghost use Rattle.cdc_world.specs.Turns.{IsNotOfStore, Offers, Sends};
 
 use crate::steps::StepError;

@@ -1,7 +1,7 @@
 use Rattle.std.proofs.Common.{◌≡◌, codes, ◌++◌}
 use Rattle.std.specs.Prelude.{string_bytes}
 use Rattle.cdc_script.specs.Faults.{kind_name}
-use Rattle.cdc_app.specs.Report.{spaced}
+use Rattle.cdc_subscriber.specs.Lines.{spaced}
 use Rattle.cdc_app.proofs.TextLemmas.{pieces}
 use Rattle.cdc_app.proofs.report.push_fault.Goals as goal
 

@@ -1,0 +1,19 @@
+-- The session of a packet, and what was taken of a history's events. Cited by proofs alone, here and in the crates above.
+use Rattle.std.specs.Prelude.{ℕ, ◌≤◌, List, Contains}
+use Rattle.cdc_ledger.specs.Events.{events}
+use Rattle.cdc_ledger.specs.History.{History}
+use Rattle.cdc_message.specs.declared.items.Item.{Item}
+use Rattle.cdc_message.specs.declared.items.Item.TheVariants.{Event as OfEvent}
+use Rattle.cdc_message.specs.declared.packets.Packet.{Packet}
+use Rattle.cdc_message.specs.declared.packets.Packet.TheVariants.{Connect, Publish}
+use Rattle.cdc_types.specs.declared.events.Event.{Event}
+
+-- the session of a packet
+abbrev pub session_of : Packet → ℕ
+session_of (Connect session) = session
+session_of (Publish session tag item) = session
+
+-- every event of the history up to this moment was taken
+abbrev pub HasTakenUpTo : History → List Item → ℕ → Type 0
+HasTakenUpTo h taken t =
+    (event : Event) → Contains (events h) event → event.timestamp ≤ t → Contains taken (OfEvent event)
