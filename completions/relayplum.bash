@@ -11,9 +11,9 @@ _relayplum() {
         words='1'
     elif [[ $word == -* ]]; then
         case ${COMP_WORDS[1]} in
-            books) words='-h --help' ;;
-            messages) words='-h --help' ;;
-            simulate) words='--window -h --help' ;;
+            books) words='--explain --check -h --help' ;;
+            messages) words='--check -h --help' ;;
+            simulate) words='--window --explain --trace --diagram --check -h --help' ;;
         esac
     fi
     # Where there is no such word, files are offered.

@@ -56,13 +56,14 @@ for command in $with_flags; do
     same "bash: $command, a file" '' "$(offered "$command" '')"
 done
 
-# zsh: what its file says, command by command; the list `help` is part of each.
-zsh_help=$(sed -n '/^    help=/p' "$zsh_words" | flags_in)
+# zsh: what its file says, command by command; `$help` and its like stand for a list further up.
+zsh_list() { sed -n "/^    $1=/p" "$zsh_words" | flags_in; }
 same 'zsh: commands' "$all_commands" "$(sed -n "/^    commands=(/,/^    )/s/^ *'\([a-z]*\):.*/\1/p" "$zsh_words" | sorted)"
-same 'zsh: the first word' "$(flags)" "$({ echo "$zsh_help"; grep -- '--version' "$zsh_words" | flags_in; } | sorted)"
+same 'zsh: the first word' "$(flags)" "$({ zsh_list help; grep -- '--version' "$zsh_words" | flags_in; } | sorted)"
 for command in $with_flags; do
     found=$(sed -n "/^        ($command)\$/,/;;/p" "$zsh_words")
-    same "zsh: $command" "$(flags "$command")" "$({ grep -q '\$help' <<<"$found" && echo "$zsh_help"; flags_in <<<"$found"; } | sorted)"
+    lists=$(grep -oE '\$[a-z]+' <<<"$found" | tr -d '$')
+    same "zsh: $command" "$(flags "$command")" "$({ for list in $lists; do zsh_list "$list"; done; flags_in <<<"$found"; } | sorted)"
 done
 
 # fish: the same, a line for each word; those that aren't of a command are of all of them.
