@@ -44,6 +44,13 @@ ends_well() {
     same "$1: standard error" '' "$err"
 }
 
+# A run that ends well in which so many items weren't accepted and so many batches were refused, as standard error says.
+counts() {
+    same "$1: status" 0 "$status"
+    same "$1: standard error" "relayplum: items not accepted: $2, batches refused: $3; --explain says why
+" "$err"
+}
+
 one_transfer='subscriber all
 accounts 1000
 account id=1 ledger=700 code=10
@@ -97,6 +104,13 @@ for words in '--help' 'help'; do
     has "words '$words': messages" '  messages ' "$out"
     has "words '$words': simulate" '  simulate ' "$out"
 done
+for words in 'books --help' 'messages --help' 'simulate --help'; do
+    run $words
+    has "words '$words': --check" '--check ' "$out"
+    [ "$words" == 'messages --help' ] || has "words '$words': --explain" '--explain ' "$out"
+done
+has 'words of simulate: --trace' '--trace ' "$out"
+has 'words of simulate: --diagram' '--diagram' "$out"
 for words in '--version' '-V'; do
     run $words
     ends_well "words '$words'"
@@ -126,8 +140,13 @@ bad_words "'other.steps'" simulate one.script three.steps other.steps
 bad_words "'--window" simulate one.script three.steps --window
 bad_words "'--window" simulate one.script three.steps --window 1 --window 1
 bad_words "'--window'" books one.script --window 1
+bad_words "'--explain'" messages one.script --explain
+bad_words "'--trace'" books one.script --trace
+bad_words "'--diagram" messages one.script --diagram=out
+bad_words "'--check" simulate one.script three.steps --check=yes
 for window in 0 2 64 65 x ''; do
     bad_words 'a window is 1' simulate one.script three.steps --window "$window"
+    bad_words 'a window is 1' simulate one.script three.steps --check --window "$window"
 done
 run books $'\xff'
 same 'a word that is no text: status' 2 "$status"
@@ -243,7 +262,8 @@ refused 2 not_enabled
 progress 1 0
 subscriber 1 applied 0 last 0 ended no closed no
 ' "$out"
-has 'a refused step: standard error' 'a step was refused: not_enabled' "$err"
+same 'a refused step: standard error' 'twice.steps:2: start: not enabled: session 1 runs already
+' "$err"
 run simulate "$top/examples/two-phase.script" "$top/examples/two-phase.steps"
 shown=$(sed -n '/^steps 22 of 22$/,/^```$/p' "$top/docs/GUIDE.md")
 same 'the example of steps' "batch 1: 0 0 0 0
@@ -254,10 +274,59 @@ run simulate "$top/examples/two-phase.script" "$top/examples/faults.steps"
 shown=$(sed -n '/^steps 92 of 92$/,/^```$/p' "$top/docs/GUIDE.md")
 same 'the example of faults' "${shown%\`\`\`}" "$(sed -n '/^steps /,$p' output)
 "
-ends_well 'the example of faults'
+counts 'the example of faults' 2 0
 faulty=$(sed '/^steps /,$d' output)
 run books "$top/examples/two-phase.script"
 same 'the example of faults: its batches' "$(sed '/^subscriber /,$d' output)" "$faulty"
+
+# Why a step isn't enabled: its line, its words and the reason.
+not_enabled() {
+    printf "$4" >why.steps
+    run simulate one.script why.steps
+    same "$2, not enabled: status" 1 "$status"
+    same "$2, not enabled: $3" "why.steps:$1: $2: not enabled: $3
+" "$err"
+}
+published='batch\nbatch\nstart\npublish\npoll\npublish\n'
+not_enabled 3 batch "no batch is left of the script's 2" 'batch\nbatch\nbatch\n'
+not_enabled 4 start 'session 1 runs already' '# A comment.\n  start  \n\nstart\n'
+for step in crash poll publish save 'answer 1'; do
+    not_enabled 1 "$step" 'no session runs' "$step\n"
+done
+not_enabled 5 poll 'the session has an event that it is to publish first' 'batch\nbatch\nstart\npoll\npoll\n'
+not_enabled 7 poll 'the session waits for the confirm of tag 1' "${published}poll\n"
+not_enabled 4 poll 'the session knows that no event follows' 'close_ledger\nstart\npoll\npoll\n'
+not_enabled 3 publish 'the session has no event that is to be published' 'start\npublish\npublish\n'
+not_enabled 8 publish 'the end mark waits for the confirm of tag 1' \
+    'batch\nbatch\nclose_ledger\nstart\npublish\npoll\npublish\npublish\n'
+not_enabled 6 publish 'the session has sent all, and the end mark' \
+    'close_ledger\nstart\npublish\npoll\npublish\npublish\n'
+not_enabled 1 'arrive 1' 'no packet was ever sent' 'arrive 1\n'
+not_enabled 3 'arrive 2' 'only 1 packet was ever sent' 'start\npublish\narrive 2\n'
+not_enabled 7 'arrive 3' 'only 2 packets were ever sent' "${published}arrive 3\n"
+not_enabled 3 'arrive 0' 'numbers count from 1' 'start\npublish\narrive 0\n'
+not_enabled 2 'answer 1' 'no confirm was ever sent' 'start\nanswer 1\n'
+not_enabled 9 'answer 2' 'only 1 confirm was ever sent' "${published}arrive 1\narrive 2\nanswer 2\n"
+not_enabled 9 'answer 0' 'numbers count from 1' "${published}arrive 1\narrive 2\nanswer 0\n"
+for step in send rewind break take close; do
+    for number in 0 2 18446744073709551615; do
+        not_enabled 1 "$step $number" "there is no subscriber $number: the last one is number 1" "$step $number\n"
+    done
+done
+not_enabled 1 'ack 2 1' 'there is no subscriber 2: the last one is number 1' 'ack 2 1\n'
+not_enabled 1 'send 1' 'queue 1 is empty' 'send 1\n'
+not_enabled 10 'send 1' 'queue 1 has nothing behind position 1' "${published}arrive 1\narrive 2\nsend 1\nsend 1\n"
+not_enabled 1 'take 1' 'nothing is on its way to subscriber 1' 'take 1\n'
+not_enabled 1 'ack 1 1' 'subscriber 1 has acknowledged nothing' 'ack 1 1\n'
+not_enabled 11 'ack 1 2' 'subscriber 1 has sent acknowledgements up to number 1' \
+    "${published}arrive 1\narrive 2\nsend 1\ntake 1\nack 1 2\n"
+not_enabled 11 'ack 1 0' 'numbers count from 1' "${published}arrive 1\narrive 2\nsend 1\ntake 1\nack 1 0\n"
+printf 'batch\nclose_ledger\nbatch\n' >why.steps
+run simulate one.script why.steps
+same 'a refused batch: status' 1 "$status"
+same 'a refused batch: standard error' \
+    'why.steps:3: batch: refused: 1 ledger_closed: the ledger is closed, and takes no more batches
+' "$err"
 
 # A bad step file, and one that isn't there: the script is judged first.
 bad_steps() {
@@ -325,7 +394,7 @@ ends_well 'the example of two phases: its messages'
 run books "$top/examples/two-phase.script"
 shown=$(sed -n '/^batch 1: 0 0 0 0$/,/^```$/p' "$top/docs/GUIDE.md")
 same 'the example of two phases: its books' "$out" "${shown%\`\`\`}"
-ends_well 'the example of two phases: its books'
+counts 'the example of two phases: its books' 2 0
 
 # The example of refusals: a transfer that is there already, with other fields too, no such account, a limit.
 its_refusals='batch 1: 0 0
@@ -336,7 +405,7 @@ account 1 0 0 0 100
 '
 run books "$top/examples/refusals.script"
 same 'the example of refusals' "$its_refusals" "$out"
-ends_well 'the example of refusals'
+counts 'the example of refusals' 4 0
 
 # A batch of 1,001 accounts, and batches at the greatest timestamp.
 {
@@ -354,7 +423,106 @@ batch 4: pulse 0
 batch 5 refused: 3 timestamps_exhausted
 subscriber 1 applied 0 last 0 ended yes closed no
 ' "$out"
-ends_well 'batches that are refused'
+counts 'batches that are refused' 0 3
+run books --explain crowded.script
+same 'batches that are refused, explained' 'crowded.script:2: batch 1 refused: 2 batch_too_large: it has 1001 items, and a batch has 1000 at most
+crowded.script:1004: batch 2 refused: 3 timestamps_exhausted: the timestamps of its items would pass the greatest one, 2^63-1
+crowded.script:1010: batch 5 refused: 3 timestamps_exhausted: the timestamps of its items would pass the greatest one, 2^63-1
+' "$err"
+
+# Each result in words: tests/words/results.errors has them all, and nothing else stands on standard error. Standard output
+# and the status are as without the flag.
+cp "$top/tests/words/results.script" .
+run books results.script
+counts 'each result' 45 0
+plain=$out
+run books --explain results.script
+same 'each result, explained: status' 0 "$status"
+same 'each result, explained: standard output' "$plain" "$out"
+same 'each result, explained' "$(cat "$top/tests/words/results.errors")
+" "$err"
+run books --explain one.script
+same 'nothing to explain: standard output' "$its_book" "$out"
+ends_well 'nothing to explain'
+cp results.script input
+run books --explain -
+has 'a script on standard input, explained' 'standard input:24: batch 3 account 1 (id 20): 1 reserved_flag: ' "$err"
+
+# What each step did, line by line, and as a diagram. Standard output is as without the flags.
+run simulate "$top/examples/two-phase.script" "$top/tests/words/repeats.steps"
+plain=$out
+same 'steps that are told: their end' 'steps 31 of 31' "$(grep '^steps' output)"
+run simulate --trace "$top/examples/two-phase.script" "$top/tests/words/repeats.steps"
+same 'a trace: status' 0 "$status"
+same 'a trace: standard output' "$plain" "$out"
+same 'a trace' "$(cat "$top/tests/words/repeats.trace")
+" "$err"
+run simulate --diagram "$top/examples/two-phase.script" "$top/tests/words/repeats.steps"
+same 'a diagram: status' 0 "$status"
+same 'a diagram: standard output' "$plain" "$out"
+same 'a diagram' "$(cat "$top/tests/words/repeats.diagram")
+" "$err"
+run simulate --diagram=drawn "$top/examples/two-phase.script" "$top/tests/words/repeats.steps"
+same 'a diagram in a file' "$(cat "$top/tests/words/repeats.diagram")" "$(cat drawn)"
+same 'a diagram in a file: standard output' "$plain" "$out"
+ends_well 'a diagram in a file'
+run simulate --diagram=no-folder/drawn "$top/examples/two-phase.script" "$top/tests/words/repeats.steps"
+same 'a diagram that cannot be written: status' 0 "$status"
+same 'a diagram that cannot be written: standard output' "$plain" "$out"
+has 'a diagram that cannot be written: why' 'no-folder/drawn: write_fault: No such file' "$err"
+run simulate --trace --explain --diagram "$top/examples/two-phase.script" "$top/examples/faults.steps"
+same 'all that can be told: status' 0 "$status"
+same 'all that can be told: what was explained' 2 "$(grep -c 'two-phase.script:.*: 2[68] pending_transfer' errors)"
+same 'all that can be told: subscriber 1' 'applied 2000 applied 2001 repeat repeat repeat applied 2002 applied 3000 repeat repeat applied 3001 applied 3002 applied 2000000000 heard the end mark' \
+    "$(sed -n 's/^take 1: //p' errors | tr '\n' ' ' | sed 's/ $//')"
+printf 'start\nstart\n' >twice.steps
+run simulate --trace one.script twice.steps
+same 'a trace up to a refused step' 'start: session 1 begins after 0
+twice.steps:2: start: not enabled: session 1 runs already
+' "$err"
+
+# Files that are judged alone.
+for words in 'books --check one.script' 'messages one.script --check' 'simulate --check one.script three.steps' \
+    'simulate one.script --check three.steps --trace --window 1'; do
+    run $words
+    same "words '$words': standard output" '' "$out"
+    ends_well "words '$words'"
+done
+cp one.script input
+run books --check -
+same 'a check of standard input' '' "$out"
+ends_well 'a check of standard input'
+for words in 'books --check number.script' 'messages --check number.script' 'simulate --check number.script bad.steps'; do
+    run $words
+    same "words '$words': status" 2 "$status"
+    same "words '$words': standard output" 'fault: script line 2: bad_number
+' "$out"
+    same "words '$words': standard error" 'number.script:2: bad_number: a number is one or more digits from 0 to 9
+' "$err"
+done
+printf 'start\njump\n' >bad.steps
+run simulate --check one.script bad.steps
+same 'a check of bad steps: status' 2 "$status"
+same 'a check of bad steps: standard output' 'fault: steps line 2: unknown_word
+' "$out"
+has 'a check of bad steps: standard error' 'bad.steps:2: unknown_word: ' "$err"
+run books --check no-such.script
+same 'a check of no file: status' 1 "$status"
+same 'a check of no file: standard output' 'fault: read_fault
+' "$out"
+
+# A standard error that takes nothing, and one that is closed, do no harm.
+refusing=("books $top/examples/two-phase.script" "books --explain $top/examples/two-phase.script"
+    "simulate --trace --explain --diagram $top/examples/two-phase.script $top/examples/faults.steps"
+    'simulate one.script twice.steps')
+for words in "${refusing[@]}"; do
+    run $words
+    wanted="$status $out"
+    out=$("$program" $words 2>&-; printf ' %s' $?)
+    same "words '$words' without standard error" "${wanted#* } ${wanted%% *}" "$out"
+    [ ! -w /dev/full ] || out=$("$program" $words 2>/dev/full; printf ' %s' $?)
+    same "words '$words', standard error full" "${wanted#* } ${wanted%% *}" "$out"
+done
 
 # A large simulation: 10,000 transfers, each of which is published, confirmed and taken, in 60,014 steps.
 {

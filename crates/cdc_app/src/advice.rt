@@ -25,7 +25,7 @@ pub fn advise_on_steps(rt: &HostRuntime, file: &str, steps: &str, ending: Ending
 }
 
 /// A file as it is named to a person.
-fn shown_name(file: &str) -> &str {
+pub fn shown_name(file: &str) -> &str {
     if file == STANDARD_INPUT {
         "standard input"
     } else {

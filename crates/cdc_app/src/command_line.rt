@@ -12,6 +12,8 @@ pub enum Options<'a> {
     /// The results of a script's batches and the book of a subscriber, of the script in this file; `-` is standard input.
     Books {
         file: &'a str,
+        /// Whether standard error says why each item wasn't accepted.
+        explain: bool,
     },
     /// The messages of a script's events, of the script in this file; `-` is standard input.
     Messages {
@@ -23,11 +25,29 @@ pub enum Options<'a> {
         file: &'a str,
         steps: &'a str,
         window: usize,
+        telling: Telling<'a>,
+    },
+    /// Whether the script in the first file is good, and the step file, where one is named; `-` as the script is standard
+    /// input.
+    Check {
+        file: &'a str,
+        steps: Option<&'a str>,
     },
     /// A text on the program itself: help, or its version.
     Explain {
         text: String,
     },
+}
+
+/// What standard error tells of a simulation, beside its fault or the step that was refused.
+#[derive(Clone, Copy)]
+pub struct Telling<'a> {
+    /// Whether it says why each item wasn't accepted.
+    pub explain: bool,
+    /// Whether it says what each step did.
+    pub trace: bool,
+    /// The file that gets the steps as a diagram; `-` is standard error.
+    pub diagram: Option<&'a str>,
 }
 
 /// Why words ask for nothing.

@@ -2,5 +2,6 @@
 //! before that and prints after it.
 
 pub mod books;
+pub mod check;
 pub mod messages;
 pub mod simulate;

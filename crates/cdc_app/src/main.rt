@@ -10,25 +10,30 @@ mod commands;
 mod endings;
 mod faults;
 mod feeding;
+mod kept;
 mod options;
 mod output;
 mod report;
 mod simulation_report;
 mod simulations;
 mod sources;
+mod telling;
 
 use advice::{advise, advise_on_steps};
 use commands::books::books;
+use commands::check::check;
 use commands::messages::messages;
 use commands::simulate::simulate_command;
 use endings::Ending;
 use faults::ProgramFault;
-use options::{Options, OptionsFault, options};
+use kept::Kept;
+use options::{Options, OptionsFault, Telling, options};
 use output::{print_fault, print_text};
 use sources::{STANDARD_INPUT, Source};
 use std::alloc::AllocError;
 use std::process::ExitCode;
 use std::{env, io};
+use telling::{Inputs, explain_books, hint, tell_simulation};
 
 fn main(rt: HostRuntime) -> ExitCode {
     let ending = match words_of(&rt) {
@@ -57,26 +62,33 @@ fn run_words(rt: &HostRuntime, words: &[String]) -> Ending {
         return give_up(rt, ProgramFault::OutOfMemory);
     };
     match options(rt.alloc(), texts.as_slice()) {
-        Ok(Options::Books { file }) => run_books(rt, file),
+        Ok(Options::Books { file, explain }) => run_books(rt, file, explain),
         Ok(Options::Messages { file }) => run_messages(rt, file),
         Ok(
             Options::Simulate {
                 file,
                 steps,
                 window,
+                telling,
             },
-        ) => run_simulation(rt, file, steps, window),
+        ) => run_simulation(rt, file, steps, window, telling),
+        Ok(Options::Check { file, steps }) => run_check(rt, file, steps),
         Ok(Options::Explain { text }) => explain(rt, text.as_str()),
         Err(OptionsFault::BadWords { message }) => refuse_words(rt, message.as_str()),
         Err(OptionsFault::OutOfMemory) => give_up(rt, ProgramFault::OutOfMemory),
     }
 }
 
-/// Runs `books` over the script of this name, and says on standard error why it gave up.
-fn run_books(rt: &HostRuntime, file: &str) -> Ending {
-    let mut script = Source::of_script(rt, file);
-    let ending = books(rt.alloc(), &mut script, &mut io::writer(rt));
-    advise(rt, file, ending);
+/// Runs `books` over the script of this name, and says on standard error why it gave up, or what wasn't accepted.
+fn run_books(rt: &HostRuntime, file: &str, explain: bool) -> Ending {
+    let mut script = Kept::new(rt.alloc(), Source::of_script(rt, file));
+    let mut printed = Kept::new(rt.alloc(), io::writer(rt));
+    let ending = books(rt.alloc(), &mut script, &mut printed);
+    match (ending, script.bytes(), printed.bytes()) {
+        (Ending::Done, Some(script), _) if explain => explain_books(rt, file, script),
+        (Ending::Done, _, Some(printed)) => hint(rt, printed),
+        _ => advise(rt, file, ending),
+    }
     ending
 }
 
@@ -88,21 +100,74 @@ fn run_messages(rt: &HostRuntime, file: &str) -> Ending {
     ending
 }
 
-/// Runs `simulate` over the script and the step file of these names, and says on standard error why it gave up.
-fn run_simulation(rt: &HostRuntime, file: &str, steps: &str, window: usize) -> Ending
+/// Runs `simulate` over the script and the step file of these names, and tells on standard error what is asked for, why a
+/// step was refused, or why the command gave up.
+fn run_simulation(
+    rt: &HostRuntime,
+    file: &str,
+    steps: &str,
+    window: usize,
+    telling: Telling<'_>,
+) -> Ending
     requires { IsWindow window }
 {
-    let mut script = Source::of_script(rt, file);
-    let mut step_file = Source::of_file(rt, steps);
+    let mut script = Kept::new(rt.alloc(), Source::of_script(rt, file));
+    let mut step_file = Kept::new(rt.alloc(), Source::of_file(rt, steps));
+    let mut printed = Kept::new(rt.alloc(), io::writer(rt));
     let ending = simulate_command(
         rt.alloc(),
         &mut script,
         &mut step_file,
         window,
-        &mut io::writer(rt),
+        &mut printed,
     );
-    advise_on_steps(rt, file, steps, ending);
+    let mut said = false;
+    if let (Some(script), Some(step_bytes)) = (script.bytes(), step_file.bytes()) {
+        let inputs = Inputs {
+            file,
+            script,
+            step_file: steps,
+            steps: step_bytes,
+            window,
+        };
+        said = is_told(ending, telling) && tell_simulation(rt, inputs, telling);
+    }
+    if !said {
+        advise_on_steps(rt, file, steps, ending);
+    }
+    if let (Some(printed), false) = (printed.bytes(), telling.explain) {
+        hint(rt, printed);
+    }
     ending
+}
+
+/// Whether a simulation that ended so is to be told: a step was refused, or something was asked for and it was done.
+fn is_told(ending: Ending, telling: Telling<'_>) -> bool {
+    match ending {
+        Ending::Refused(_) => true,
+        Ending::Done => telling.explain || telling.trace || telling.diagram.is_some(),
+        _ => false,
+    }
+}
+
+/// Judges the script of this name, and the step file, and says on standard error what is wrong.
+fn run_check(rt: &HostRuntime, file: &str, steps: Option<&str>) -> Ending {
+    let mut script = Source::of_script(rt, file);
+    let mut writer = io::writer(rt);
+    match steps {
+        None => {
+            let none: Option<&mut Source> = None;
+            let ending = check(rt.alloc(), &mut script, none, &mut writer);
+            advise(rt, file, ending);
+            ending
+        }
+        Some(steps) => {
+            let mut step_file = Source::of_file(rt, steps);
+            let ending = check(rt.alloc(), &mut script, Some(&mut step_file), &mut writer);
+            advise_on_steps(rt, file, steps, ending);
+            ending
+        }
+    }
 }
 
 /// Prints what was asked about the program itself.

@@ -3,13 +3,16 @@
 ghost use Rattle.std.specs.Prelude.{◌≡◌, length, codes, IfOk, IfSome, IsOkAnd};
 ghost use Rattle.cdc_app.specs.Options.{IsBooks, IsWindow, IsWithinLimits};
 
-pub use crate::command_line::{Options, OptionsFault};
+pub use crate::command_line::{Options, OptionsFault, Telling};
 use crate::sources::STANDARD_INPUT;
 use cdc_message::decimal_up_to;
 use cdc_types::Limits;
 use clap::error::ErrorKind;
 use clap::{Arg, ArgAction, ArgMatches, Command, Error};
 use std::alloc::{AllocError, Global};
+
+/// The name of standard error as the file of a diagram.
+pub const STANDARD_ERROR: &str = "-";
 
 /// What the program is for.
 const ABOUT: &str =
@@ -52,6 +55,7 @@ pub fn options<'a>(alloc: Global, words: &'a [&'a str]) -> Result<Options<'a>, O
     if words.is_empty() {
         return Ok(Options::Books {
             file: STANDARD_INPUT,
+            explain: false,
         });
     }
     match read_words(alloc, words) {
@@ -80,7 +84,9 @@ fn books_words<'a>(alloc: Global) -> Result<Command<'a>, AllocError> {
     Command::new(alloc, "books")
         .about("Print the results of a script's batches and the books of its subscribers")
         .after_help(MORE)
-        .arg(script_argument(alloc))
+        .arg(script_argument(alloc))?
+        .arg(explain_flag(alloc))?
+        .arg(check_flag(alloc))
 }
 
 /// The command `messages`.
@@ -90,7 +96,8 @@ fn messages_words<'a>(alloc: Global) -> Result<Command<'a>, AllocError> {
             "Print two lines for each event of a script: what its message is routed by, and its JSON body",
         )
         .after_help(MORE)
-        .arg(script_argument(alloc))
+        .arg(script_argument(alloc))?
+        .arg(check_flag(alloc))
 }
 
 /// The command `simulate`.
@@ -111,7 +118,11 @@ fn simulate_words<'a>(alloc: Global) -> Result<Command<'a>, AllocError> {
         .after_help(MORE)
         .arg(script_argument(alloc))?
         .arg(steps)?
-        .arg(window)
+        .arg(window)?
+        .arg(explain_flag(alloc))?
+        .arg(trace_flag(alloc))?
+        .arg(diagram_option(alloc))?
+        .arg(check_flag(alloc))
 }
 
 /// The file of a script.
@@ -122,45 +133,112 @@ fn script_argument<'a>(alloc: Global) -> Arg<'a> {
         .help("The script; - is standard input")
 }
 
+/// The flag `--explain`.
+fn explain_flag<'a>(alloc: Global) -> Arg<'a> {
+    Arg::new(alloc, "explain")
+        .long("explain")
+        .action(ArgAction::SetTrue)
+        .help("Say on standard error why each item was not accepted")
+}
+
+/// The flag `--check`.
+fn check_flag<'a>(alloc: Global) -> Arg<'a> {
+    Arg::new(alloc, "check")
+        .long("check")
+        .action(ArgAction::SetTrue)
+        .help("Judge the files alone: print the first fault, or nothing")
+}
+
+/// The flag `--trace`.
+fn trace_flag<'a>(alloc: Global) -> Arg<'a> {
+    Arg::new(alloc, "trace")
+        .long("trace")
+        .action(ArgAction::SetTrue)
+        .help("Say on standard error what each step did")
+}
+
+/// The option `--diagram`.
+fn diagram_option<'a>(alloc: Global) -> Arg<'a> {
+    Arg::new(alloc, "diagram")
+        .long("diagram")
+        .value_name("OUT")
+        .action(ArgAction::Set)
+        .num_args(0..=1)
+        .require_equals(true)
+        .default_missing_value(STANDARD_ERROR)
+        .help(
+            "Draw the steps as a sequence diagram for Mermaid, on standard error or in the file OUT",
+        )
+}
+
 /// The command that the words name, with its files and its numbers.
 fn asked_by<'a>(alloc: Global, matches: &ArgMatches<'a>) -> Result<Options<'a>, OptionsFault>
     ensures { IfOk result IsWithinLimits }
 {
     if let Some((command, arguments)) = matches.subcommand() {
-        match (command, arguments.get_str("FILE")) {
-            ("books", Some(file)) => return Ok(Options::Books { file }),
-            ("messages", Some(file)) => return Ok(Options::Messages { file }),
-            ("simulate", Some(file)) => {
-                if let Some(steps) = arguments.get_str("STEPS") {
-                    return simulation(alloc, file, steps, arguments.get_str("window"));
-                }
-            }
-            _ => {}
+        if let Some(file) = arguments.get_str("FILE") {
+            return asked_of(alloc, command, file, arguments);
         }
     }
     Err(bad_words(alloc, "error: no command has such words\n")?)
 }
 
-/// A simulation of these files, with the window that a word says, or that of one event.
+/// What the words ask of a script by a command of this name.
+fn asked_of<'a>(
+    alloc: Global,
+    command: &str,
+    file: &'a str,
+    arguments: &ArgMatches<'a>,
+) -> Result<Options<'a>, OptionsFault>
+    ensures { IfOk result IsWithinLimits }
+{
+    match (command, arguments.get_str("STEPS")) {
+        ("simulate", Some(steps)) => simulation(alloc, file, steps, arguments),
+        ("books" | "messages", _) if arguments.get_flag("check") => {
+            Ok(Options::Check { file, steps: None })
+        }
+        ("books", _) => Ok(Options::Books {
+            file,
+            explain: arguments.get_flag("explain"),
+        }),
+        ("messages", _) => Ok(Options::Messages { file }),
+        _ => Err(bad_words(alloc, "error: no command has such words\n")?),
+    }
+}
+
+/// A simulation of these files, with the window that a word says, or that of one event; where only a check is asked for,
+/// that of the files.
 fn simulation<'a>(
     alloc: Global,
     file: &'a str,
     steps: &'a str,
-    window: Option<&str>,
+    arguments: &ArgMatches<'a>,
 ) -> Result<Options<'a>, OptionsFault>
     ensures { IfOk result IsWithinLimits }
 {
-    match read_window(window) {
-        Some(window) => Ok(Options::Simulate {
-            file,
-            steps,
-            window,
-        }),
-        None => Err(bad_words(
+    let Some(window) = read_window(arguments.get_str("window")) else {
+        return Err(bad_words(
             alloc,
             "error: a window is 1\n\nFor more information, try '--help'.\n",
-        )?),
+        )?);
+    };
+    if arguments.get_flag("check") {
+        return Ok(Options::Check {
+            file,
+            steps: Some(steps),
+        });
     }
+    let telling = Telling {
+        explain: arguments.get_flag("explain"),
+        trace: arguments.get_flag("trace"),
+        diagram: arguments.get_str("diagram"),
+    };
+    Ok(Options::Simulate {
+        file,
+        steps,
+        window,
+        telling,
+    })
 }
 
 /// The window that a word says; where there is none, that of one event.

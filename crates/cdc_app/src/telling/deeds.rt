@@ -1,0 +1,315 @@
+//! What a step of a simulation did, and how that is said.
+
+use crate::telling::cargo::{Cargo, Confirm, Packet};
+use crate::telling::sentences::Sentence;
+use cdc_subscriber::Taking;
+
+/// What a step did. Numbers count from 1; timestamps are in nanoseconds.
+#[derive(Clone, Copy)]
+pub enum Deed {
+    /// The ledger took a batch.
+    Submitted {
+        batch: usize,
+        items: usize,
+        accepted: usize,
+    },
+    /// The ledger took a pulse.
+    Pulsed {
+        batch: usize,
+        expired: u64,
+    },
+    /// The ledger closed.
+    LedgerClosed,
+    /// A step of the connector, or between it and the broker.
+    Connector(ConnectorDeed),
+    /// A step of a queue, its subscriber, or between the two. They have this number.
+    Queue(u64, QueueDeed),
+    /// A step did something that isn't told.
+    Untold,
+}
+
+/// What a step of the connector did, or one of what goes between it and the broker.
+#[derive(Clone, Copy)]
+pub enum ConnectorDeed {
+    /// A session started, after the event of this timestamp, 0 where that is none.
+    Started {
+        session: u64,
+        after: u64,
+    },
+    /// The session is gone.
+    Crashed {
+        session: u64,
+    },
+    /// The session was offered an event, or told that none follows.
+    Offered {
+        event: Option<u64>,
+        complete: bool,
+    },
+    /// The session sent a packet, which has this number.
+    Published {
+        number: usize,
+        packet: Packet,
+    },
+    /// A packet came to the broker, which took it.
+    Arrived {
+        number: u64,
+        packet: Packet,
+    },
+    /// A packet came to the broker, which passed it over.
+    PassedOver {
+        number: u64,
+        why: Sentence,
+    },
+    /// A confirm came to the session of this number.
+    Answered {
+        number: u64,
+        confirm: Confirm,
+        session: u64,
+        counted: bool,
+    },
+    /// The session saved how far it is confirmed.
+    Saved {
+        session: u64,
+        timestamp: u64,
+    },
+}
+
+/// What a step of a queue or its subscriber did, or one of what goes between them.
+#[derive(Clone, Copy)]
+pub enum QueueDeed {
+    /// The queue handed out an item.
+    Sent {
+        position: usize,
+        cargo: Cargo,
+    },
+    /// The queue went back to a position.
+    Rewound {
+        position: usize,
+    },
+    /// So many deliveries were lost on their way, and the queue went back to a position.
+    Broken {
+        position: usize,
+        lost: usize,
+    },
+    /// The subscriber took an item.
+    Took {
+        position: usize,
+        cargo: Cargo,
+        taking: Taking,
+    },
+    /// An acknowledgement came to the queue, where all positions up to this one are acknowledged now.
+    Acknowledged {
+        number: u64,
+        position: usize,
+    },
+    /// The subscriber closed.
+    Closed,
+}
+
+impl Deed {
+    /// What the step did, in words.
+    pub fn sentence(self) -> Sentence {
+        match self {
+            Deed::Submitted {
+                batch,
+                items,
+                accepted,
+            } => Sentence::Four(
+                "batch ",
+                batch as u128,
+                ", items ",
+                items as u128,
+                ", accepted ",
+                accepted as u128,
+                ", refused ",
+                items.saturating_sub(accepted) as u128,
+            ),
+            Deed::Pulsed { batch, expired } => Sentence::Two(
+                "batch ",
+                batch as u128,
+                ", a pulse, expired ",
+                expired.into(),
+                "",
+            ),
+            Deed::LedgerClosed => Sentence::Plain("the ledger takes no more batches"),
+            Deed::Connector(deed) => deed.sentence(),
+            Deed::Queue(_, deed) => deed.sentence(),
+            Deed::Untold => Sentence::Plain("done"),
+        }
+    }
+}
+
+impl ConnectorDeed {
+    /// What the step did, in words.
+    fn sentence(self) -> Sentence {
+        match self {
+            ConnectorDeed::Started { session, after } => {
+                Sentence::Two(
+                    "session ",
+                    session.into(),
+                    " begins after ",
+                    after.into(),
+                    "",
+                )
+            }
+            ConnectorDeed::Crashed { session } => {
+                Sentence::One("session ", session.into(), " is gone")
+            }
+            ConnectorDeed::Offered { event, complete } => offer_sentence(event, complete),
+            ConnectorDeed::Published { number, packet } => packet_sentence(number as u64, packet),
+            ConnectorDeed::Arrived { packet, .. } => arrival_sentence(packet),
+            ConnectorDeed::PassedOver { why, .. } => why,
+            ConnectorDeed::Answered { counted: true, .. } => Sentence::Plain("counted"),
+            ConnectorDeed::Answered {
+                confirm,
+                session,
+                counted: false,
+                ..
+            } => uncounted_sentence(confirm, session),
+            ConnectorDeed::Saved { session, timestamp } => Sentence::Two(
+                "session ",
+                session.into(),
+                " is confirmed up to ",
+                timestamp.into(),
+                "",
+            ),
+        }
+    }
+}
+
+/// What a session was offered.
+fn offer_sentence(event: Option<u64>, complete: bool) -> Sentence {
+    match (event, complete) {
+        (Some(event), false) => Sentence::One("event ", event.into(), ""),
+        (Some(event), true) => Sentence::One("event ", event.into(), ", the last one"),
+        (None, false) => Sentence::Plain("no event yet"),
+        (None, true) => Sentence::Plain("no event follows"),
+    }
+}
+
+/// A packet of this number.
+pub fn packet_sentence(number: u64, packet: Packet) -> Sentence {
+    match packet {
+        Packet::Connect { session } => {
+            Sentence::Two(
+                "packet ",
+                number.into(),
+                ", connect of session ",
+                session.into(),
+                "",
+            )
+        }
+        Packet::Publish {
+            session,
+            tag,
+            cargo: Cargo::Event { timestamp, .. },
+        } => Sentence::Four(
+            "packet ",
+            number.into(),
+            ", event ",
+            timestamp.into(),
+            " under tag ",
+            tag.into(),
+            " of session ",
+            session.into(),
+        ),
+        Packet::Publish {
+            session: _,
+            tag,
+            cargo: Cargo::EndMark,
+        } => Sentence::Two(
+            "packet ",
+            number.into(),
+            ", end mark under tag ",
+            tag.into(),
+            "",
+        ),
+    }
+}
+
+/// A packet that the broker took.
+fn arrival_sentence(packet: Packet) -> Sentence {
+    match packet {
+        Packet::Connect { session } => {
+            Sentence::One("taken, session ", session.into(), " is connected")
+        }
+        Packet::Publish {
+            cargo: Cargo::Event { timestamp, .. },
+            ..
+        } => Sentence::One("taken, event ", timestamp.into(), ""),
+        Packet::Publish { .. } => Sentence::Plain("taken, end mark"),
+    }
+}
+
+/// Why a confirm doesn't count for the session of this number.
+fn uncounted_sentence(confirm: Confirm, session: u64) -> Sentence {
+    if confirm.session == session {
+        return Sentence::One(
+            "passed over, its tag ",
+            confirm.tag.into(),
+            " was confirmed already",
+        );
+    }
+    Sentence::Two(
+        "passed over, it is of session ",
+        confirm.session.into(),
+        ", and session ",
+        session.into(),
+        " runs",
+    )
+}
+
+impl QueueDeed {
+    /// What the step did, in words.
+    fn sentence(self) -> Sentence {
+        match self {
+            QueueDeed::Sent { position, cargo } => position_sentence(position, cargo),
+            QueueDeed::Rewound { position } => {
+                Sentence::One("begins again at position ", position as u128, "")
+            }
+            QueueDeed::Broken { position, lost } => Sentence::Two(
+                "lost on the way ",
+                lost as u128,
+                ", begins again at position ",
+                position as u128,
+                "",
+            ),
+            QueueDeed::Took { cargo, taking, .. } => taking_sentence(cargo, taking),
+            QueueDeed::Acknowledged { position, .. } => Sentence::One(
+                "counted, all up to position ",
+                position as u128,
+                " are acknowledged",
+            ),
+            QueueDeed::Closed => Sentence::Plain("the subscriber applies no more"),
+        }
+    }
+}
+
+/// An item at a position.
+fn position_sentence(position: usize, cargo: Cargo) -> Sentence {
+    match cargo {
+        Cargo::Event { timestamp, .. } => {
+            Sentence::Two(
+                "position ",
+                position as u128,
+                ", event ",
+                timestamp.into(),
+                "",
+            )
+        }
+        Cargo::EndMark => Sentence::One("position ", position as u128, ", end mark"),
+    }
+}
+
+/// What a subscriber made of an item.
+fn taking_sentence(cargo: Cargo, taking: Taking) -> Sentence {
+    match (taking, cargo) {
+        (Taking::Applied, Cargo::Event { timestamp, .. }) => {
+            Sentence::One("applied ", timestamp.into(), "")
+        }
+        (Taking::Applied, Cargo::EndMark) => Sentence::Plain("applied"),
+        (Taking::Repeat, _) => Sentence::Plain("repeat"),
+        (Taking::Ended, _) => Sentence::Plain("heard the end mark"),
+        (Taking::AfterClose, _) => Sentence::Plain("passed over, the subscriber is closed"),
+    }
+}

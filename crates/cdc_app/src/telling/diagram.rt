@@ -1,0 +1,100 @@
+//! The steps of a simulation as a sequence diagram, in Mermaid's text (Mermaid, Sequence diagrams).
+
+use crate::telling::deeds::{ConnectorDeed, Deed, QueueDeed, packet_sentence};
+use crate::telling::sentences::Sentence;
+use std::alloc::{AllocError, Global};
+
+/// A diagram so far. The ledger is L, the connector C, the broker B and subscriber I is SI.
+#[derive(Drop)]
+pub struct Diagram {
+    /// Its text.
+    text: String,
+}
+
+impl Diagram {
+    /// A diagram without steps, with so many subscribers.
+    pub fn new(alloc: Global, subscribers: usize) -> Result<Diagram, AllocError> {
+        let mut text = String::from_str(alloc, "sequenceDiagram\n")?;
+        text.push_str("    participant L as ledger\n")?;
+        text.push_str("    participant C as connector\n")?;
+        text.push_str("    participant B as broker\n")?;
+        for place in 0..subscribers {
+            let number = place + 1;
+            writeln!(text, "    participant S{number} as subscriber {number}")?;
+        }
+        Ok(Diagram { text })
+    }
+
+    /// The text.
+    pub fn text(&self) -> &str {
+        self.text.as_str()
+    }
+
+    /// Adds what a step did: an arrow from an actor to another one, or a note over one of them, and what is said of it.
+    pub fn push(&mut self, deed: Deed) -> Result<(), AllocError> {
+        let arrow = arrow(deed);
+        let sentence = label(deed);
+        writeln!(self.text, "    {arrow}{sentence}")
+    }
+}
+
+/// The arrow or the note of a step, and the words before what is said of it.
+fn arrow(deed: Deed) -> Sentence {
+    match deed {
+        Deed::Submitted { .. } | Deed::Pulsed { .. } | Deed::LedgerClosed | Deed::Untold => {
+            Sentence::Plain("Note over L: ")
+        }
+        Deed::Connector(deed) => connector_arrow(deed),
+        Deed::Queue(i, deed) => queue_arrow(i.into(), deed),
+    }
+}
+
+/// The arrow or the note of a step of the connector.
+fn connector_arrow(deed: ConnectorDeed) -> Sentence {
+    match deed {
+        ConnectorDeed::Started { .. } | ConnectorDeed::Crashed { .. } => {
+            Sentence::Plain("Note over C: ")
+        }
+        ConnectorDeed::Published { .. } => Sentence::Plain("Note over C: sent: "),
+        ConnectorDeed::Saved { .. } => Sentence::Plain("Note over C: saved: "),
+        ConnectorDeed::Offered { .. } => Sentence::Plain("L->>C: "),
+        ConnectorDeed::Arrived { .. } => Sentence::Plain("C->>B: "),
+        ConnectorDeed::PassedOver { number, .. } => {
+            Sentence::One("C-xB: packet ", number.into(), ", ")
+        }
+        ConnectorDeed::Answered {
+            number,
+            counted: true,
+            ..
+        } => Sentence::One("B-->>C: confirm ", number.into(), ", "),
+        ConnectorDeed::Answered { number, .. } => {
+            Sentence::One("B--xC: confirm ", number.into(), ", ")
+        }
+    }
+}
+
+/// The arrow or the note of a step of queue and subscriber `i`.
+fn queue_arrow(i: u128, deed: QueueDeed) -> Sentence {
+    match deed {
+        QueueDeed::Sent { .. } => Sentence::One("B-)S", i, ": "),
+        QueueDeed::Rewound { .. } => Sentence::One("Note over B: queue ", i, " "),
+        QueueDeed::Broken { .. } => Sentence::One("B--xS", i, ": "),
+        QueueDeed::Took { position, .. } => {
+            Sentence::Two("Note over S", i, ": position ", position as u128, ", ")
+        }
+        QueueDeed::Acknowledged { number, .. } => {
+            Sentence::Two("S", i, "-->>B: acknowledgement ", number.into(), ", ")
+        }
+        QueueDeed::Closed => Sentence::One("Note over S", i, ": "),
+    }
+}
+
+/// What is said of a step: of a packet that is taken what it is, else what the step did.
+fn label(deed: Deed) -> Sentence {
+    match deed {
+        Deed::Connector(ConnectorDeed::Arrived { number, packet }) => {
+            packet_sentence(number, packet)
+        }
+        _ => deed.sentence(),
+    }
+}

@@ -1,0 +1,300 @@
+//! What is kept of a simulation's steps beside its world, which doesn't show what was sent and what is waited for.
+
+use crate::telling::cargo::{Confirm, Packet};
+use crate::telling::deeds::{ConnectorDeed, Deed, QueueDeed};
+use crate::telling::lanes::Lane;
+use crate::telling::results::{accepted_count, item_count};
+use crate::telling::sentences::Sentence;
+use crate::telling::sessions::Session;
+use cdc_ledger::Ledger;
+use cdc_match::Binding;
+use cdc_types::{Batch, BatchResults, Step};
+use cdc_world::Did;
+use std::alloc::{AllocError, Global};
+
+/// All that steps tell: of the connector, of the packets and confirms that were ever sent, and of the queues.
+#[derive(Drop)]
+pub struct Followed {
+    /// How many batches the ledger took.
+    pub batches: usize,
+    /// How many sessions were started.
+    sessions: u64,
+    /// How many events are saved as confirmed.
+    saved: usize,
+    /// The session that runs.
+    pub session: Option<Session>,
+    /// The packets that were ever sent.
+    pub packets: Vec<Packet>,
+    /// The session that is connected at the broker, 0 before any.
+    connection: u64,
+    /// The tag that the broker takes next.
+    next_tag: u64,
+    /// The confirms that were ever sent.
+    pub confirms: Vec<Confirm>,
+    /// The queues.
+    pub lanes: Vec<Lane>,
+}
+
+/// The place of a number that counts from 1; a place past all for 0.
+pub fn place_of(number: u64) -> usize {
+    number.wrapping_sub(1) as usize
+}
+
+/// The timestamp of the last of the first so many events, 0 where there is none.
+fn timestamp_of(ledger: &Ledger, count: usize) -> u64 {
+    match ledger.log().get(count.wrapping_sub(1)) {
+        Some(event) => event.timestamp,
+        None => 0,
+    }
+}
+
+impl Followed {
+    /// What is kept where nothing has happened, with a queue for each binding.
+    pub fn new(alloc: Global, bindings: &[Binding]) -> Result<Followed, AllocError> {
+        let mut lanes = Vec::new(alloc);
+        for binding in bindings {
+            lanes.push(Lane::new(alloc, binding.try_copy(alloc)?))?;
+        }
+        Ok(Followed {
+            batches: 0,
+            sessions: 0,
+            saved: 0,
+            session: None,
+            packets: Vec::new(alloc),
+            connection: 0,
+            next_tag: 1,
+            confirms: Vec::new(alloc),
+            lanes,
+        })
+    }
+
+    /// Follows a step that was done, and says what it did. The ledger is that after it.
+    pub fn follow(&mut self, step: &Step, did: &Did, ledger: &Ledger) -> Result<Deed, AllocError> {
+        match step {
+            Step::Submit(batch) => Ok(self.follow_batch(batch, did)),
+            Step::CloseLedger => Ok(Deed::LedgerClosed),
+            Step::Send(i)
+            | Step::Take(i)
+            | Step::Rewind(i)
+            | Step::Break(i)
+            | Step::Close(i)
+            | Step::Ack(i, _) => {
+                let deed = match self.lanes.get_mut(place_of(*i)) {
+                    Some(lane) => follow_queue(lane, step, did)?,
+                    None => None,
+                };
+                Ok(match deed {
+                    Some(deed) => Deed::Queue(*i, deed),
+                    None => Deed::Untold,
+                })
+            }
+            _ => {
+                let deed = self.follow_connector(step, did, ledger)?;
+                Ok(match deed {
+                    Some(deed) => Deed::Connector(deed),
+                    None => Deed::Untold,
+                })
+            }
+        }
+    }
+
+    /// The ledger took a batch.
+    fn follow_batch(&mut self, batch: &Batch, did: &Did) -> Deed {
+        self.batches = self.batches.saturating_add(1);
+        match did {
+            Did::Submitted(BatchResults::Pulsed(expired)) => Deed::Pulsed {
+                batch: self.batches,
+                expired: *expired,
+            },
+            Did::Submitted(results) => Deed::Submitted {
+                batch: self.batches,
+                items: item_count(batch),
+                accepted: accepted_count(results),
+            },
+            _ => Deed::Untold,
+        }
+    }
+
+    /// A step of the connector, or one of what goes between it and the broker.
+    fn follow_connector(
+        &mut self,
+        step: &Step,
+        did: &Did,
+        ledger: &Ledger,
+    ) -> Result<Option<ConnectorDeed>, AllocError> {
+        match step {
+            Step::Publish => self.follow_publish(ledger),
+            Step::Arrive(k) => self.follow_arrival(*k, did, ledger),
+            Step::Start => Ok(Some(self.follow_start(ledger))),
+            Step::Crash => Ok(Some(self.follow_crash())),
+            Step::Poll => Ok(self.follow_poll(ledger)),
+            Step::Answer(k) => Ok(self.follow_answer(*k, did)),
+            Step::Save => Ok(self.follow_save(ledger)),
+            _ => Ok(None),
+        }
+    }
+
+    /// A session started, after what is saved.
+    fn follow_start(&mut self, ledger: &Ledger) -> ConnectorDeed {
+        self.sessions = self.sessions.saturating_add(1);
+        self.session = Some(Session::new(self.sessions, self.saved));
+        ConnectorDeed::Started {
+            session: self.sessions,
+            after: timestamp_of(ledger, self.saved),
+        }
+    }
+
+    /// The session is gone.
+    fn follow_crash(&mut self) -> ConnectorDeed {
+        self.session = None;
+        ConnectorDeed::Crashed {
+            session: self.sessions,
+        }
+    }
+
+    /// The session was offered the next event, if there is one.
+    fn follow_poll(&mut self, ledger: &Ledger) -> Option<ConnectorDeed> {
+        let session = self.session.as_mut()?;
+        let event = match ledger.log().get(session.offered) {
+            Some(event) => {
+                session.take_event();
+                Some(event.timestamp)
+            }
+            None => None,
+        };
+        session.complete = ledger.closed() && ledger.log().len() <= session.offered;
+        Some(ConnectorDeed::Offered {
+            event,
+            complete: session.complete,
+        })
+    }
+
+    /// The session sent its next packet.
+    fn follow_publish(&mut self, ledger: &Ledger) -> Result<Option<ConnectorDeed>, AllocError> {
+        let Some(session) = &mut self.session else {
+            return Ok(None);
+        };
+        let packet = session.next_packet(timestamp_of(ledger, session.offered));
+        self.packets.push(packet)?;
+        Ok(Some(ConnectorDeed::Published {
+            number: self.packets.len(),
+            packet,
+        }))
+    }
+
+    /// A packet came to the broker.
+    fn follow_arrival(
+        &mut self,
+        number: u64,
+        did: &Did,
+        ledger: &Ledger,
+    ) -> Result<Option<ConnectorDeed>, AllocError> {
+        let Some(packet) = self.packets.get(place_of(number)).copied() else {
+            return Ok(None);
+        };
+        if matches!(did, Did::Arrived(true)) {
+            self.take_packet(packet, ledger)?;
+            return Ok(Some(ConnectorDeed::Arrived { number, packet }));
+        }
+        let why = self.lateness(packet);
+        Ok(Some(ConnectorDeed::PassedOver { number, why }))
+    }
+
+    /// The broker took a packet, and confirms a publish.
+    fn take_packet(&mut self, packet: Packet, ledger: &Ledger) -> Result<(), AllocError> {
+        match packet {
+            Packet::Connect { session } => {
+                self.connection = session;
+                self.next_tag = 1;
+            }
+            Packet::Publish {
+                session,
+                tag,
+                cargo,
+            } => {
+                self.next_tag = tag.saturating_add(1);
+                for lane in self.lanes.iter_mut() {
+                    lane.take_in(cargo, ledger)?;
+                }
+                self.confirms.push(Confirm { session, tag })?;
+            }
+        }
+        Ok(())
+    }
+
+    /// Why the broker passes a packet over.
+    fn lateness(&self, packet: Packet) -> Sentence {
+        match packet {
+            _ if self.connection == 0 => Sentence::Plain("passed over, no session is connected"),
+            Packet::Publish { session, tag, .. } if session == self.connection => {
+                if tag < self.next_tag {
+                    Sentence::One("passed over, its tag ", tag.into(), " was taken already")
+                } else {
+                    Sentence::One("passed over, tag ", self.next_tag.into(), " comes first")
+                }
+            }
+            _ => Sentence::One(
+                "passed over, session ",
+                self.connection.into(),
+                " is connected",
+            ),
+        }
+    }
+
+    /// A confirm came to the session.
+    fn follow_answer(&mut self, number: u64, did: &Did) -> Option<ConnectorDeed> {
+        let confirm = self.confirms.get(place_of(number)).copied()?;
+        let session = self.session.as_mut()?;
+        let counted = matches!(did, Did::Counted(true));
+        if counted {
+            session.take_confirm();
+        }
+        Some(ConnectorDeed::Answered {
+            number,
+            confirm,
+            session: session.number,
+            counted,
+        })
+    }
+
+    /// The session saved how far it is confirmed.
+    fn follow_save(&mut self, ledger: &Ledger) -> Option<ConnectorDeed> {
+        let session = self.session?;
+        self.saved = session.confirmed;
+        Some(ConnectorDeed::Saved {
+            session: session.number,
+            timestamp: timestamp_of(ledger, self.saved),
+        })
+    }
+}
+
+/// A step of a queue or its subscriber, or of what goes between them.
+fn follow_queue(lane: &mut Lane, step: &Step, did: &Did) -> Result<Option<QueueDeed>, AllocError> {
+    match (step, did) {
+        (Step::Send(_), _) => {
+            let sent = lane.hand_out()?;
+            Ok(sent.map(|(position, cargo)| QueueDeed::Sent { position, cargo }))
+        }
+        (Step::Take(_), Did::Took(taking)) => {
+            let taken = lane.take()?;
+            Ok(taken.map(|(position, cargo)| QueueDeed::Took {
+                position,
+                cargo,
+                taking: *taking,
+            }))
+        }
+        (Step::Rewind(_), _) => Ok(Some(QueueDeed::Rewound {
+            position: lane.rewind(),
+        })),
+        (Step::Break(_), _) => Ok(Some(QueueDeed::Broken {
+            position: lane.rewind(),
+            lost: lane.lose_flight(),
+        })),
+        (Step::Ack(_, k), _) => Ok(Some(QueueDeed::Acknowledged {
+            number: *k,
+            position: lane.acknowledge(place_of(*k)),
+        })),
+        (Step::Close(_), _) => Ok(Some(QueueDeed::Closed)),
+        _ => Ok(None),
+    }
+}

@@ -1,0 +1,65 @@
+//! In which lines of a script or of a step file its batches, items and steps stand. The files have no fault.
+
+use std::alloc::{AllocError, Global};
+
+/// The lines of a script's batches and of their items, numbered from 1.
+#[derive(Drop)]
+pub struct Places {
+    /// The line of each batch.
+    batches: Vec<u64>,
+    /// The line of each item, those of a later batch after those of an earlier one.
+    items: Vec<u64>,
+}
+
+impl Places {
+    /// The lines of a script's batches and items.
+    pub fn of(alloc: Global, script: &[u8]) -> Result<Places, AllocError> {
+        let mut batches = Vec::new(alloc);
+        let mut items = Vec::new(alloc);
+        let mut number: u64 = 0;
+        for line in script.split(|byte| *byte == b'\n') {
+            number = number.saturating_add(1);
+            match first_word(line) {
+                Some(b"accounts" | b"transfers" | b"pulse") => batches.push(number)?,
+                Some(b"account" | b"transfer") => items.push(number)?,
+                _ => {}
+            }
+        }
+        Ok(Places { batches, items })
+    }
+
+    /// The line of the batch at this place, from 0; 0 where there is none.
+    pub fn batch(&self, place: usize) -> u64 {
+        self.batches.get(place).copied().unwrap_or(0)
+    }
+
+    /// The line of the item at this place among all, from 0; 0 where there is none.
+    pub fn item(&self, place: usize) -> u64 {
+        self.items.get(place).copied().unwrap_or(0)
+    }
+}
+
+/// The line of the step at this place, from 0; 0 where there is none.
+pub fn step_line(steps: &[u8], place: usize) -> u64 {
+    let mut number: u64 = 0;
+    let mut left = place;
+    for line in steps.split(|byte| *byte == b'\n') {
+        number = number.saturating_add(1);
+        if first_word(line).is_some() {
+            if left == 0 {
+                return number;
+            }
+            left -= 1;
+        }
+    }
+    0
+}
+
+/// The first word of a line, unless it is blank or a comment.
+fn first_word(line: &[u8]) -> Option<&[u8]> {
+    if line.starts_with(b"#") {
+        return None;
+    }
+    line.split(|byte| *byte == b' ' || *byte == b'\r')
+        .find(|word| !word.is_empty())
+}

@@ -1,0 +1,146 @@
+//! Why a step isn't enabled: a sentence for each reason.
+
+use crate::telling::following::{Followed, place_of};
+use crate::telling::sentences::Sentence;
+use crate::telling::sessions::Session;
+use cdc_types::Step;
+
+/// Why a step isn't enabled now.
+pub fn reason(step: &Step, followed: &Followed) -> Sentence {
+    match *step {
+        Step::Send(i) | Step::Rewind(i) | Step::Break(i) | Step::Take(i) | Step::Close(i) => {
+            queue_reason(step, i, followed)
+        }
+        Step::Ack(i, k) => ack_reason(i, k, followed),
+        Step::Arrive(k) => match count_reason(k, followed.packets.len(), PACKETS) {
+            Some(sentence) => sentence,
+            None => UNKNOWN,
+        },
+        _ => connector_reason(step, followed),
+    }
+}
+
+/// Where no reason is known, which is never.
+const UNKNOWN: Sentence = Sentence::Plain("there is nothing that it could act on");
+
+/// How packets and confirms are counted, where there are none, one or more.
+const PACKETS: [&str; 3] = [
+    "no packet was ever sent",
+    "only 1 packet was ever sent",
+    " packets were ever sent",
+];
+
+const CONFIRMS: [&str; 3] = [
+    "no confirm was ever sent",
+    "only 1 confirm was ever sent",
+    " confirms were ever sent",
+];
+
+/// Why there is nothing of this number among so many, if there is nothing.
+fn count_reason(number: u64, count: usize, words: [&'static str; 3]) -> Option<Sentence> {
+    let [none, one, more] = words;
+    if place_of(number) < count {
+        return None;
+    }
+    Some(match (number, count) {
+        (_, 0) => Sentence::Plain(none),
+        (0, _) => Sentence::Plain("numbers count from 1"),
+        (_, 1) => Sentence::Plain(one),
+        _ => Sentence::One("only ", count as u128, more),
+    })
+}
+
+/// Why a step of the connector isn't enabled.
+fn connector_reason(step: &Step, followed: &Followed) -> Sentence {
+    let Some(session) = &followed.session else {
+        return Sentence::Plain("no session runs");
+    };
+    match step {
+        Step::Start => Sentence::One("session ", session.number.into(), " runs already"),
+        Step::Poll => poll_reason(session),
+        Step::Publish => publish_reason(session),
+        Step::Answer(k) => match count_reason(*k, followed.confirms.len(), CONFIRMS) {
+            Some(sentence) => sentence,
+            None => UNKNOWN,
+        },
+        _ => UNKNOWN,
+    }
+}
+
+/// Why a session wants no events.
+fn poll_reason(session: &Session) -> Sentence {
+    if session.unsent {
+        return Sentence::Plain("the session has an event that it is to publish first");
+    }
+    match session.unconfirmed {
+        Some(tag) => Sentence::One("the session waits for the confirm of tag ", tag.into(), ""),
+        None => Sentence::Plain("the session knows that no event follows"),
+    }
+}
+
+/// Why a session has no packet.
+fn publish_reason(session: &Session) -> Sentence {
+    match session.unconfirmed {
+        Some(tag) if session.complete && !session.ended => {
+            Sentence::One("the end mark waits for the confirm of tag ", tag.into(), "")
+        }
+        _ if session.ended => Sentence::Plain("the session has sent all, and the end mark"),
+        _ => Sentence::Plain("the session has no event that is to be published"),
+    }
+}
+
+/// Why there is no subscriber of this number, if there is none.
+fn subscriber_reason(i: u64, followed: &Followed) -> Option<Sentence> {
+    let count = followed.lanes.len();
+    if place_of(i) < count {
+        return None;
+    }
+    Some(Sentence::Two(
+        "there is no subscriber ",
+        i.into(),
+        ": the last one is number ",
+        count as u128,
+        "",
+    ))
+}
+
+/// Why a step of a queue or its subscriber isn't enabled.
+fn queue_reason(step: &Step, i: u64, followed: &Followed) -> Sentence {
+    if let Some(sentence) = subscriber_reason(i, followed) {
+        return sentence;
+    }
+    match step {
+        Step::Take(_) => Sentence::One("nothing is on its way to subscriber ", i.into(), ""),
+        Step::Send(_) => match followed.lanes.get(place_of(i)) {
+            Some(lane) if lane.len() > 0 => Sentence::Two(
+                "queue ",
+                i.into(),
+                " has nothing behind position ",
+                lane.len() as u128,
+                "",
+            ),
+            _ => Sentence::One("queue ", i.into(), " is empty"),
+        },
+        _ => UNKNOWN,
+    }
+}
+
+/// Why an acknowledgement isn't there.
+fn ack_reason(i: u64, k: u64, followed: &Followed) -> Sentence {
+    if let Some(sentence) = subscriber_reason(i, followed) {
+        return sentence;
+    }
+    match followed.lanes.get(place_of(i)) {
+        Some(lane) if k > 0 && lane.ack_count() > 0 => Sentence::Two(
+            "subscriber ",
+            i.into(),
+            " has sent acknowledgements up to number ",
+            lane.ack_count() as u128,
+            "",
+        ),
+        Some(lane) if lane.ack_count() == 0 => {
+            Sentence::One("subscriber ", i.into(), " has acknowledged nothing")
+        }
+        _ => Sentence::Plain("numbers count from 1"),
+    }
+}
