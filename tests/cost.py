@@ -5,9 +5,9 @@
   tests/cost.py [PROGRAM] --top N                     the N functions that a full script spends most in
 
 The parts are accounts-2 and accounts-5000 (`books` on more and more transfers), full (a script of the greatest size),
-phases (pending transfers, posts and a pulse) and log (reads of the log under `simulate`). Valgrind counts, so other work
-on the machine disturbs no figure. All of it takes some minutes of processor time; it is run by hand, and the gate does
-without. Exit status 1 where a figure is over its limit, 2 where nothing could be counted.
+phases (pending transfers, posts and a pulse) and log (reads of the log under `simulate`). Valgrind counts, so other
+work on the machine disturbs no figure. All of it takes some minutes of processor time; it is run by hand, and the gate
+does without. Exit status 1 where a figure is over its limit, 2 where nothing could be counted.
 """
 import argparse
 import concurrent.futures
@@ -22,7 +22,6 @@ import tempfile
 HERE = os.path.dirname(os.path.realpath(__file__))
 SCRIPT_BYTES = 1_048_576
 BATCH_ITEMS = 1_000
-PARTS = ("accounts-2", "accounts-5000", "full", "phases", "log")
 
 # The limits.
 GROWTH = 2.0  # per cent, of what a further transfer costs, for each doubling
@@ -275,11 +274,14 @@ def top(counter, count):
         print("\n".join(line[:160] for line in lines[:count + 1]))
 
 
+COUNTS = {"accounts-2": accounts_2, "accounts-5000": accounts_5000, "full": full, "phases": phases, "log": log}
+
+
 def main():
     parser = argparse.ArgumentParser(usage=__doc__)
     parser.add_argument("program", nargs="?", default=f"{HERE}/../crates/cdc_app/out/cdc_app")
     parser.add_argument("--jobs", type=int, default=2)
-    parser.add_argument("--only", action="append", choices=PARTS)
+    parser.add_argument("--only", action="append", choices=COUNTS)
     parser.add_argument("--top", type=int)
     words = parser.parse_args()
     program = os.path.realpath(words.program)
@@ -295,9 +297,8 @@ def main():
         if words.top:
             top(counter, words.top)
             return 0
-        for part in words.only or PARTS:
-            {"accounts-2": accounts_2, "accounts-5000": accounts_5000, "full": full, "phases": phases, "log": log}[part](
-                counter, table)
+        for part in words.only or COUNTS:
+            COUNTS[part](counter, table)
     print(f"\ncost: {'some over their limits' if table.over else 'all within their limits'}")
     return 1 if table.over else 0
 
