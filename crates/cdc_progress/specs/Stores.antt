@@ -1,7 +1,7 @@
 -- What a store may answer.
-use Rattle.std.specs.Prelude.{◌≡◌, ◌⊎◌, ℕ, ◌<◌, Bool, Option}
+use Rattle.std.specs.Prelude.{◌≡◌, ◌⊎◌, ℕ, ◌<◌, Bool, Option, Result, Ok, Err, List}
 use Rattle.cdc_types.specs.Widths.{max_64}
-use Rattle.cdc_progress.specs.Records.{Saved}
+use Rattle.cdc_progress.specs.Records.{Fits, Saved, text_of}
 use Rattle.cdc_progress.specs.declared.errors.StoreError.{StoreError}
 use Rattle.cdc_progress.specs.declared.errors.StoreError.TheVariants.{ReadFault, WriteFault, BadRecord, OutOfMemory}
 
@@ -37,3 +37,11 @@ MayRefuseSave before after OutOfMemory = after ≡ before
 -- what a file can be found to be in place of a record
 abbrev pub IsLoadFault : StoreError → Type 0
 IsLoadFault error = (error ≡ ReadFault) ⊎ (error ≡ BadRecord)
+
+-- all bytes of a file are read as this: as the record that they are the text of, or as no record, where they are none
+abbrev pub ReadsAs : List ℕ → Result Saved StoreError → Type 0
+ReadsAs bytes (Ok saved) = bytes ≡ text_of saved
+ReadsAs bytes (Err BadRecord) = (saved : Saved) → Fits saved → bytes ≡ text_of saved → ⊥
+ReadsAs bytes (Err ReadFault) = Unit {0}
+ReadsAs bytes (Err WriteFault) = Unit {0}
+ReadsAs bytes (Err OutOfMemory) = Unit {0}

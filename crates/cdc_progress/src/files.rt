@@ -1,7 +1,8 @@
 //! Progress in a file.
 
-ghost use Rattle.std.specs.Prelude.{◌≡◌, ◌≤◌, ◌++◌, length, codes, None, IfOk, IfErr, false, string_bytes};
-ghost use Rattle.cdc_progress.specs.Stores.{IsCounted, IsLoadFault};
+ghost use Rattle.std.specs.Prelude.{◌≡◌, ◌<◌, ◌≤◌, ◌++◌, length, take, codes, None, IfOk, IfErr, IfSome, OnOk, false, string_bytes};
+ghost use Rattle.std.specs.Io.KnownBytes.{Appends, Consumes, IsAtEnd};
+ghost use Rattle.cdc_progress.specs.Stores.{IsCounted, IsLoadFault, ReadsAs};
 
 use crate::errors::StoreError;
 use crate::progress::Progress;
@@ -54,17 +55,37 @@ const RECORD_BYTES: usize = 128;
 
 // Fills the buffer from a file until one of them has come to its end, and says how many bytes there are.
 fn fill<F: Read>(file: &mut F, buffer: &mut [u8]) -> io::Result<usize>
-    ensures { IfOk result (λ filled. filled ≤ length buffer.old) }
+    ensures count { IfOk result (λ filled. filled ≤ length buffer.new) }
+    ensures size { length buffer.new ≡ length buffer.old }
+    ensures text { IfOk result (λ filled. Consumes (F.remaining file.old) (F.remaining file.new)
+        (take filled buffer.new)) }
+    ensures whole { IfOk result (λ filled. filled < length buffer.new
+        → IsAtEnd (F.remaining file.new)) }
 {
     let mut filled = 0;
     while filled < buffer.len() {
         let count = file.read(&mut buffer[filled..])?;
         if count == 0 {
-            break;
+            return Ok(filled);
         }
         filled += count;
     }
     Ok(filled)
+}
+
+// The record that all bytes of a file are the text of.
+fn record_in<F: Read>(file: &mut F) -> Result<Progress, StoreError>
+    ensures record { IfSome (F.remaining file.old) (λ bytes. ReadsAs bytes result) }
+    ensures err { IfErr result IsLoadFault }
+{
+    let mut buffer = [0u8; RECORD_BYTES + 1];
+    let Ok(count) = fill(file, &mut buffer) else {
+        return Err(StoreError::ReadFault);
+    };
+    match parse(&buffer[..count]) {
+        Some(progress) => Ok(progress),
+        None => Err(StoreError::BadRecord),
+    }
 }
 
 // What a file holds: none where there is no file.
@@ -76,20 +97,20 @@ fn read_record<R: Files>(rt: &R, path: &str) -> Result<Option<Progress>, StoreEr
         Err(error) if error.kind() == ErrorKind::NotFound => return Ok(None),
         Err(_) => return Err(StoreError::ReadFault),
     };
-    let mut buffer = [0u8; RECORD_BYTES + 1];
-    let Ok(count) = fill(&mut file, &mut buffer) else {
-        return Err(StoreError::ReadFault);
-    };
-    match parse(&buffer[..count]) {
-        Some(progress) => Ok(Some(progress)),
-        None => Err(StoreError::BadRecord),
-    }
+    Ok(Some(record_in(&mut file)?))
+}
+
+// Writes a text, to its last byte.
+fn write_text<W: Write>(writer: &mut W, text: &str) -> io::Result<()>
+    ensures { OnOk result (Appends (W.contents writer.old) (W.contents writer.new) text.now) }
+{
+    writer.write_all(text.as_bytes())
 }
 
 // Writes a file whole, and brings it to the disk.
 fn write_whole<R: Files>(rt: &R, path: &str, text: &str) -> io::Result<()> {
     let mut file = File::create(rt, path)?;
-    file.write_all(text.as_bytes())?;
+    write_text(&mut file, text)?;
     file.sync_all()
 }
 

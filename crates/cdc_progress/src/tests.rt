@@ -99,6 +99,24 @@ fn a_save_goes_by_way_of_a_new_file(rt: HostRuntime) -> Result<(), Fail> {
     Ok(())
 }
 
+// A store gives what the file holds, whoever wrote it, and writes what it is told to, whatever it knows.
+#[test]
+fn a_store_goes_by_its_file(rt: HostRuntime) -> Result<(), Fail> {
+    let folder = scratch(&rt)?;
+    let path = format!(in rt.alloc(); "{folder}/shared")?;
+    let first = Progress::new(1, 10);
+    let second = Progress::new(2, 20);
+    let mut store = FileStore::at(&rt, path.as_str());
+    assert_eq!(rt; store.save(first), Ok(()));
+    assert_eq!(rt; save_at(&rt, path.as_str(), second), Ok(()));
+    assert_eq!(rt; store.load(), Ok(Some(second)));
+    fs::remove_file(&rt, path.as_str())?;
+    assert_eq!(rt; store.save(second), Ok(()));
+    assert_eq!(rt; load_at(&rt, path.as_str()), Ok(Some(second)));
+    fs::remove_dir_all(&rt, folder.as_str())?;
+    Ok(())
+}
+
 // A record with more behind it, so many bytes in all.
 fn long_record(alloc: Global, length: usize) -> Result<String, AllocError> {
     let mut long = String::from_str(alloc, "tb-cdc 1 3 2000\n")?;
@@ -126,6 +144,12 @@ fn a_damaged_file_is_no_record(rt: HostRuntime) -> Result<(), Fail> {
         let answer = load_of(&rt, path.as_str(), text)?;
         assert_eq!(rt; answer, Err(StoreError::BadRecord), "{text}");
     }
+    // the longest record, and one byte behind it
+    for (_, _, text) in RECORDS {
+        let longer = format!(in rt.alloc(); "{text}0")?;
+        let answer = load_of(&rt, path.as_str(), longer.as_str())?;
+        assert_eq!(rt; answer, Err(StoreError::BadRecord), "{text}");
+    }
     for length in [129, 1000] {
         let long = long_record(rt.alloc(), length)?;
         let answer = load_of(&rt, path.as_str(), long.as_str())?;
@@ -150,7 +174,7 @@ fn load_and_save(
     (loaded, saved, store.failures())
 }
 
-// A folder can be opened, but neither read nor written over.
+// A folder can be opened, but neither read nor written over. Below a file there is nothing, and that is no missing file.
 #[test]
 fn a_file_that_cannot_be_reached_is_a_fault(rt: HostRuntime) -> Result<(), Fail> {
     let folder = scratch(&rt)?;
@@ -164,6 +188,11 @@ fn a_file_that_cannot_be_reached_is_a_fault(rt: HostRuntime) -> Result<(), Fail>
         (Err(StoreError::ReadFault), Err(StoreError::WriteFault), 2)
     );
     let beside = format!(in rt.alloc(); "{folder}.new")?;
+    let below = format!(in rt.alloc(); "{beside}/kept")?;
+    assert_eq!(rt;
+        load_and_save(&rt, below.as_str()),
+        (Err(StoreError::ReadFault), Err(StoreError::WriteFault), 2)
+    );
     fs::remove_file(&rt, beside.as_str())?;
     fs::remove_dir_all(&rt, folder.as_str())?;
     Ok(())

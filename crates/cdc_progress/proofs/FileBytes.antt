@@ -1,0 +1,62 @@
+-- What was read of a file, piece by piece, and what its bytes say, where as many were read as a record can have, and
+-- one more.
+use Rattle.std.proofs.Common.{◌≡◌, ℕ, ◌+◌, ◌<◌, ◌≤◌, ◌^◌, List, [], ◌∷◌, ◌++◌, Option, Some, None, length, take, drop, sym, ap, ◌∙◌, le_refl, drop_at, length-take-le, arith, length-append}
+use Rattle.std.specs.Prelude.{IfSome, codes, decimal, Err}
+use Rattle.std.specs.Io.KnownBytes.{Consumes, IsAtEnd}
+use Rattle.std.proofs.lemmas.Fmt.{length-decimal-le}
+use Rattle.std.proofs.lemmas.List.{append-nil}
+use Rattle.std.proofs.lemmas.Slice.{take-put_mid_below}
+use borrow.Rule.Slice.PartMut.{post_of, put_mid}
+use lib.Seq.{take-add, take-append-le}
+use Rattle.cdc_progress.specs.Records.{Fits, Saved, numbers_text, text_of}
+use Rattle.cdc_progress.specs.Stores.{ReadsAs}
+use Rattle.cdc_progress.specs.declared.errors.StoreError.TheVariants.{BadRecord}
+
+-- n bytes more were read into a buffer from place a on
+pub filled_more : (a k n : ℕ) (xs ys : List ℕ) → a ≤ length xs → n ≤ length ys
+    → take (a + n) (put_mid a k xs ys) ≡ take a xs ++ take n ys
+filled_more a k n xs ys within fits =
+    take-add a n (put_mid a k xs ys)
+    ∙ ap (λ l. l ++ take n (drop a (put_mid a k xs ys))) (take-put_mid_below a k xs ys a (le_refl a) within)
+    ∙ ap (λ l. take a xs ++ take n l) (drop_at (take a xs) (ys ++ post_of a k xs) a (length-take-le a xs within))
+    ∙ ap (λ l. take a xs ++ l) (take-append-le n ys (post_of a k xs) fits)
+
+-- a record's text is short
+text_is_short : (saved : Saved) → Fits saved → length (text_of saved) ≤ 128
+text_is_short saved fits =
+    omega (
+      arith,
+      length-append (codes "tb-cdc 1 ") (numbers_text saved.session saved.timestamp ++ codes "\n"),
+      length-append (numbers_text saved.session saved.timestamp) (codes "\n"),
+      length-append (decimal saved.session) (32 ∷ decimal saved.timestamp),
+      length-decimal-le 20 saved.session (omega arith) (omega (arith, fits.session)) fits.session,
+      length-decimal-le 20 saved.timestamp (omega arith) (omega (arith, fits.timestamp)) (omega (arith, fits.timestamp)),
+    )
+
+-- nothing behind it
+with_none_behind : (xs rest : List ℕ) → rest ≡ [] → xs ++ rest ≡ xs
+with_none_behind xs rest none = ap (λ ys. xs ++ ys) none ∙ append-nil xs
+
+-- the bytes that were read are a record's text: so they are all, since it is short
+pub record_read : (old new : Option (List ℕ)) (xs : List ℕ) (saved : Saved) → Fits saved → xs ≡ text_of saved
+    → Consumes old new xs → (length xs < 129 → IsAtEnd new) → IfSome old (λ bytes. bytes ≡ text_of saved)
+record_read None new xs saved fits is consumed whole = tt
+record_read (Some bytes) None xs saved fits is consumed whole = absurd consumed
+record_read (Some bytes) (Some rest) xs saved fits is consumed whole =
+    consumed ∙ with_none_behind xs rest (whole (omega (arith, ap length is, text_is_short saved fits))) ∙ is
+
+-- they are none: so all bytes are none, be they these or more than a record has
+pub none_read : (old new : Option (List ℕ)) (xs : List ℕ)
+    → ((saved : Saved) → Fits saved → xs ≡ text_of saved → ⊥)
+    → Consumes old new xs → (length xs < 129 → IsAtEnd new) → IfSome old (λ bytes. ReadsAs bytes (Err BadRecord))
+none_read None new xs isnt consumed whole = tt
+none_read (Some bytes) None xs isnt consumed whole = absurd consumed
+none_read (Some bytes) (Some rest) xs isnt consumed whole = λ saved fits is.
+    isnt saved fits
+    (sym (with_none_behind xs rest (whole (omega (
+      arith,
+      length-append xs rest,
+      ap length consumed,
+      ap length is,
+      text_is_short saved fits,
+    )))) ∙ sym consumed ∙ is)

@@ -1,0 +1,18 @@
+use Rattle.std.proofs.Common.{◌-◌, rules, arith, length, sym, subst, le_refl}
+use Rattle.std.specs.Io.KnownBytes.{Consumes}
+use Rattle.std.proofs.KnownBytes.{Consumes-trans}
+use Rattle.std.proofs.lemmas.Slice.{take-put_mid_below}
+use Rattle.cdc_progress.proofs.FileBytes.{filled_more}
+use Rattle.cdc_progress.proofs.files.fill.Goals as goal
+
+pub loop-filled-preserved : goal.loop-filled-preserved
+loop-filled-preserved g c =
+    let from = c.loop-filled.filled in
+    let here = c.loop-filled.invariant in record {
+      size = search rules;
+      bound = search rules;
+      text = subst (Consumes _ _)
+          (sym (filled_more from (length c.loop-filled.buffer - from) c.in_ok-count.count c.loop-filled.buffer
+          c.read.new.buf here.bound c.in_ok-count.ensures.bound.0))
+          (Consumes-trans _ _ _ _ _ here.text c.in_ok-count.ensures.bytes.0);
+    }
