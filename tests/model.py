@@ -163,7 +163,7 @@ class Stored:
 
     @property
     def end(self):
-        """The moment when a pending transfer comes to its end; None without a timeout."""
+        """The moment when a pending transfer expires; None without a timeout."""
         if self.request.timeout == 0:
             return None
         return self.timestamp + self.request.timeout * SECOND
@@ -321,7 +321,7 @@ class Ledger:
         return Balances(**sums)
 
     def due(self, now):
-        """The pending transfers that a pulse brings to their end, in the order of their ends, then of timestamps."""
+        """The pending transfers that expire by a pulse, in the order of when they expire, then of timestamps."""
         pending = [entry.transfer for entry in self.entries if entry.kind == 'two_phase_pending']
         unsettled = [transfer for transfer in pending if transfer.request.id not in self.ends_of]
         due = [transfer for transfer in unsettled if transfer.end is not None and transfer.end <= now]

@@ -14,7 +14,7 @@ use Rattle.cdc_script.specs.declared.faults.ScriptFault.{ScriptFault}
 use Rattle.cdc_script.specs.Faults.{kind_name}
 use Rattle.cdc_subscriber.specs.Lines.{spaced}
 
--- what the ledger answered to a batch: a number for each item, or how many transfers a pulse brought to their end
+-- what the ledger answered to a batch: a number for each item, or how many transfers expired by a pulse
 abbrev pub answer_text : Result BatchResults BatchError → List ℕ
 answer_text (Ok (results.Accounts items)) = codes ":" ++ flat_map (λ r. spaced (account_number r)) items
 answer_text (Ok (results.Transfers items)) = codes ":" ++ flat_map (λ r. spaced (transfer_number r)) items

@@ -10,7 +10,7 @@ use std::alloc::{AllocError, Global};
 use std::collections::VecDeque;
 use std::marker::Model;
 
-/// The triples of the pending transfers that may still come to their end (TigerBeetle, Two-Phase Transfers, `timeout`).
+/// The triples of the pending transfers that may still expire (TigerBeetle, Two-Phase Transfers, `timeout`).
 /// A clause sees the set of them, and for how many more there is room.
 #[derive(Drop)]
 pub struct DueIndex {

@@ -1,6 +1,6 @@
 //! What the index holds of a pending transfer.
 
-/// When a pending transfer comes to its end, when it was made, and where its owner keeps it. Triples stand in this
+/// When a pending transfer expires, when it was made, and where its owner keeps it. Triples stand in this
 /// order of their fields.
 #[derive(Clone, Copy, Debug, PartialEq, Eq, PartialOrd, Ord)]
 pub struct Triple {

@@ -14,7 +14,7 @@ is_due h now e =
     holds e.kind && not (e.transfer.timeout == 0) && nat_le (expires_at e.transfer) now
     && not (resolved h e.transfer h.last)
 
--- p comes to its end before q, or was asked for before it where both end at once
+-- p expires before q, or was asked for before it where both expire at once
 abbrev pub is_sooner : Transfer → Transfer → Bool
 is_sooner p q =
     nat_lt (expires_at p) (expires_at q) || ((expires_at p == expires_at q) && nat_lt p.timestamp q.timestamp)

@@ -13,7 +13,7 @@ use Rattle.cdc_ledger.specs.Kinds.{holds, moves}
 -- what leaves the pending sums, what joins them, and what joins the posted ones: `released`, `held` and `moved`
 pub use Rattle.cdc_ledger.specs.declared.movements.Effect.{Effect}
 
--- the pending transfer that an entry of this kind with this transfer brings to its end, if it does
+-- the pending transfer that an entry of this kind with this transfer settles, if it does
 abbrev pub settled_in : EventKind → History → Transfer → Option Transfer
 settled_in SinglePhase h x = None
 settled_in TwoPhasePending h x = None
@@ -30,7 +30,7 @@ abbrev pub amount_of : Option Transfer → ℕ
 amount_of None = 0
 amount_of (Some p) = p.amount
 
--- what an entry does that brings this pending transfer, if any, to its end
+-- what an entry does that settles this pending transfer, if any
 abbrev pub effect_by : Option Transfer → Entry → Effect
 effect_by p e = record {
   released = amount_of p;

@@ -74,6 +74,6 @@ is_same_transfer x y =
     && (x.user_data_64 == y.user_data_64) && (x.user_data_32 == y.user_data_32) && (x.timeout == y.timeout)
     && (x.ledger == y.ledger) && (x.code == y.code) && (x.flags == y.flags)
 
--- when a pending transfer comes to its end, in nanoseconds; its timeout is in seconds
+-- when a pending transfer expires, in nanoseconds; its timeout is in seconds
 abbrev pub expires_at : Transfer → ℕ
 expires_at p = p.timestamp + p.timeout * 1000000000

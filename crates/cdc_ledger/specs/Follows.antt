@@ -19,7 +19,7 @@ pub record HasRoom (h : History) (e : Entry) : Type 0 where
   pub credit : (balances h e.transfer.credit_account_id h.last).credits_pending
       + (balances h e.transfer.credit_account_id h.last).credits_posted + e.transfer.amount ≤ max_128
 
--- the entry brings a pending transfer of the history to its end, which nothing did before
+-- the entry settles a pending transfer of the history, which nothing did before
 pub record SettlesOpen (h : History) (e : Entry) : Type 0 where
   pub pending : Entry
   pub settles : Settles h e pending

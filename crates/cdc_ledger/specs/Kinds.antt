@@ -28,7 +28,7 @@ stores TwoPhasePosted = true
 stores TwoPhaseVoided = true
 stores TwoPhaseExpired = false
 
--- the entry brings a pending transfer to its end: it posts it, voids it, or lets it expire
+-- the entry settles a pending transfer: it posts it, voids it, or lets it expire
 abbrev pub settles : EventKind → Bool
 settles SinglePhase = false
 settles TwoPhasePending = false
@@ -36,7 +36,7 @@ settles TwoPhasePosted = true
 settles TwoPhaseVoided = true
 settles TwoPhaseExpired = true
 
--- the id of the pending transfer that an entry of this kind with this transfer brings to its end
+-- the id of the pending transfer that an entry of this kind with this transfer settles
 abbrev pub settled_id : EventKind → Transfer → ℕ
 settled_id SinglePhase x = 0
 settled_id TwoPhasePending x = 0

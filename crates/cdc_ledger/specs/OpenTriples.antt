@@ -1,5 +1,5 @@
--- What an index of ends has: a triple for each pending transfer with a timeout that nothing brought to its end yet (for
--- private contracts and the laws).
+-- What an index has: a triple for each pending transfer with a timeout that nothing settled yet (for private contracts
+-- and the laws).
 use Rattle.std.specs.Prelude.{ℕ, ◌+◌, Bool, ◌==◌, ◌&&◌, not, Option, Some, None, List, [], ◌∷◌, if◌then◌else◌}
 use Rattle.std.specs.FinSet.{from_list, insert}
 use Rattle.cdc_types.specs.declared.events.Entry.{Entry}
@@ -34,7 +34,7 @@ open_triples h = triples_from (is_open h) 0 h.entries
 abbrev pub index_of : History → Triples
 index_of h = from_list (open_triples h)
 
--- the entry has a triple of its own until something brings its transfer to its end
+-- the entry has a triple of its own until something settles its transfer
 abbrev pub opens : Entry → Bool
 opens e = holds e.kind && not (e.transfer.timeout == 0)
 

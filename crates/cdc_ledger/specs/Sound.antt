@@ -27,7 +27,7 @@ AreApart (n ∷ ns) = AllByRecursion (λ m. n ≢ m) ns × AreApart ns
 abbrev pub stored_ids : List Entry → List ℕ
 stored_ids entries = map (λ e. e.transfer.id) (filter (λ e. stores e.kind) entries)
 
--- the entry e brings the transfer of the pending entry x to its end: between the same accounts, and of no more
+-- the entry e settles the transfer of the pending entry x: between the same accounts, and of no more
 pub record Settles (h : History) (e x : Entry) : Type 0 where
   pub named : stored h (settled_id e.kind e.transfer) ≡ Some x
   pub pending : holds x.kind ≡ true

@@ -68,7 +68,7 @@ transfers_from offered h t (r ∷ rest) =
     let later = transfers_from offered (after_transfer h r t verdict) (t + 1) rest in
     (verdict ∷ later.0, later.1)
 
--- the history after these pending transfers came to their end, from the moment t on
+-- the history after these pending transfers expired, from the moment t on
 abbrev pub expiries_from : History → ℕ → List Transfer → History
 expiries_from h t [] = h
 expiries_from h t (p ∷ rest) = expiries_from (pushed h (expiry p t)) (t + 1) rest

@@ -112,7 +112,7 @@ field_lines e r =
     (is_void_request r && nat_lt amount p.amount, transfer.PendingTransferHasDifferentAmount) ∷
     []
 
--- the pending transfer has come to its end by the moment t, swept or not
+-- the pending transfer has expired by the moment t, swept or not
 abbrev pub is_over : History → Transfer → ℕ → Bool
 is_over h p t =
     some_by h t (λ e. expires e.kind e.transfer p) || (not (p.timeout == 0) && nat_le (expires_at p) t)

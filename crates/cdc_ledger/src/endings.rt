@@ -9,14 +9,14 @@ use cdc_types::EventKind;
 /// How a pending transfer ended.
 #[derive(Clone, Copy)]
 pub(crate) enum Ending {
-    /// Nothing brought it to its end yet. So it is with an entry that isn't of a pending transfer, too.
+    /// Nothing settled it yet. So it is with an entry that isn't of a pending transfer, too.
     Open,
     Posted,
     Voided,
     Expired,
 }
 
-/// How an entry of this kind brings the pending transfer to its end that it settles.
+/// How an entry of this kind settles its pending transfer.
 fn ending_by(kind: EventKind) -> Ending
     ensures { result ≡ ending_of_kind kind }
 {

@@ -80,8 +80,8 @@ impl Ledger {
         self.tables.create_transfers(alloc, now, requests)
     }
 
-    /// Brings the pending transfers whose time is up at the moment `now`, in nanoseconds, to their end, and answers
-    /// how many they were, which may be any number (TigerBeetle, Two-Phase Transfers, `timeout`). Refused as a whole
+    /// Lets the pending transfers expire whose time is up at the moment `now`, in nanoseconds, and answers how many
+    /// they were, which may be any number (TigerBeetle, Two-Phase Transfers, `timeout`). Refused as a whole
     /// where the ledger is closed, where their timestamps would pass 2^63-1, and where memory runs out, in this order.
     pub fn pulse(&mut self, now: u64) -> Result<u64, BatchError>
         ensures { Answers BatchResults.Pulsed self.old (Batch.Pulse now) result self.new }

@@ -60,7 +60,7 @@ pub(crate) struct Movement {
     pub(crate) debit: usize,
     /// The place of the account that is credited, from 0.
     pub(crate) credit: usize,
-    /// The pending transfer that it posts, voids or brings to its end.
+    /// The pending transfer that it posts, voids or lets expire.
     pub(crate) settled: Option<Pending>,
 }
 

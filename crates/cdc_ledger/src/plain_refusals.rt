@@ -45,7 +45,7 @@ fn overflow_refusal(
     }
 }
 
-/// Whether the transfer would come to its end after the greatest timestamp.
+/// Whether the transfer would expire after the greatest timestamp.
 fn timeout_refusal(request: &NewTransfer, timestamp: u64) -> Option<TransferResult>
     requires { timestamp ≤ max_timestamp }
     ensures { result ≡ first_line (timeout_lines request.now timestamp) }

@@ -1,4 +1,4 @@
-//! Pulses: pending transfers whose time is up come to their end.
+//! Pulses: pending transfers whose time is up expire.
 
 ghost use Rattle.std.specs.Prelude.{◌≡◌, ◌≢◌, ◌+◌, ◌≤◌, ◌<◌, [], length};
 ghost use Rattle.cdc_ledger.specs.Answers.{Answers};
@@ -35,7 +35,7 @@ impl Tables {
         }
     }
 
-    /// Brings the pending transfer, which nothing brought to its end yet, to its end. There is room for its entry.
+    /// Lets the pending transfer expire, which nothing settled yet. There is room for its entry.
     fn expire(&mut self, pending: Pending, timestamp: u64)
         requires later { self.old.history.last < timestamp }
         requires within { timestamp ≤ max_timestamp }
@@ -55,7 +55,7 @@ impl Tables {
         self.record(&movement);
     }
 
-    /// Brings this many pending transfers to their end, those whose time is up at the moment `now`, from the moment
+    /// Lets this many pending transfers expire, those whose time is up at the moment `now`, from the moment
     /// `base` on. There is room for all of their entries.
     fn expire_all(&mut self, now: u64, base: u64, count: usize)
         requires later { self.old.history.last < base }
@@ -71,7 +71,7 @@ impl Tables {
         }
     }
 
-    /// Brings the pending transfers whose time is up at the moment `now` to their end, and answers how many they were.
+    /// Lets the pending transfers expire whose time is up at the moment `now`, and answers how many they were.
     pub(crate) fn pulse(&mut self, now: u64) -> Result<u64, BatchError>
         ensures { Answers BatchResults.Pulsed self.old.history (Batch.Pulse now) result
             self.new.history }

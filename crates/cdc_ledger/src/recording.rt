@@ -23,7 +23,7 @@ use crate::transfers::{expires_at, stores};
 use cdc_expiry::{DueIndex, Triple};
 use cdc_types::{Entry, EventKind, NewAccount};
 
-/// Whether the entry's transfer may come to its end by itself.
+/// Whether the entry's transfer may expire.
 fn opens(entry: &Entry) -> bool
     ensures { result ≡ triples.opens entry.now }
 {

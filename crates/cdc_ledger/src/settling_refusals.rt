@@ -51,8 +51,8 @@ fn is_up(pending: &Transfer, timestamp: u64) -> bool
     pending.timeout != 0 && expires_at(pending) <= timestamp
 }
 
-/// Why a pending transfer that ended so can't be settled any more, if so: it was posted or voided, or it has come to its
-/// end, swept or not.
+/// Why a pending transfer that ended so can't be settled any more, if so: it was posted or voided, or it has expired,
+/// swept or not.
 pub(crate) fn end_refusal(
     ending: Ending,
     pending: &Transfer,

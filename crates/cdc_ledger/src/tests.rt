@@ -55,7 +55,7 @@ const SETTLING: NewTransfer = NewTransfer {
 };
 
 // A batch of one request at its moment: the flags, the id, the pending id, the amount and the timeout; 0 as the id stands
-// for a pulse. Then the answer: the result's number, or how many came to their end.
+// for a pulse. Then the answer: the result's number, or how many expired.
 type Step = (u64, u16, u128, u128, u128, u32, u64);
 
 // An event's timestamp, its kind, the amount, and the debited account's four balances after it: debits pending and
@@ -249,7 +249,7 @@ fn take_thousand(alloc: Global, ledger: &mut Ledger, first: u32) -> Result<bool,
     )
 }
 
-// More than a thousand pending transfers, of which a pulse brings all to their end.
+// More than a thousand pending transfers, all of which expire by a pulse.
 #[test]
 fn a_pulse_is_of_any_size(rt: HostRuntime) -> Result<(), Fail> {
     let mut ledger = ledger_of_two(rt.alloc(), 0)?;

@@ -103,7 +103,7 @@ pub(crate) fn kind_of(request: &NewTransfer) -> EventKind
     }
 }
 
-/// When a pending transfer comes to its end, in nanoseconds; its timeout is in seconds.
+/// When a pending transfer expires, in nanoseconds; its timeout is in seconds.
 pub(crate) fn expires_at(pending: &Transfer) -> u64
     requires { filling.expires_at pending.now < 2 ^ 64 }
     ensures { result ≡ filling.expires_at pending.now }

@@ -34,7 +34,7 @@ pub enum Statement {
     Account(NewAccount),
     /// An item of the open batch.
     Transfer(NewTransfer),
-    /// A batch by itself: pending transfers come to their end at this moment in nanoseconds.
+    /// A batch by itself: pending transfers expire at this moment in nanoseconds.
     Pulse(u64),
 }
 

@@ -74,7 +74,7 @@ pub enum Batch {
         /// The requests.
         items: Items<NewTransfer>,
     },
-    /// Pending transfers whose time is up come to their end.
+    /// Pending transfers whose time is up expire.
     Pulse {
         /// The moment.
         now: u64,
@@ -88,7 +88,7 @@ pub enum BatchResults {
     Accounts(Items<AccountResult>),
     /// One result for each transfer that was asked for.
     Transfers(Items<TransferResult>),
-    /// How many pending transfers came to their end.
+    /// How many pending transfers expired.
     Pulsed(u64),
 }
 

@@ -13,7 +13,7 @@ pub enum EventKind {
     TwoPhasePosted,
     /// A pending transfer was voided.
     TwoPhaseVoided,
-    /// A pending transfer came to its end.
+    /// A pending transfer expired.
     TwoPhaseExpired,
 }
 

@@ -87,7 +87,7 @@ pub enum TransferResult {
     PendingTransferAlreadyPosted,
     /// The pending transfer was voided.
     PendingTransferAlreadyVoided,
-    /// The pending transfer has come to its end.
+    /// The pending transfer has expired.
     PendingTransferExpired,
     /// The sum would pass 2^128-1.
     OverflowsDebitsPending,
