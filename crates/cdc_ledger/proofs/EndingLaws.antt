@@ -13,7 +13,7 @@ use Rattle.cdc_types.specs.declared.transfers.Transfer.{Transfer}
 use Rattle.cdc_ledger.specs.declared.endings.Ending.{Ending}
 use Rattle.cdc_ledger.specs.declared.endings.Ending.TheVariants.{Open}
 use Rattle.cdc_ledger.specs.declared.movements.Pending.{Pending}
-use Rattle.cdc_ledger.specs.Balances.{resolves, resolved}
+use Rattle.cdc_ledger.specs.Balances.{resolves}
 use Rattle.cdc_ledger.specs.Effects.{settled_by}
 use Rattle.cdc_ledger.specs.Endings.{ending_from, ending_among, ending_of, ending_by, endings_of, endings_after}
 use Rattle.cdc_ledger.specs.Filling.{stored}

@@ -11,7 +11,7 @@ use Rattle.cdc_types.specs.declared.accounts.Account.{Account}
 use Rattle.cdc_types.specs.declared.events.Entry.{Entry}
 use Rattle.cdc_ledger.specs.Events.{account_now, accounts_now}
 use Rattle.cdc_ledger.specs.Filling.{stored}
-use Rattle.cdc_ledger.specs.History.{History, Opened, opened}
+use Rattle.cdc_ledger.specs.History.{History, opened}
 use Rattle.cdc_ledger.specs.Kinds.{stores}
 use Rattle.cdc_ledger.specs.Places.{PlacesById, place_of, account_place, stored_place}
 use Rattle.cdc_ledger.proofs.Found.{find-same}

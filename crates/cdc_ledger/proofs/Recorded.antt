@@ -26,7 +26,7 @@ use Rattle.cdc_ledger.specs.Events.{accounts_now, account_now, account_at, event
 use Rattle.cdc_ledger.specs.Follows.{Follows}
 use Rattle.cdc_ledger.specs.History.{History, Opened, opened}
 use Rattle.cdc_ledger.specs.Kinds.{settles, stores}
-use Rattle.cdc_ledger.specs.Movements.{IsPlace, IsPlaced, IsMovement, SideFits, Takes, account_ids, accounts_after, effect_of_movement, settled_transfer}
+use Rattle.cdc_ledger.specs.Movements.{IsPlaced, IsMovement, SideFits, Takes, account_ids, accounts_after, effect_of_movement, settled_transfer}
 use Rattle.cdc_ledger.specs.OpenTriples.{index_of, ends_after}
 use Rattle.cdc_ledger.specs.Places.{account_place, place_of, stored_place}
 use Rattle.cdc_ledger.specs.Sound.{AreApart, IsSound}

@@ -124,8 +124,8 @@ impl Tables {
         let Some(place) = self.entry_place(request.pending_id) else {
             return Err(TransferResult::PendingTransferNotFound);
         };
-        let entry = entries[place];
-        if let Some(refusal) = field_refusal(&entry, request) {
+        let entry = &entries[place];
+        if let Some(refusal) = field_refusal(entry, request) {
             return Err(refusal);
         }
         let transfer = entry.transfer;
