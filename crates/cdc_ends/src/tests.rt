@@ -15,11 +15,9 @@ fn a_client_without_a_ledger(rt: HostRuntime) -> Result<(), Fail> {
     let requests = outs.pop().expect(&rt, "two senders");
     drop(into);
     let mut client = ClientEnd::new(rt.alloc(), 1, 1, requests, answers);
-    for _ in 0..2 {
-        match client.submit(&rt, rt.alloc(), Batch::Pulse { now: 5 }) {
-            Ok(_) => assert!(rt; false, "there is no ledger"),
-            Err(fault) => assert_eq!(rt; fault, RunFault::PeerGone),
-        }
-    }
+    let first = client.submit(&rt, rt.alloc(), Batch::Pulse { now: 5 });
+    let second = client.submit(&rt, rt.alloc(), Batch::Pulse { now: 6 });
+    assert!(rt; matches!(&first, Err(RunFault::PeerGone)));
+    assert!(rt; matches!(&second, Err(RunFault::PeerGone)));
     Ok(())
 }
