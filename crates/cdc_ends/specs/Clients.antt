@@ -1,0 +1,91 @@
+-- What a client's end has said to the ledger, and what it was replied.
+use Rattle.std.specs.Prelude.{◌≡◌, ℕ, ◌+◌, ◌<◌, Bool, true, false, Option, List, [], ◌∷◌, ◌++◌, length, map, if◌then◌else◌}
+use Rattle.cdc_ends.specs.declared.faults.RunFault.{RunFault}
+use Rattle.cdc_ledger.specs.Submit.{IsLegal}
+use Rattle.cdc_links.specs.Links.{Incoming, Outgoing, of_sender, with_received, with_sent}
+use Rattle.cdc_traffic.specs.Answering.{answer_to}
+use Rattle.cdc_traffic.specs.Following.{FollowsToClient, last_left}
+use Rattle.cdc_traffic.specs.Pasts.{Continues, history_of}
+use Rattle.cdc_traffic.specs.declared.messages.ToLedger.{ToLedger}
+use Rattle.cdc_traffic.specs.declared.messages.ToLedger.TheVariants.{Request as Asks, Done}
+use Rattle.cdc_traffic.specs.declared.pasts.Past.{Past}
+use Rattle.cdc_traffic.specs.declared.requests.Reply.{Reply}
+use Rattle.cdc_types.specs.declared.batches.Batch.{Batch}
+
+-- a client's conversation with the ledger: its number, what it has sent and received, its copies of the replies, and
+-- whether it has said that it is done
+pub record Talk : Type 0 where
+  pub number : ℕ
+  pub requests : Outgoing ToLedger (Unit {0})
+  pub answers : Incoming Reply Past
+  pub replies : List Reply
+  pub finished : Bool
+
+-- a client's end: the number of the system that it is of, its conversation, and the fault that it met
+pub record ClientState : Type 0 where
+  pub system : ℕ
+  pub talk : Talk
+  pub fault : Option RunFault
+
+-- a client's request of this number for this batch
+abbrev pub request_for : ℕ → ℕ → Batch → ToLedger
+request_for client number batch = Asks (record { client = client; number = number; batch = batch })
+
+-- the requests, numbered from here on, to which these are the replies
+abbrev pub requests_from : ℕ → ℕ → List Reply → List ToLedger
+requests_from client number [] = []
+requests_from client number (reply ∷ replies) =
+    request_for client number reply.batch ∷ requests_from client (number + 1) replies
+
+-- the last message of a client, once it has finished
+abbrev pub done_if : Bool → ℕ → List ToLedger
+done_if finished client = if finished then Done client ∷ [] else []
+
+-- a client has sent a request for the batch of each reply, numbered from 1, and then, once it has finished, that it is
+-- done; and it has received these replies and no others
+pub record IsClient (c : Talk) : Type 0 where
+  pub first : 0 < c.number
+  pub own : c.requests.number ≡ c.number
+  pub alone : c.answers.senders ≡ 1
+  pub said : map (λ m. m.0) c.requests.sent ≡ requests_from c.number 1 c.replies ++ done_if c.finished c.number
+  pub heard : map (λ e. e.1.0) c.answers.received ≡ c.replies
+
+-- nothing was said yet
+abbrev pub first_words : ℕ → Outgoing ToLedger (Unit {0}) → Incoming Reply Past → Talk
+first_words number requests answers =
+    record { number = number; requests = requests; answers = answers; replies = []; finished = false }
+
+-- the ledger's next reply was received, under the name of some past
+pub record IsHeard (old : Incoming Reply Past) (reply : Reply) (new : Incoming Reply Past) : Type 0 where
+  pub past : Past
+  pub follows : FollowsToClient 0 (of_sender 0 old.received) (reply, past)
+  pub after : new ≡ with_received old (0, (reply, past))
+
+-- one more request was sent, and its reply received under the name of this past
+abbrev pub with_reply : Talk → Reply → Past → Talk
+with_reply c reply past = record c {
+  requests = with_sent c.requests (request_for c.number (length c.replies + 1) reply.batch, tt);
+  answers = with_received c.answers (0, (reply, past));
+  replies = c.replies ++ reply ∷ [];
+}
+
+-- a batch was sent, and this is the reply to it: the ledger's answer to the batch on a legal history, which extends the
+-- one that the reply before has left; nothing else has changed
+pub record IsAnswered (old : Talk) (batch : Batch) (reply : Reply) (new : Talk) : Type 0 where
+  pub past : Past
+  pub number : reply.number ≡ length old.replies + 1
+  pub same : reply.batch ≡ batch
+  pub answer : reply.answer ≡ answer_to (history_of past) batch
+  pub legal : IsLegal (history_of past)
+  pub continues : Continues (last_left (of_sender 0 old.answers.received)) past
+  pub after : new ≡ with_reply old reply past
+
+-- the same of a client's end that has met no fault
+pub record IsReplied (old : ClientState) (batch : Batch) (reply : Reply) (new : ClientState) : Type 0 where
+  pub answered : IsAnswered old.talk batch reply new.talk
+  pub rest : new ≡ record old { talk = new.talk }
+
+-- the conversation once the client has said that it is done, as it does once
+abbrev pub finished_talk : Talk → Talk
+finished_talk c =
+    if c.finished then c else record c { requests = with_sent c.requests (Done c.number, tt); finished = true }

@@ -1,0 +1,20 @@
+-- The numbers and names of the faults of a run.
+use Rattle.std.specs.Prelude.{ℕ, List, codes}
+use Rattle.cdc_ends.specs.declared.faults.RunFault.{RunFault}
+use Rattle.cdc_ends.specs.declared.faults.RunFault.TheVariants.{PeerGone, OutOfMemory, Store, SessionsExhausted, NotOneSystem}
+
+-- the fault's number
+abbrev pub run_fault_number : RunFault → ℕ
+run_fault_number PeerGone = 1
+run_fault_number OutOfMemory = 2
+run_fault_number (Store why) = 3
+run_fault_number SessionsExhausted = 4
+run_fault_number NotOneSystem = 5
+
+-- the fault's name
+abbrev pub run_fault_name : RunFault → List ℕ
+run_fault_name PeerGone = codes "peer_gone"
+run_fault_name OutOfMemory = codes "out_of_memory"
+run_fault_name (Store why) = codes "store"
+run_fault_name SessionsExhausted = codes "sessions_exhausted"
+run_fault_name NotOneSystem = codes "not_one_system"

@@ -1,0 +1,67 @@
+//! Why an end of a run gave up.
+
+ghost use Rattle.std.specs.Prelude.{◌≡◌};
+ghost use Rattle.cdc_ends.specs.Faults.{run_fault_name, run_fault_number};
+
+use cdc_progress::StoreError;
+use std::alloc::AllocError;
+use thiserror::Error;
+
+/// Why an end of a run gave up; it answers the same from then on.
+#[derive(Clone, Copy, Debug, PartialEq, Eq, Error)]
+pub enum RunFault {
+    /// The other side of a link is gone, or has said something else than was asked.
+    #[error("peer_gone")]
+    PeerGone,
+    /// No memory was left, or a thread couldn't be started.
+    #[error("out_of_memory")]
+    OutOfMemory,
+    /// The store failed.
+    #[error("store: {}", .0.name())]
+    Store(StoreError),
+    /// There is no further number for a session.
+    #[error("sessions_exhausted")]
+    SessionsExhausted,
+    /// The ends aren't those of one system, or one of them isn't finished.
+    #[error("not_one_system")]
+    NotOneSystem,
+}
+
+impl RunFault {
+    /// The fault's number, from 1.
+    pub fn number(self) -> u8
+        ensures { result ≡ run_fault_number self }
+    {
+        match self {
+            RunFault::PeerGone => 1,
+            RunFault::OutOfMemory => 2,
+            RunFault::Store(_) => 3,
+            RunFault::SessionsExhausted => 4,
+            RunFault::NotOneSystem => 5,
+        }
+    }
+
+    /// The fault's name as it is printed.
+    pub fn name(self) -> &'static str
+        ensures { result.now ≡ run_fault_name self }
+    {
+        match self {
+            RunFault::PeerGone => "peer_gone",
+            RunFault::OutOfMemory => "out_of_memory",
+            RunFault::Store(_) => "store",
+            RunFault::SessionsExhausted => "sessions_exhausted",
+            RunFault::NotOneSystem => "not_one_system",
+        }
+    }
+}
+
+impl From<AllocError> for RunFault {
+    ghost use Rattle.std.specs.Prelude.{◌≡◌};
+    ghost use Rattle.cdc_ends.specs.declared.faults.RunFault.TheVariants.{OutOfMemory};
+
+    ghost from_gives = { λ _ e. e ≡ OutOfMemory };
+
+    fn from(_error: AllocError) -> RunFault {
+        RunFault::OutOfMemory
+    }
+}

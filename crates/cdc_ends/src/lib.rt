@@ -1,0 +1,13 @@
+//! The ends of a run in threads: what each actor sends and receives over its links. A call may wait, and promises what
+//! holds if it returns.
+#![tactic(auto)]
+
+mod clients;
+mod conversations;
+pub mod faults;
+mod same;
+#[cfg(test)]
+mod tests;
+
+pub use clients::ClientEnd;
+pub use faults::RunFault;
