@@ -95,12 +95,12 @@ left_by_all client before [] said on =
 left_by_all client before (p ∷ order) said on =
     let first : List (Reply × Past) = said_of client before p in
     let more : List (ℕ × Batch) = before ++ p ∷ [] in
-    let rest : Continues (last_left ((said ++ first) ++ said_from client more order)) (past_of (more ++ order)) =
+    let all : List (Reply × Past) = (said ++ first) ++ said_from client more order in
+    let rest : Continues (last_left all) (past_of (more ++ order)) =
     left_by_all client more order (said ++ first) (left_push client before p said (p.0 == client) on) in
     subst (λ (l : List (Reply × Past)). Continues (last_left l) (past_of (before ++ p ∷ order)))
     (append_assoc said first (said_from client more order))
-    (subst (λ (l : List (ℕ × Batch)). Continues (last_left ((said ++ first) ++ said_from client more order)) (past_of l))
-    (append_assoc before (p ∷ []) order) rest)
+    (subst (λ (l : List (ℕ × Batch)). Continues (last_left all) (past_of l)) (append_assoc before (p ∷ []) order) rest)
 
 -- so the reply to what comes next may be sent
 pub replies_may_follow : RepliesMayFollow

@@ -27,7 +27,8 @@ reply_after client before batch = record {
   answer = answer_to (history_of (past_of before)) batch;
 }
 
--- what a client is said of one batch that comes after these: the reply under the name of their past, where it is its own
+-- what a client is said of one batch that comes after these: where it is its own, the reply, under the name of their
+-- past
 abbrev pub said_of : ℕ → List (ℕ × Batch) → ℕ × Batch → List (Reply × Past)
 said_of client before p =
     if p.0 == client then (reply_after client before p.1, past_of before) ∷ [] else []
