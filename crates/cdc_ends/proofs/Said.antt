@@ -1,9 +1,9 @@
 -- What a client is said of an order: to which batches, what one batch adds, and that it may be sent.
-use Rattle.std.proofs.Common.{◌≡◌, ◌==◌, ℕ, ◌+◌, Bool, true, false, List, [], ◌∷◌, ◌++◌, refl, sym, ap, ap₂, ◌∙◌, subst, length, map, append_assoc, append-nil}
-use Rattle.std.specs.Prelude.{filter, fold, if◌then◌else◌}
+use Rattle.std.proofs.Common.{◌≡◌, ◌==◌, ℕ, ◌+◌, Bool, true, false, List, [], ◌∷◌, ◌++◌, refl, sym, ap, ◌∙◌, subst, length, map, append_assoc, append-nil}
+use Rattle.std.specs.Prelude.{filter, if◌then◌else◌}
 use Rattle.std.proofs.lemmas.List.{length-map, map-append}
 use Rattle.std.proofs.lemmas.List.Sums.{fold-append}
-use Rattle.cdc_ends.specs.Orders.{RepliesAreSaid, RepliesHaveTheirBatches, RepliesMayFollow, batches_by, batches_in, past_of, reply_after, said_from, said_of, said_to}
+use Rattle.cdc_ends.specs.Orders.{RepliesAreSaid, RepliesHaveTheirBatches, RepliesMayFollow, batches_by, past_of, reply_after, said_from, said_of, said_to}
 use Rattle.cdc_traffic.specs.Following.{last_left}
 use Rattle.cdc_traffic.specs.Pasts.{Continues, no_past, with_batch}
 use Rattle.cdc_traffic.specs.declared.pasts.Past.{Past}

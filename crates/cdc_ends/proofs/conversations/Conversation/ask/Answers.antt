@@ -1,4 +1,4 @@
-use Rattle.std.proofs.Common.{◌≡◌, ℕ, ◌+◌, true, false, [], ◌∷◌, ◌++◌, rules, sym, ap, ◌∙◌, subst, length, arith}
+use Rattle.std.proofs.Common.{◌≡◌, ◌+◌, true, false, [], ◌∷◌, ◌++◌, rules, sym, ap, ◌∙◌, subst, length, arith}
 use Rattle.cdc_ends.specs.Clients.{IsAnswered, IsClient, Talk}
 use Rattle.cdc_traffic.specs.declared.requests.Reply.{Reply}
 use Rattle.cdc_ends.proofs.Talking.{answered_so, may_ask}
