@@ -1,2 +1,3 @@
 mod Equal
+mod Said
 mod Talking

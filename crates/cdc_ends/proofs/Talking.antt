@@ -112,7 +112,10 @@ module _ (c : Talk) (is : IsClient c) where
   finished_is = go c.finished refl
     where
       go : (b : Bool) → c.finished ≡ b
-          → IsClient (if b then c else record c { requests = with_sent c.requests (Done c.number, tt); finished = true })
+          → IsClient (if b then c else record c {
+            requests = with_sent c.requests (Done c.number, tt);
+            finished = true;
+          })
       go true said = is
       go false talks = ended talks
 

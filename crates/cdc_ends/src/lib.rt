@@ -5,9 +5,11 @@
 mod clients;
 mod conversations;
 pub mod faults;
+mod orders;
 mod same;
 #[cfg(test)]
 mod tests;
 
 pub use clients::ClientEnd;
 pub use faults::RunFault;
+pub use orders::order_laws;

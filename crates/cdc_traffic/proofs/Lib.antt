@@ -1,4 +1,4 @@
-mod Continuing
+pub mod Continuing
 mod Ends
-mod Named
+pub mod Named
 mod WholeReads

@@ -1,5 +1,5 @@
 -- The pasts that one sender names, one after another, and what is read of them.
-use Rattle.std.proofs.Common.{◌≡◌, ℕ, Option, Some, None, List, [], ◌∷◌, ◌++◌, sym, ap, ◌∙◌, subst, append_assoc, append-nil}
+use Rattle.std.proofs.Common.{◌≡◌, ℕ, Option, Some, None, List, [], ◌∷◌, ◌++◌, sym, ap, subst, append_assoc, append-nil}
 use Rattle.std.specs.Prelude.{unwrap_or}
 use Rattle.std.proofs.lemmas.List.Sums.{fold-append}
 use Rattle.cdc_laws.specs.Readings.{AreReadings, IsOf, Reading}
@@ -9,7 +9,7 @@ use Rattle.cdc_ledger.specs.History.{History}
 use Rattle.cdc_ledger.proofs.SoundLaws.{IsSound-empty}
 use Rattle.cdc_links.specs.Links.{CanSend, FollowFrom}
 use Rattle.cdc_links.proofs.Entries.{follow-prefix}
-use Rattle.cdc_traffic.specs.Following.{FollowsToClient, FollowsToConnector, IsReadOf, MaySendConnector, last_left, last_named}
+use Rattle.cdc_traffic.specs.Following.{FollowsToClient, FollowsToConnector, MaySendConnector, last_left, last_named}
 use Rattle.cdc_traffic.specs.Laws.{reading_of, readings_of, with_reading}
 use Rattle.cdc_traffic.specs.Pasts.{Continues, history_of, no_past, with_batch}
 use Rattle.cdc_traffic.specs.declared.messages.ToConnector.{ToConnector}

@@ -2,7 +2,6 @@ use Rattle.std.proofs.Common.{◌≡◌, ap₂, ◌∙◌}
 use Rattle.std.specs.Cmp.Lexicographic.{pointwise}
 use Rattle.cdc_types.specs.contracts.accounts.NewAccountPartialEq.TheImpl as of_accounts
 use Rattle.cdc_types.specs.contracts.transfers.NewTransferPartialEq.TheImpl as of_transfers
-use Rattle.cdc_types.specs.declared.batches.Batch.{Batch}
 use Rattle.cdc_types.specs.declared.batches.Batch.TheVariants as batch
 use Rattle.cdc_ends.proofs.Equal.{decides_as, same_accounts, same_transfers}
 use Rattle.cdc_ends.proofs.same.same_batch.Goals as goal

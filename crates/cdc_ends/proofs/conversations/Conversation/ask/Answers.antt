@@ -1,4 +1,4 @@
-use Rattle.std.proofs.Common.{◌≡◌, ℕ, ◌+◌, true, false, [], ◌∷◌, ◌++◌, rules, sym, ap, ◌∙◌, subst, length, arith}
+use Rattle.std.proofs.Common.{◌≡◌, ◌+◌, true, false, [], ◌∷◌, ◌++◌, rules, sym, ap, ◌∙◌, subst, length, arith}
 use Rattle.cdc_ends.specs.Clients.{IsAnswered, IsClient, Talk}
 use Rattle.cdc_traffic.specs.declared.requests.Reply.{Reply}
 use Rattle.cdc_ends.proofs.Talking.{answered_so, may_ask}
@@ -18,7 +18,7 @@ say-requires g c =
     let talks : talk.finished ≡ false =
     subst (λ (t : Talk). t.finished ≡ false) (sym c.self.view_is) c.requires.talks in
     let next : c.in-Some.number ≡ length inside.requests.sent + 1 =
-    first_of (omega (arith, c.in-Some.ensures, c.sent_count.ensures.count), grind (arith, c.in-Some.ensures), search rules) in
+    first_of (omega (arith, c.in-Some.ensures, c.sent_count.ensures.count), search rules) in
     may_ask talk is talks c.in-Some.number c.args.batch next
 
 pub returns : goal.returns
@@ -36,7 +36,7 @@ returns g c =
     let talks : talk.finished ≡ false =
     subst (λ (t : Talk). t.finished ≡ false) (sym c.self.view_is) c.requires.talks in
     let next : c.in-Some.number ≡ length inside.requests.sent + 1 =
-    first_of (omega (arith, c.in-Some.ensures, c.sent_count.ensures.count), grind (arith, c.in-Some.ensures), search rules) in
+    first_of (omega (arith, c.in-Some.ensures, c.sent_count.ensures.count), search rules) in
     let yes : c.is_to.result ≡ true = first_of (cc, search rules, grind arith) in
     let agree : (reply.number ≡ c.in-Some.number) × (reply.batch ≡ c.in_ok-copy.copy) = c.is_to.ensures.0 yes in
     let kept : c.push_reserved.new.self.items ≡ inside.replies.items ++ reply ∷ [] =

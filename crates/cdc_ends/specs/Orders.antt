@@ -1,0 +1,60 @@
+-- One order of all clients' batches, each with its client's number, and what each client is replied in it.
+use Rattle.std.specs.Prelude.{◌≡◌, ◌==◌, ℕ, ◌+◌, false, List, [], ◌∷◌, ◌++◌, filter, length, map, if◌then◌else◌}
+use Rattle.cdc_ledger.specs.Submit.{IsLegal}
+use Rattle.cdc_traffic.specs.Answering.{answer_to}
+use Rattle.cdc_traffic.specs.Following.{FollowsToClient}
+use Rattle.cdc_traffic.specs.Pasts.{history_of}
+use Rattle.cdc_traffic.specs.declared.pasts.Past.{Past}
+use Rattle.cdc_traffic.specs.declared.requests.Reply.{Reply}
+use Rattle.cdc_types.specs.declared.batches.Batch.{Batch}
+
+-- the batches of all clients, and those of one
+abbrev pub batches_in : List (ℕ × Batch) → List Batch
+batches_in order = map (λ p. p.1) order
+
+abbrev pub batches_by : ℕ → List (ℕ × Batch) → List Batch
+batches_by client order = map (λ p. p.1) (filter (λ p. p.0 == client) order)
+
+-- the past of an open ledger to which these were submitted
+abbrev pub past_of : List (ℕ × Batch) → Past
+past_of order = record { batches = batches_in order; closed = false }
+
+-- the reply to a client's batch that comes after these
+abbrev pub reply_after : ℕ → List (ℕ × Batch) → Batch → Reply
+reply_after client before batch = record {
+  number = length (batches_by client before) + 1;
+  batch = batch;
+  answer = answer_to (history_of (past_of before)) batch;
+}
+
+-- what a client is said of one batch that comes after these: where it is its own, the reply, under the name of their
+-- past
+abbrev pub said_of : ℕ → List (ℕ × Batch) → ℕ × Batch → List (Reply × Past)
+said_of client before p =
+    if p.0 == client then (reply_after client before p.1, past_of before) ∷ [] else []
+
+-- what it is said of an order that comes after these, batch by batch
+abbrev pub said_from : ℕ → List (ℕ × Batch) → List (ℕ × Batch) → List (Reply × Past)
+said_from client before [] = []
+said_from client before (p ∷ order) = said_of client before p ++ said_from client (before ++ p ∷ []) order
+
+-- what it is said of a whole order
+abbrev pub said_to : ℕ → List (ℕ × Batch) → List (Reply × Past)
+said_to client order = said_from client [] order
+
+-- ---- laws
+
+-- a client is replied to its own batches, in its own order, and to none else
+abbrev pub RepliesHaveTheirBatches : Type 0
+RepliesHaveTheirBatches = (client : ℕ) (order : List (ℕ × Batch))
+    → map (λ m. m.0.batch) (said_to client order) ≡ batches_by client order
+
+-- what comes next adds the reply to it to what its client was said
+abbrev pub RepliesAreSaid : Type 0
+RepliesAreSaid = (client : ℕ) (order : List (ℕ × Batch)) (p : ℕ × Batch)
+    → said_to client (order ++ p ∷ []) ≡ said_to client order ++ said_of client order p
+
+-- and the ledger may send it that reply after these
+abbrev pub RepliesMayFollow : Type 0
+RepliesMayFollow = (client : ℕ) (order : List (ℕ × Batch)) (batch : Batch) → IsLegal (history_of (past_of order))
+    → FollowsToClient 0 (said_to client order) (reply_after client order batch, past_of order)
