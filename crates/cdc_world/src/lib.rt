@@ -8,8 +8,6 @@ pub mod laws;
 mod refusals;
 pub mod steps;
 mod subscriptions;
-#[cfg(test)]
-mod tests;
 pub mod world;
 
 pub use cdc_types::Step;
