@@ -58,7 +58,8 @@ counted p (x ∷ xs) (suc i) parts fits =
     ) (omega arith) in
     (λ j. length (cond (here j) (x ∷ filter p xs) (filter p xs))) ∙ ap suc rest
 
--- where a triple goes in behind all that come before it, and in front of all that it comes before, the list stays in order
+-- where a triple goes in behind all that come before it, and in front of all that it comes before, the list stays in
+-- order
 pub AllPairs-insert : (R : Triple → Triple → Type 0) (xs : List Triple) (i : ℕ) (z : Triple) → AllPairs R xs
     → i ≤ length xs → ((k : ℕ) (d : Triple) → k < i → R (get_or xs k d) z)
     → ((k : ℕ) (d : Triple) → i ≤ k → k < length xs → R z (get_or xs k d)) → AllPairs R (insert xs i z)

@@ -1,4 +1,5 @@
--- The session of a packet, and what was taken of a history's events. Cited by proofs alone, here and in the crates above.
+-- The session of a packet, and what was taken of a history's events. Cited by proofs alone, here and in the crates
+-- above.
 use Rattle.std.specs.Prelude.{ℕ, ◌≤◌, List, Contains}
 use Rattle.cdc_ledger.specs.Events.{events}
 use Rattle.cdc_ledger.specs.History.{History}

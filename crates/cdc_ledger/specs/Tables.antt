@@ -32,8 +32,8 @@ contents_of t = record {
 }
 
 -- the running balances are the sums over the entries, the log has the events of the history, and the index a triple
--- for each pending transfer with a timeout that nothing settled yet; it is kept how each transfer was settled; an id has
--- the place in a map that a search of the list would find
+-- for each pending transfer with a timeout that nothing settled yet; it is kept how each transfer was settled; an id
+-- has the place in a map that a search of the list would find
 pub record IsKept (t : Inside) : Type 0 where
   pub balanced : t.accounts.items ≡ accounts_now (history_of t)
   pub logged : t.log.events ≡ events (history_of t)
