@@ -116,6 +116,10 @@ mv "$room/top/crates/low/src/lib.rt" "$room/kept"
 cp "$room/kept" "$room/top/crates/low/src/lib.rt"
 call "$room/top/relayplum" books x
 check 'a source away and back builds nothing' '' "$calls"
+sleep 1.1
+echo '// more' >>"$room/top/crates/aside/src/lib.rt"
+call "$room/top/relayplum" books x
+check 'a source of a crate that the program does not stand on builds nothing' '' "$calls"
 
 echo '// elder' >"$room/elder"
 touch -d '2 days ago' "$room/elder"

@@ -4,7 +4,5 @@
 
 mod broker;
 mod queue;
-#[cfg(test)]
-mod tests;
 
 pub use broker::{Broker, Refusal, Taken};

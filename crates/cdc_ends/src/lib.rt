@@ -7,8 +7,6 @@ mod conversations;
 pub mod faults;
 mod orders;
 mod same;
-#[cfg(test)]
-mod tests;
 
 pub use clients::ClientEnd;
 pub use faults::RunFault;

@@ -2,8 +2,6 @@
 #![tactic(auto)]
 
 pub mod index;
-#[cfg(test)]
-mod tests;
 pub mod triple;
 
 pub use index::DueIndex;

@@ -19,6 +19,3 @@ mod transfers;
 
 pub use errors::BatchError;
 pub use ledger::Ledger;
-
-#[cfg(test)]
-mod tests;

@@ -6,8 +6,6 @@ mod ends;
 pub mod errors;
 mod messages;
 mod rule;
-#[cfg(test)]
-mod tests;
 
 pub use ends::{Handed, LinkIn, LinkOut, Tally, link, settle};
 pub use errors::{LinkFault, SendRefused};

@@ -3,7 +3,5 @@
 
 pub mod log;
 mod segment;
-#[cfg(test)]
-mod tests;
 
 pub use log::EventLog;

@@ -6,8 +6,6 @@ pub mod errors;
 mod keys;
 mod laws;
 pub mod pairs;
-#[cfg(test)]
-mod tests;
 
 pub use binding::Binding;
 pub use errors::BindError;

@@ -12,8 +12,6 @@ mod kinds;
 mod laws;
 mod message;
 mod packets;
-#[cfg(test)]
-mod tests;
 
 pub use decimals::{decimal_up_to, is_decimal};
 pub use decoding::decode;

@@ -6,8 +6,6 @@ mod files;
 mod memory;
 mod progress;
 mod stores;
-#[cfg(test)]
-mod tests;
 mod texts;
 
 pub use errors::StoreError;

@@ -4,8 +4,6 @@
 
 pub mod errors;
 pub mod session;
-#[cfg(test)]
-mod tests;
 
 pub use errors::StartError;
 pub use session::{Poll, Session};

@@ -9,8 +9,6 @@ mod reading;
 mod scripts;
 mod statements;
 mod step_files;
-#[cfg(test)]
-mod tests;
 mod words;
 
 pub use faults::{FaultKind, ReadError, ScriptError, ScriptFault};

@@ -5,8 +5,6 @@ pub mod book;
 pub mod errors;
 mod printing;
 pub mod subscriber;
-#[cfg(test)]
-mod tests;
 
 pub use book::{Book, BookEntry};
 pub use errors::TakeError;

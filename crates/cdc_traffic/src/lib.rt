@@ -7,8 +7,6 @@ mod messages;
 pub mod pasts;
 pub mod polls;
 pub mod requests;
-#[cfg(test)]
-mod tests;
 
 pub use laws::traffic_laws;
 pub use messages::{Ack, ToBroker, ToConnector, ToLedger, ToSubscriber};

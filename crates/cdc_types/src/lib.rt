@@ -7,8 +7,6 @@ pub mod bounds;
 pub mod events;
 pub mod results;
 pub mod steps;
-#[cfg(test)]
-mod tests;
 pub mod transfers;
 
 pub use accounts::{Account, AccountFlags, Balances, NewAccount};

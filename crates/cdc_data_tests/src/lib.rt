@@ -1,0 +1,15 @@
+//! Tests of the crates of data and of texts: what no clause of theirs says.
+#![tactic(auto)]
+
+#[cfg(test)]
+mod bindings;
+#[cfg(test)]
+mod expiry;
+#[cfg(test)]
+mod log;
+#[cfg(test)]
+mod message;
+#[cfg(test)]
+mod script;
+#[cfg(test)]
+mod types;

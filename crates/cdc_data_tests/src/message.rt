@@ -1,0 +1,501 @@
+use cdc_message::{
+    DecodeError, Delivery, Field, FieldName, Item, Message, Packet, Part, decode, encode,
+    properties_of, replay_laws,
+};
+use cdc_types::{Event, EventAccount, EventKind, EventTransfer};
+use std::alloc::{AllocError, Global};
+use std::process::Abort;
+use std::test::Fail;
+
+// The body of `first_event`.
+const BODY: &str =
+    "{\"credit_account\":{\"code\":10,\"credits_pending\":\"0\",\"credits_posted\":\"100\",\"debits_pending\":\"0\",\"debits_posted\":\"0\",\"flags\":0,\"id\":\"2\",\"timestamp\":\"1001\",\"user_data_128\":\"0\",\"user_data_32\":0,\"user_data_64\":\"0\"},\"debit_account\":{\"code\":10,\"credits_pending\":\"0\",\"credits_posted\":\"0\",\"debits_pending\":\"0\",\"debits_posted\":\"100\",\"flags\":0,\"id\":\"1\",\"timestamp\":\"1000\",\"user_data_128\":\"0\",\"user_data_32\":0,\"user_data_64\":\"0\"},\"ledger\":700,\"timestamp\":\"2000\",\"transfer\":{\"amount\":\"100\",\"code\":1,\"flags\":0,\"id\":\"1\",\"pending_id\":\"0\",\"timeout\":0,\"timestamp\":\"2000\",\"user_data_128\":\"0\",\"user_data_32\":0,\"user_data_64\":\"0\"},\"type\":\"single_phase\"}";
+
+// The same with the members in the order in which they are checked.
+const IN_ORDER: &str =
+    "{\"timestamp\":\"2000\",\"type\":\"single_phase\",\"ledger\":700,\"transfer\":{\"id\":\"1\",\"amount\":\"100\",\"pending_id\":\"0\",\"user_data_128\":\"0\",\"user_data_64\":\"0\",\"user_data_32\":0,\"timeout\":0,\"code\":1,\"flags\":0,\"timestamp\":\"2000\"},\"debit_account\":{\"id\":\"1\",\"debits_pending\":\"0\",\"debits_posted\":\"100\",\"credits_pending\":\"0\",\"credits_posted\":\"0\",\"user_data_128\":\"0\",\"user_data_64\":\"0\",\"user_data_32\":0,\"code\":10,\"flags\":0,\"timestamp\":\"1000\"},\"credit_account\":{\"id\":\"2\",\"debits_pending\":\"0\",\"debits_posted\":\"0\",\"credits_pending\":\"0\",\"credits_posted\":\"100\",\"user_data_128\":\"0\",\"user_data_64\":\"0\",\"user_data_32\":0,\"code\":10,\"flags\":0,\"timestamp\":\"1001\"}}";
+
+const KINDS: [(EventKind, &str); 5] = [
+    (EventKind::SinglePhase, "single_phase"),
+    (EventKind::TwoPhasePending, "two_phase_pending"),
+    (EventKind::TwoPhasePosted, "two_phase_posted"),
+    (EventKind::TwoPhaseVoided, "two_phase_voided"),
+    (EventKind::TwoPhaseExpired, "two_phase_expired"),
+];
+
+// The first transfer of a ledger: 100 from account 1 to account 2.
+fn first_event(kind: EventKind) -> Event {
+    let account = EventAccount {
+        id: 1,
+        debits_pending: 0,
+        debits_posted: 100,
+        credits_pending: 0,
+        credits_posted: 0,
+        user_data_128: 0,
+        user_data_64: 0,
+        user_data_32: 0,
+        code: 10,
+        flags: 0,
+        timestamp: 1000,
+    };
+    Event {
+        timestamp: 2000,
+        kind,
+        ledger: 700,
+        transfer: EventTransfer {
+            id: 1,
+            amount: 100,
+            pending_id: 0,
+            user_data_128: 0,
+            user_data_64: 0,
+            user_data_32: 0,
+            timeout: 0,
+            code: 1,
+            flags: 0,
+            timestamp: 2000,
+        },
+        debit_account: account,
+        credit_account: EventAccount {
+            id: 2,
+            debits_posted: 0,
+            credits_posted: 100,
+            timestamp: 1001,
+            ..account
+        },
+    }
+}
+
+// `text`, of a body of the first kind, with the one text in the place of the other, is read as this.
+fn read_changed(
+    alloc: Global,
+    text: &str,
+    from: &str,
+    to: &str,
+) -> Result<Result<Event, DecodeError>, AllocError> {
+    let text = text.replace(alloc, from, to)?;
+    Ok(decode(alloc, text.as_bytes()))
+}
+
+// The body of an event of this kind is `BODY` with the kind's name.
+fn is_written(alloc: Global, kind: EventKind, name: &str) -> Result<bool, AllocError> {
+    let text = encode(alloc, &first_event(kind))?;
+    let expected = BODY.replace(alloc, "single_phase", name)?;
+    Ok(text.as_str() == expected.as_str())
+}
+
+#[test]
+fn each_kind_is_written_and_read(rt: HostRuntime) -> Result<(), Fail> {
+    let alloc = rt.alloc();
+    for (kind, name) in KINDS {
+        assert!(rt; is_written(alloc, kind, name)?);
+        for text in [BODY, IN_ORDER] {
+            let read = read_changed(alloc, text, "single_phase", name)?;
+            assert_eq!(rt; read, Ok(first_event(kind)));
+        }
+    }
+    Ok(())
+}
+
+#[test]
+fn writers_may_differ(rt: HostRuntime) -> Result<(), Fail> {
+    let alloc = rt.alloc();
+    let changes = [
+        ("\"amount\":\"100\"", "\"amount\":100"),
+        ("\"ledger\":700", "\"ledger\":\"700\""),
+        ("\"ledger\":700", "\"ledger\":\"000700\""),
+        (",", " ,\n"),
+        ("{\"timestamp\"", "\n{ \"x\" : [1], \"timestamp\""),
+    ];
+    for (from, to) in changes {
+        let read = read_changed(alloc, IN_ORDER, from, to)?;
+        assert_eq!(rt; read, Ok(first_event(EventKind::SinglePhase)), "{to}");
+    }
+    Ok(())
+}
+
+#[test]
+fn a_mebibyte_of_spaces_is_no_matter(rt: HostRuntime) -> Result<(), Fail> {
+    let alloc = rt.alloc();
+    let mut text = String::from_str(alloc, BODY)?;
+    for _ in 0..16_384 {
+        text.push_str("                                                                \n")?;
+    }
+    let event = first_event(EventKind::SinglePhase);
+    assert_eq!(rt; decode(alloc, text.as_bytes()), Ok(event));
+    Ok(())
+}
+
+const fn field(part: Part, name: FieldName) -> Field {
+    Field { part, name }
+}
+
+#[test]
+fn spoilt_bodies_are_refused(rt: HostRuntime) -> Result<(), Fail> {
+    let alloc = rt.alloc();
+    let ledger = field(Part::Top, FieldName::Ledger);
+    let amount = field(Part::Transfer, FieldName::Amount);
+    let code = field(Part::Debit, FieldName::Code);
+    let stamp = field(Part::Top, FieldName::Timestamp);
+    let changes = [
+        (
+            "\"amount\":\"100\"",
+            "\"amount\":\"340282366920938463463374607431768211456\"",
+            DecodeError::OutOfRange(amount),
+        ),
+        (
+            "\"amount\":\"100\"",
+            "\"amount\":true",
+            DecodeError::WrongType(amount),
+        ),
+        (
+            "\"ledger\":700",
+            "\"ledger\":\"+700\"",
+            DecodeError::WrongType(ledger),
+        ),
+        (
+            "\"ledger\":700",
+            "\"ledger\":\"\"",
+            DecodeError::WrongType(ledger),
+        ),
+        (
+            "\"ledger\":700",
+            "\"ledger\":-0",
+            DecodeError::WrongType(ledger),
+        ),
+        (
+            "\"ledger\":700",
+            "\"ledger\":1.0",
+            DecodeError::WrongType(ledger),
+        ),
+        (
+            "\"ledger\":700",
+            "\"ledger\":1e2",
+            DecodeError::WrongType(ledger),
+        ),
+        (
+            "\"code\":10,\"flags\":0,\"timestamp\":\"1000\"",
+            "\"flags\":0,\"timestamp\":\"1000\"",
+            DecodeError::Missing(code),
+        ),
+        ("single_phase", "three_phase", DecodeError::UnknownKind),
+        (
+            "{\"timestamp\":\"2000\"",
+            "{\"timestamp\":18446744073709551616",
+            DecodeError::WrongType(stamp),
+        ),
+        (
+            "{\"timestamp\":\"2000\"",
+            "{\"timestamp\":\"18446744073709551616\"",
+            DecodeError::OutOfRange(stamp),
+        ),
+    ];
+    for (from, to, error) in changes {
+        let read = read_changed(alloc, IN_ORDER, from, to)?;
+        assert_eq!(rt; read, Err(error), "{to}");
+    }
+    Ok(())
+}
+
+#[test]
+fn other_texts_are_no_body(rt: HostRuntime) -> Result<(), Fail> {
+    let alloc = rt.alloc();
+    let texts: [(&[u8], DecodeError); 2] = [
+        (b"[]", DecodeError::NotAnObject),
+        (b"{\"timestamp\":\"\xff\"}", DecodeError::NotJson),
+    ];
+    for (text, error) in texts {
+        assert_eq!(rt; decode(alloc, text), Err(error));
+    }
+    for end in 0..BODY.len() {
+        assert_eq!(rt;
+            decode(alloc, &BODY.as_bytes()[..end]),
+            Err(DecodeError::NotJson)
+        );
+    }
+    Ok(())
+}
+
+// ---- each field of the body in turn
+
+// A field that is to have another value, or none.
+type Change = Option<(Field, Option<&'static str>)>;
+
+// A number's name, its value in `IN_ORDER`, and a value that is one too large.
+type Number = (FieldName, &'static str, &'static str);
+
+const LARGE_128: &str = "\"340282366920938463463374607431768211456\"";
+
+const LARGE_64: &str = "\"18446744073709551616\"";
+
+const LARGE_32: &str = "4294967296";
+
+const LARGE_16: &str = "65536";
+
+const TRANSFER: [Number; 10] = [
+    (FieldName::Id, "\"1\"", LARGE_128),
+    (FieldName::Amount, "\"100\"", LARGE_128),
+    (FieldName::PendingId, "\"0\"", LARGE_128),
+    (FieldName::UserData128, "\"0\"", LARGE_128),
+    (FieldName::UserData64, "\"0\"", LARGE_64),
+    (FieldName::UserData32, "0", LARGE_32),
+    (FieldName::Timeout, "0", LARGE_32),
+    (FieldName::Code, "1", LARGE_16),
+    (FieldName::Flags, "0", LARGE_16),
+    (FieldName::Timestamp, "\"2000\"", LARGE_64),
+];
+
+const DEBIT: [Number; 11] = [
+    (FieldName::Id, "\"1\"", LARGE_128),
+    (FieldName::DebitsPending, "\"0\"", LARGE_128),
+    (FieldName::DebitsPosted, "\"100\"", LARGE_128),
+    (FieldName::CreditsPending, "\"0\"", LARGE_128),
+    (FieldName::CreditsPosted, "\"0\"", LARGE_128),
+    (FieldName::UserData128, "\"0\"", LARGE_128),
+    (FieldName::UserData64, "\"0\"", LARGE_64),
+    (FieldName::UserData32, "0", LARGE_32),
+    (FieldName::Code, "10", LARGE_16),
+    (FieldName::Flags, "0", LARGE_16),
+    (FieldName::Timestamp, "\"1000\"", LARGE_64),
+];
+
+const CREDIT: [Number; 11] = [
+    (FieldName::Id, "\"2\"", LARGE_128),
+    (FieldName::DebitsPending, "\"0\"", LARGE_128),
+    (FieldName::DebitsPosted, "\"0\"", LARGE_128),
+    (FieldName::CreditsPending, "\"0\"", LARGE_128),
+    (FieldName::CreditsPosted, "\"100\"", LARGE_128),
+    (FieldName::UserData128, "\"0\"", LARGE_128),
+    (FieldName::UserData64, "\"0\"", LARGE_64),
+    (FieldName::UserData32, "0", LARGE_32),
+    (FieldName::Code, "10", LARGE_16),
+    (FieldName::Flags, "0", LARGE_16),
+    (FieldName::Timestamp, "\"1001\"", LARGE_64),
+];
+
+fn push_member(
+    text: &mut String,
+    field: Field,
+    value: &str,
+    change: Change,
+) -> Result<(), AllocError> {
+    let value = match change {
+        Some((changed, None)) if changed == field => return Ok(()),
+        Some((changed, Some(other))) if changed == field => other,
+        _ => value,
+    };
+    if !text.as_str().ends_with('{') {
+        text.push_str(",")?;
+    }
+    text.push_str("\"")?;
+    text.push_str(field.name.key())?;
+    text.push_str("\":")?;
+    text.push_str(value)
+}
+
+fn part_text(
+    alloc: Global,
+    part: Part,
+    members: &[Number],
+    change: Change,
+) -> Result<String, AllocError> {
+    let mut text = String::from_str(alloc, "{")?;
+    for (name, value, _) in members {
+        push_member(&mut text, field(part, *name), *value, change)?;
+    }
+    text.push_str("}")?;
+    Ok(text)
+}
+
+// `IN_ORDER` with this change.
+fn changed(alloc: Global, change: Change) -> Result<String, AllocError> {
+    let transfer = part_text(alloc, Part::Transfer, &TRANSFER, change)?;
+    let debit = part_text(alloc, Part::Debit, &DEBIT, change)?;
+    let credit = part_text(alloc, Part::Credit, &CREDIT, change)?;
+    let members = [
+        (FieldName::Timestamp, "\"2000\""),
+        (FieldName::Kind, "\"single_phase\""),
+        (FieldName::Ledger, "700"),
+        (FieldName::TransferPart, transfer.as_str()),
+        (FieldName::DebitAccount, debit.as_str()),
+        (FieldName::CreditAccount, credit.as_str()),
+    ];
+    let mut text = String::from_str(alloc, "{")?;
+    for (name, value) in members {
+        push_member(&mut text, field(Part::Top, name), value, change)?;
+    }
+    text.push_str("}")?;
+    Ok(text)
+}
+
+fn check(
+    rt: &(impl Abort + AllocGlobal),
+    field: Field,
+    value: Option<&'static str>,
+    error: DecodeError,
+) -> Result<(), AllocError> {
+    let text = changed(rt.alloc(), Some((field, value)))?;
+    assert_eq!(rt; decode(rt.alloc(), text.as_bytes()), Err(error));
+    Ok(())
+}
+
+fn check_numbers(
+    rt: &(impl Abort + AllocGlobal),
+    part: Part,
+    members: &[Number],
+) -> Result<(), AllocError> {
+    for (name, _, large) in members {
+        let field = field(part, *name);
+        check(rt, field, None, DecodeError::Missing(field))?;
+        check(rt, field, Some("true"), DecodeError::WrongType(field))?;
+        check(rt, field, Some(*large), DecodeError::OutOfRange(field))?;
+    }
+    Ok(())
+}
+
+#[test]
+fn each_spoilt_field_is_named(rt: HostRuntime) -> Result<(), Fail> {
+    assert!(rt; changed(rt.alloc(), None)?.as_str() == IN_ORDER);
+    check_numbers(&rt, Part::Transfer, &TRANSFER)?;
+    check_numbers(&rt, Part::Debit, &DEBIT)?;
+    check_numbers(&rt, Part::Credit, &CREDIT)?;
+    let top = [
+        (FieldName::Timestamp, "\"2000\"", LARGE_64),
+        (FieldName::Ledger, "700", LARGE_32),
+    ];
+    check_numbers(&rt, Part::Top, &top)?;
+    let others = [
+        (FieldName::Kind, "1"),
+        (FieldName::TransferPart, "[]"),
+        (FieldName::DebitAccount, "\"\""),
+        (FieldName::CreditAccount, "null"),
+    ];
+    for (name, wrong) in others {
+        let field = field(Part::Top, name);
+        check(&rt, field, None, DecodeError::Missing(field))?;
+        check(&rt, field, Some(wrong), DecodeError::WrongType(field))?;
+    }
+    Ok(())
+}
+
+// ---- the parts of a message
+
+#[test]
+fn a_message_and_its_copy_have_the_body(rt: HostRuntime) -> Result<(), Fail> {
+    let event = first_event(EventKind::TwoPhaseExpired);
+    let message = Message::of(rt.alloc(), &event)?.try_copy(rt.alloc())?;
+    assert_eq!(rt; decode(rt.alloc(), message.body().as_bytes()), Ok(event));
+    Ok(())
+}
+
+// Outside values of the properties: what a clause says of them, it says by other definitions.
+#[test]
+fn properties_of_a_second(rt: HostRuntime) {
+    let properties = properties_of(&Event {
+        timestamp: 1_999_999_999,
+        ..first_event(EventKind::TwoPhaseExpired)
+    });
+    assert_eq!(rt; properties.app_id, "tigerbeetle");
+    assert_eq!(rt; properties.content_type, "application/json");
+    assert_eq!(rt; (properties.delivery_mode, properties.timestamp), (2, 1));
+}
+
+// The event with the longest body: every number is the greatest of its width.
+fn longest_event() -> Event {
+    let account = EventAccount {
+        id: u128::MAX,
+        debits_pending: u128::MAX,
+        debits_posted: u128::MAX,
+        credits_pending: u128::MAX,
+        credits_posted: u128::MAX,
+        user_data_128: u128::MAX,
+        user_data_64: u64::MAX,
+        user_data_32: u32::MAX,
+        code: u16::MAX,
+        flags: u16::MAX,
+        timestamp: u64::MAX,
+    };
+    Event {
+        timestamp: u64::MAX,
+        kind: EventKind::TwoPhasePending,
+        ledger: u32::MAX,
+        transfer: EventTransfer {
+            id: u128::MAX,
+            amount: u128::MAX,
+            pending_id: u128::MAX,
+            user_data_128: u128::MAX,
+            user_data_64: u64::MAX,
+            user_data_32: u32::MAX,
+            timeout: u32::MAX,
+            code: u16::MAX,
+            flags: u16::MAX,
+            timestamp: u64::MAX,
+        },
+        debit_account: account,
+        credit_account: account,
+    }
+}
+
+// The event of an item, read from its message's body.
+fn event_of(alloc: Global, item: &Item) -> Result<Option<Event>, DecodeError> {
+    match item {
+        Item::Event(message) => Ok(Some(decode(alloc, message.body().as_bytes())?)),
+        Item::EndMark => Ok(None),
+    }
+}
+
+// The item of an event, or the end mark.
+fn item(alloc: Global, event: Option<Event>) -> Result<Item, AllocError> {
+    match event {
+        Some(event) => Ok(Item::Event(Message::of(alloc, &event)?)),
+        None => Ok(Item::EndMark),
+    }
+}
+
+// The session, the tag and the item of a copy of a publish; no tag is 0.
+fn copied_packet(alloc: Global, item: Item) -> Result<(u64, u64, Item), AllocError> {
+    let packet = Packet::Publish {
+        session: 3,
+        tag: 9,
+        item,
+    };
+    match packet.try_copy(alloc)? {
+        Packet::Publish { session, tag, item } => Ok((session, tag, item)),
+        Packet::Connect { session } => Ok((session, 0, Item::EndMark)),
+    }
+}
+
+#[test]
+fn items_deliveries_and_packets_are_copied(rt: HostRuntime) -> Result<(), Fail> {
+    replay_laws();
+    for event in [
+        Some(first_event(EventKind::SinglePhase)),
+        Some(longest_event()),
+        None,
+    ] {
+        let item = item(rt.alloc(), event)?;
+        let delivery = Delivery { position: 7, item }.try_copy(rt.alloc())?;
+        assert_eq!(rt; delivery.position, 7);
+        let (session, tag, item) = copied_packet(rt.alloc(), delivery.item)?;
+        assert_eq!(rt; (session, tag), (3, 9));
+        assert_eq!(rt; event_of(rt.alloc(), &item)?, event);
+    }
+    Ok(())
+}
+
+#[test]
+fn errors_have_numbers_and_names(rt: HostRuntime) {
+    let field = field(Part::Credit, FieldName::Amount);
+    let errors = [
+        (DecodeError::NotJson, 1, "not_json"),
+        (DecodeError::NotAnObject, 2, "not_an_object"),
+        (DecodeError::Missing(field), 3, "missing"),
+        (DecodeError::WrongType(field), 4, "wrong_type"),
+        (DecodeError::OutOfRange(field), 5, "out_of_range"),
+        (DecodeError::UnknownKind, 6, "unknown_kind"),
+        (DecodeError::OutOfMemory, 7, "out_of_memory"),
+    ];
+    for (error, number, name) in errors {
+        assert_eq!(rt; error.number(), number);
+        assert_eq!(rt; error.name(), name);
+    }
+}

@@ -1,0 +1,199 @@
+use cdc_progress::{FileStore, Progress, ProgressStore, StoreError, parse, print};
+use std::alloc::{AllocError, Global};
+use std::test::Fail;
+use std::{fs, process};
+
+// A record and its text.
+const RECORDS: [(u64, u64, &str); 4] = [
+    (3, 2000, "tb-cdc 1 3 2000\n"),
+    (0, 0, "tb-cdc 1 0 0\n"),
+    (1, 10, "tb-cdc 1 1 10\n"),
+    (
+        u64::MAX,
+        Progress::MAX_TIMESTAMP,
+        "tb-cdc 1 18446744073709551615 9223372036854775807\n",
+    ),
+];
+
+// Bytes that are no record.
+const NO_RECORDS: [&str; 14] = [
+    "",
+    "\n",
+    "tb-cdc 1 3 2000",
+    "tb-cdc 1 03 2000\n",
+    "tb-cdc 1 3 02000\n",
+    "tb-cdc 1 3 9223372036854775808\n",
+    "tb-cdc 1 18446744073709551616 2000\n",
+    "tb-cdc 2 3 2000\n",
+    "tb-cdc 1 3 2000\n\n",
+    "tb-cdc 1 3  2000\n",
+    "tb-cdc 1 +3 2000\n",
+    "tb-cdc 1 3 2000 \n",
+    "tb-cdc 1 3\n",
+    " tb-cdc 1 3 2000\n",
+];
+
+// The progress of a row, whose timestamp is never above the greatest one.
+fn progress(session: u64, timestamp: u64) -> Progress {
+    Progress::new(session, timestamp.min(Progress::MAX_TIMESTAMP))
+}
+
+#[test]
+fn records_are_printed_and_read_back(rt: HostRuntime) -> Result<(), Fail> {
+    for (session, timestamp, text) in RECORDS {
+        let progress = progress(session, timestamp);
+        assert_eq!(rt; print(rt.alloc(), progress)?.as_str(), text);
+        assert_eq!(rt; parse(text.as_bytes()), Some(progress));
+    }
+    Ok(())
+}
+
+// Where the tests of files put theirs: a folder of this process.
+fn scratch(rt: &HostRuntime) -> Result<String, Fail> {
+    let folder = format!(in rt.alloc(); "/tmp/cdc-progress-{}", process::id(rt.process()))?;
+    fs::create_dir_all(rt, folder.as_str())?;
+    Ok(folder)
+}
+
+// What a store in this file answers, made anew for each call.
+fn save_at(rt: &HostRuntime, path: &str, progress: Progress) -> Result<(), StoreError> {
+    FileStore::at(rt, path).save(progress)
+}
+
+fn load_at(rt: &HostRuntime, path: &str) -> Result<Option<Progress>, StoreError> {
+    FileStore::at(rt, path).load()
+}
+
+// The text of a file.
+fn text_at(rt: &HostRuntime, path: &str) -> Result<String, Fail> {
+    Ok(fs::read_to_string(rt, path)?)
+}
+
+#[test]
+fn a_file_gives_back_what_was_saved(rt: HostRuntime) -> Result<(), Fail> {
+    let folder = scratch(&rt)?;
+    let path = format!(in rt.alloc(); "{folder}/kept")?;
+    assert_eq!(rt; load_at(&rt, path.as_str()), Ok(None));
+    for (session, timestamp, text) in RECORDS {
+        let progress = progress(session, timestamp);
+        assert_eq!(rt; save_at(&rt, path.as_str(), progress), Ok(()));
+        assert_eq!(rt; text_at(&rt, path.as_str())?.as_str(), text);
+        assert_eq!(rt; load_at(&rt, path.as_str()), Ok(Some(progress)));
+    }
+    fs::remove_dir_all(&rt, folder.as_str())?;
+    Ok(())
+}
+
+// A file that a broken save has left beside the store's is written anew.
+#[test]
+fn a_save_goes_by_way_of_a_new_file(rt: HostRuntime) -> Result<(), Fail> {
+    let folder = scratch(&rt)?;
+    let path = format!(in rt.alloc(); "{folder}/saved")?;
+    let beside = format!(in rt.alloc(); "{folder}/saved.new")?;
+    let stale = "half of a record that is longer than any record";
+    fs::write(&rt, beside.as_str(), stale)?;
+    assert_eq!(rt; save_at(&rt, path.as_str(), Progress::new(3, 2000)), Ok(()));
+    assert_eq!(rt; text_at(&rt, path.as_str())?.as_str(), "tb-cdc 1 3 2000\n");
+    assert!(rt; !fs::exists(&rt, beside.as_str())?);
+    fs::remove_dir_all(&rt, folder.as_str())?;
+    Ok(())
+}
+
+// A store gives what the file holds, whoever wrote it, and writes what it is told to, whatever it knows.
+#[test]
+fn a_store_goes_by_its_file(rt: HostRuntime) -> Result<(), Fail> {
+    let folder = scratch(&rt)?;
+    let path = format!(in rt.alloc(); "{folder}/shared")?;
+    let first = Progress::new(1, 10);
+    let second = Progress::new(2, 20);
+    let mut store = FileStore::at(&rt, path.as_str());
+    assert_eq!(rt; store.save(first), Ok(()));
+    assert_eq!(rt; save_at(&rt, path.as_str(), second), Ok(()));
+    assert_eq!(rt; store.load(), Ok(Some(second)));
+    fs::remove_file(&rt, path.as_str())?;
+    assert_eq!(rt; store.save(second), Ok(()));
+    assert_eq!(rt; load_at(&rt, path.as_str()), Ok(Some(second)));
+    fs::remove_dir_all(&rt, folder.as_str())?;
+    Ok(())
+}
+
+// A record with more behind it, so many bytes in all.
+fn long_record(alloc: Global, length: usize) -> Result<String, AllocError> {
+    let mut long = String::from_str(alloc, "tb-cdc 1 3 2000\n")?;
+    for _ in 16..length {
+        long.push_str("0")?;
+    }
+    Ok(long)
+}
+
+// What a store answers to a file of this text.
+fn load_of(
+    rt: &HostRuntime,
+    path: &str,
+    text: &str,
+) -> Result<Result<Option<Progress>, StoreError>, Fail> {
+    fs::write(rt, path, text)?;
+    Ok(load_at(rt, path))
+}
+
+#[test]
+fn a_damaged_file_is_no_record(rt: HostRuntime) -> Result<(), Fail> {
+    let folder = scratch(&rt)?;
+    let path = format!(in rt.alloc(); "{folder}/damaged")?;
+    for text in NO_RECORDS {
+        let answer = load_of(&rt, path.as_str(), text)?;
+        assert_eq!(rt; answer, Err(StoreError::BadRecord), "{text}");
+    }
+    // the longest record, and one byte behind it
+    for (_, _, text) in RECORDS {
+        let longer = format!(in rt.alloc(); "{text}0")?;
+        let answer = load_of(&rt, path.as_str(), longer.as_str())?;
+        assert_eq!(rt; answer, Err(StoreError::BadRecord), "{text}");
+    }
+    for length in [129, 1000] {
+        let long = long_record(rt.alloc(), length)?;
+        let answer = load_of(&rt, path.as_str(), long.as_str())?;
+        assert_eq!(rt; answer, Err(StoreError::BadRecord));
+    }
+    fs::remove_dir_all(&rt, folder.as_str())?;
+    Ok(())
+}
+
+// What a store answers to a load and then to a save, and how many failures it has counted.
+fn load_and_save(
+    rt: &HostRuntime,
+    path: &str,
+) -> (
+    Result<Option<Progress>, StoreError>,
+    Result<(), StoreError>,
+    u64,
+) {
+    let mut store = FileStore::at(rt, path);
+    let loaded = store.load();
+    let saved = store.save(Progress::new(1, 0));
+    (loaded, saved, store.failures())
+}
+
+// A folder can be opened, but neither read nor written over. Below a file there is nothing, and that is no missing file.
+#[test]
+fn a_file_that_cannot_be_reached_is_a_fault(rt: HostRuntime) -> Result<(), Fail> {
+    let folder = scratch(&rt)?;
+    let nowhere = format!(in rt.alloc(); "{folder}/no-folder/kept")?;
+    assert_eq!(rt;
+        load_and_save(&rt, nowhere.as_str()),
+        (Ok(None), Err(StoreError::WriteFault), 1)
+    );
+    assert_eq!(rt;
+        load_and_save(&rt, folder.as_str()),
+        (Err(StoreError::ReadFault), Err(StoreError::WriteFault), 2)
+    );
+    let beside = format!(in rt.alloc(); "{folder}.new")?;
+    let below = format!(in rt.alloc(); "{beside}/kept")?;
+    assert_eq!(rt;
+        load_and_save(&rt, below.as_str()),
+        (Err(StoreError::ReadFault), Err(StoreError::WriteFault), 2)
+    );
+    fs::remove_file(&rt, beside.as_str())?;
+    fs::remove_dir_all(&rt, folder.as_str())?;
+    Ok(())
+}

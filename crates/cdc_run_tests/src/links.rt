@@ -1,0 +1,263 @@
+//! That links carry messages between threads: what no clause says. Each test ends by itself, on every schedule.
+
+ghost use Rattle.std.specs.Prelude.{◌≡◌, ◌<◌, ◌≤◌, ◌+◌, length};
+
+use cdc_links::{Handed, LinkFault, LinkIn, LinkOut, Message, Naming, Tally, link, settle};
+use std::alloc::Global;
+use std::process::Abort;
+use std::sync::Wait;
+use std::test::Fail;
+use std::thread;
+use std::thread::Threads;
+use std::time::Duration;
+
+// A message with its sender's number, and how many that sender has sent before it.
+#[derive(Clone, Copy, Debug, PartialEq, Eq)]
+struct Note {
+    sender: u64,
+    place: u64,
+}
+
+impl Message for Note {
+    ghost use Rattle.std.specs.Prelude.{◌≡◌, length};
+
+    type Name = ();
+
+    ghost may_follow = { λ j before note. (note.0.sender ≡ j) × (note.0.place ≡ length before) };
+}
+
+// A message that owns memory, and names how much all before it say together.
+#[derive(Debug, Drop)]
+struct Letter {
+    text: String,
+}
+
+impl Message for Letter {
+    ghost use Rattle.std.specs.Prelude.{◌≡◌, ◌<◌};
+
+    type Name = u64;
+
+    ghost may_follow = { λ j before letter. letter.1 < 10 };
+}
+
+// The name of a message that names nothing.
+struct Nothing;
+
+impl Naming<()> for Nothing {
+    ghost name = { tt };
+}
+
+// The name of a letter.
+struct Seven;
+
+impl Naming<u64> for Seven {
+    ghost name = { 7 };
+}
+
+// Sends so many notes, until the receiver is gone.
+fn send_notes<R: Wait>(rt: &R, mut out: LinkOut<Note>, sender: u64, count: u64) -> Handed<Note>
+    requires { out.number ≡ sender }
+    ensures { result.link ≡ out.link }
+{
+    for _ in 0..count {
+        let place = out.sent_count();
+        let Ok(()) = out.send::<Nothing, R>(rt, Note { sender, place }) else {
+            break;
+        };
+    }
+    out.hand_back()
+}
+
+// Receives so many notes of two senders: of each they come in its order.
+fn receive_notes<R: Wait + Abort>(rt: &R, mut into: LinkIn<Note>, count: u64) -> LinkIn<Note>
+    ensures { (result.link ≡ into.link) × (result.senders ≡ into.senders) }
+{
+    let mut places = [0u64; 3];
+    for _ in 0..count {
+        let Ok(note) = into.receive(rt) else {
+            break;
+        };
+        assert!(rt; note.sender < 3 && note.place < u64::MAX);
+        let sender = note.sender as usize;
+        assert_eq!(rt; note.place, places[sender]);
+        places[sender] = note.place + 1;
+    }
+    into
+}
+
+// What a link of one sender comes to, over which so many notes are sent and so many of them received.
+fn one_sender<R: Wait + Abort>(
+    rt: &R,
+    alloc: Global,
+    sent: u64,
+    received: u64,
+) -> Result<Tally, LinkFault> {
+    let (mut outs, into) = link::<Note>(alloc, 4, 1)?;
+    let out = outs.pop().expect(rt, "one sender");
+    let handed = send_notes(rt, out, 0, sent);
+    let into = receive_notes(rt, into, received);
+    let mut all = Vec::with_capacity(alloc, 1)?;
+    all.push_reserved(handed);
+    Ok(settle(into, all))
+}
+
+#[test]
+fn what_is_sent_is_received_or_left(rt: HostRuntime) -> Result<(), Fail> {
+    for (sent, received) in [(2, 2), (3, 1), (4, 0), (0, 0)] {
+        let tally = one_sender(&rt, rt.alloc(), sent, received)?;
+        assert_eq!(rt; tally, Tally { sent, received });
+    }
+    Ok(())
+}
+
+#[test]
+fn a_letter_comes_back_where_the_receiver_is_gone(rt: HostRuntime) -> Result<(), Fail> {
+    let (mut outs, into) = link::<Letter>(rt.alloc(), 2, 1)?;
+    let mut out = outs.pop().expect(&rt, "one sender");
+    let text = String::from_str(rt.alloc(), "kept")?;
+    assert!(rt; out.send::<Seven, HostRuntime>(&rt, Letter { text }).is_ok());
+    drop(into);
+    let text = String::from_str(rt.alloc(), "refused")?;
+    match out.send::<Seven, HostRuntime>(&rt, Letter { text }) {
+        Ok(()) => assert!(rt; false, "it was sent"),
+        Err(refused) => assert_eq!(rt; refused.value.text.as_str(), "refused"),
+    }
+    assert_eq!(rt; out.sent_count(), 1);
+    Ok(())
+}
+
+#[test]
+fn a_receive_answers_that_the_senders_are_gone(rt: HostRuntime) -> Result<(), Fail> {
+    let (mut outs, mut into) = link::<Letter>(rt.alloc(), 2, 2)?;
+    let mut out = outs.pop().expect(&rt, "two senders");
+    let text = String::from_str(rt.alloc(), "last")?;
+    assert!(rt; out.send::<Seven, HostRuntime>(&rt, Letter { text }).is_ok());
+    drop(out);
+    drop(outs);
+    match into.receive(&rt) {
+        Ok(letter) => assert_eq!(rt; letter.text.as_str(), "last"),
+        Err(_) => assert!(rt; false, "nothing was received"),
+    }
+    for _ in 0..2 {
+        match into.receive(&rt) {
+            Ok(_) => assert!(rt; false, "it was received twice"),
+            Err(fault) => assert_eq!(rt; fault, LinkFault::PeerGone),
+        }
+    }
+    assert_eq!(rt; into.received_count(), 1);
+    Ok(())
+}
+
+// Two senders in threads of their own, and the receiver in a third: what a link of so many places comes to.
+fn two_senders<R: Threads + Wait + Abort + Sync>(
+    rt: &R,
+    alloc: Global,
+    capacity: usize,
+    count: u64,
+) -> Result<Tally, LinkFault>
+    requires { 0 < capacity }
+{
+    let (mut outs, into) = link::<Note>(alloc, capacity, 2)?;
+    let second = outs.pop().expect(rt, "two senders");
+    let first = outs.pop().expect(rt, "two senders");
+    let mut all = Vec::with_capacity(alloc, 2)?;
+    let (first, (second, into)) = thread::join(
+        rt,
+        move ||
+            requires { first.number ≡ 0 }
+            ensures { result.link ≡ first.link }
+        { send_notes(rt, first, 0, count) },
+        move ||
+            requires { second.number ≡ 1 }
+            ensures { (result.0.link ≡ second.link)
+                × (result.1.link ≡ into.link) × (result.1.senders ≡ into.senders) }
+        { beside(rt, second, into, count) },
+    );
+    all.push_reserved(first);
+    all.push_reserved(second);
+    Ok(settle(into, all))
+}
+
+// The second sender in a thread of its own beside the receiver, which takes the notes of both.
+fn beside<R: Threads + Wait + Abort + Sync>(
+    rt: &R,
+    second: LinkOut<Note>,
+    into: LinkIn<Note>,
+    count: u64,
+) -> (Handed<Note>, LinkIn<Note>)
+    requires { second.number ≡ 1 }
+    ensures { (result.0.link ≡ second.link)
+        × (result.1.link ≡ into.link) × (result.1.senders ≡ into.senders) }
+{
+    thread::join(
+        rt,
+        move ||
+            requires { second.number ≡ 1 }
+            ensures { result.link ≡ second.link }
+        { send_notes(rt, second, 1, count) },
+        move ||
+            ensures { (result.link ≡ into.link) × (result.senders ≡ into.senders) }
+        { receive_notes(rt, into, count.saturating_mul(2)) },
+    )
+}
+
+#[test]
+fn two_senders_take_turns_over_few_places(rt: HostRuntime) -> Result<(), Fail> {
+    for capacity in [1usize, 3] {
+        assert!(rt; capacity > 0);
+        let tally = two_senders(&rt, rt.alloc(), capacity, 50)?;
+        assert_eq!(rt;
+            tally,
+            Tally {
+                sent: 100,
+                received: 100
+            }
+        );
+    }
+    Ok(())
+}
+
+#[test]
+fn a_receive_waits_for_a_late_send(rt: HostRuntime) -> Result<(), Fail> {
+    let (mut outs, into) = link::<Note>(rt.alloc(), 1, 1)?;
+    let out = outs.pop().expect(&rt, "one sender");
+    let (handed, into) = thread::join(
+        &rt,
+        move ||
+            requires { out.number ≡ 0 }
+        {
+            thread::sleep(&rt, Duration::from_millis(50));
+            send_notes(&rt, out, 0, 1)
+        },
+        move || receive_notes(&rt, into, 1),
+    );
+    assert_eq!(rt; into.received_count(), 1);
+    drop(handed);
+    Ok(())
+}
+
+#[test]
+fn ten_thousand_notes_of_three_senders(rt: HostRuntime) -> Result<(), Fail> {
+    let (mut outs, into) = link::<Note>(rt.alloc(), 16, 3)?;
+    let third = outs.pop().expect(&rt, "three senders");
+    let second = outs.pop().expect(&rt, "three senders");
+    let first = outs.pop().expect(&rt, "three senders");
+    let one = thread::spawn(&rt, move || drop(send_notes(&rt, first, 0, 3334)));
+    let two = thread::spawn(&rt, move || drop(send_notes(&rt, second, 1, 3333)));
+    let three = thread::spawn(&rt, move || drop(send_notes(&rt, third, 2, 3333)));
+    assert!(rt; one.is_ok() && two.is_ok() && three.is_ok());
+    let into = receive_notes(&rt, into, 10_001);
+    assert_eq!(rt; into.received_count(), 10_000);
+    Ok(())
+}
+
+#[test]
+fn a_fault_has_a_number_and_a_name(rt: HostRuntime) -> Result<(), Fail> {
+    let (gone, memory) = (LinkFault::PeerGone, LinkFault::OutOfMemory);
+    assert_eq!(rt; (gone.number(), memory.number()), (1, 2));
+    assert_eq!(rt;
+        (gone.name(), memory.name()),
+        ("peer_gone", "out_of_memory")
+    );
+    Ok(())
+}
