@@ -1,10 +1,11 @@
 -- Simulations, act by act, and the subscribers of a world, one after another.
-use Rattle.std.proofs.Common.{◌≡◌, ◌∙◌, ℕ, ◌+◌, ◌-◌, List, [], ◌∷◌, ◌++◌, Some, None, true, false, drop, append_assoc, append-nil, refl, sym, ap, ap₂, subst, inl, inr, arith, rules}
-use Rattle.std.specs.Prelude.{IfOk, Option, Ok, Err, Result, ◌==◌, is_some, option_map}
+use Rattle.std.proofs.Common.{◌≡◌, ◌∙◌, ℕ, ◌+◌, ◌-◌, ◌<◌, ◌≤◌, ◌⊎◌, List, [], ◌∷◌, ◌++◌, Some, None, true, false, drop, append_assoc, append-nil, refl, sym, ap, ap₂, subst, inl, inr, arith, rules, length, get_or}
+use Rattle.std.specs.Prelude.{IfOk, Option, Ok, Err, Result, ◌==◌, if◌then◌else◌, is_some, option_map}
 use Rattle.std.specs.declared.alloc.AllocError.{AllocError}
 use Rattle.std.specs.List.{slice_get}
-use Rattle.std.proofs.lemmas.List.{drop_more}
-use Rattle.std.proofs.lemmas.Option.{slice_get_within, get_or_from_slice_get}
+use Rattle.std.proofs.lemmas.Bool.{false≢true}
+use Rattle.std.proofs.lemmas.List.{drop_all, drop_more}
+use Rattle.std.proofs.lemmas.Option.{get_or_from_slice_get, slice_get_cases, slice_get_within}
 use Rattle.cdc_progress.specs.Records.{Saved}
 use Rattle.cdc_subscriber.specs.Heard.{kept_of}
 use Rattle.cdc_subscriber.specs.Kept.{Kept}
@@ -145,12 +146,59 @@ act_answered batches stage a want new result is answered =
     subst (λ x. IfOk result (λ refusal. (after : Stage) × (IsAt new after × AnswersTo stage x refusal after)))
     is answered
 
--- `batch` asks for the next batch of the script
-pub next_batch : (batches : List ClientBatch) (n m : ℕ) (b : ClientBatch) → slice_get batches n ≡ Some b → n ≡ m
-    → Some (step.Submit b.batch, n + 1) ≡ step_for batches m act.Batch
-next_batch batches n m b found same =
-    sym (ap (option_map (λ (x : ClientBatch). (step.Submit x.batch, n + 1))) found)
-    ∙ ap (λ k. step_for batches k act.Batch) same
+-- lists that are the same begin with the same element, so it is what was found
+same_heads : {X : Type 0} (x y : X) (xs ys : List X) (found : Option X) → x ∷ xs ≡ y ∷ ys → found ≡ Some y
+    → (found ≡ Some x) × (xs ≡ ys)
+same_heads x y xs ys found same is = (cc, cc)
+
+-- an element and more aren't nothing
+not_nothing : {X : Type 0} (x : X) (xs : List X) → x ∷ xs ≡ [] → ⊥
+not_nothing x xs same = cc
+
+-- a place of a list has an element, or is past the end
+abbrev Found : {X : Type 0} → List X → ℕ → Type 0
+Found {X} xs n = ((y : X) × (n < length xs) × (slice_get xs n ≡ Some y) × (get_or xs n y ≡ y))
+    ⊎ ((length xs ≤ n) × (slice_get xs n ≡ None))
+
+-- what is left of a list behind so many elements begins with the one at that place
+left_found : {X : Type 0} (xs : List X) (n : ℕ) (x : X) (left : List X) → drop n xs ≡ x ∷ left → Found xs n
+    → (slice_get xs n ≡ Some x) × (left ≡ drop (n + 1) xs)
+left_found xs n x left is (inl at) =
+    same_heads x at.0 left (drop (n + 1) xs) (slice_get xs n) (sym is ∙ drop_found xs n at.0 at.2) at.2
+left_found xs n x left is (inr past) = absurd (not_nothing x left (sym is ∙ drop_all n xs past.0))
+
+pub next_left : {X : Type 0} (xs : List X) (n : ℕ) (x : X) (left : List X) → drop n xs ≡ x ∷ left
+    → (slice_get xs n ≡ Some x) × (left ≡ drop (n + 1) xs)
+next_left xs n x left is = left_found xs n x left is (slice_get_cases xs n).1
+
+-- where nothing is left, no element stands there
+none_found : {X : Type 0} (xs : List X) (n : ℕ) → drop n xs ≡ [] → Found xs n → slice_get xs n ≡ None
+none_found xs n is (inl at) =
+    absurd (not_nothing at.0 (drop (n + 1) xs) (sym (drop_found xs n at.0 at.2) ∙ is))
+none_found xs n is (inr past) = past.1
+
+pub none_left : {X : Type 0} (xs : List X) (n : ℕ) → drop n xs ≡ [] → slice_get xs n ≡ None
+none_left xs n is = none_found xs n is (slice_get_cases xs n).1
+
+-- `batch` asks for the first of the batches that are left
+pub next_batch : (batches : List ClientBatch) (k n m : ℕ) (b : ClientBatch) (left : List ClientBatch)
+    → b ∷ left ≡ drop n batches → k ≡ n → n ≡ m → Some (step.Submit b.batch, k + 1) ≡ step_for batches m act.Batch
+next_batch batches k n m b left first counted same =
+    ap (λ i. Some (step.Submit b.batch, i + 1)) counted
+    ∙ sym (ap (option_map (λ (x : ClientBatch). (step.Submit x.batch, n + 1)))
+    (next_left batches n b left (sym first)).0)
+    ∙ ap (λ i. step_for batches i act.Batch) same
+
+-- once it is done, those behind it are left
+pub left_behind : (batches : List ClientBatch) (k n m : ℕ) (b : ClientBatch) (left : List ClientBatch)
+    (result : Result (Option StepError) AllocError) → b ∷ left ≡ drop n batches → k ≡ n
+    → IfOk result (λ refusal. m ≡ (if is_some refusal then n else k + 1))
+    → IfOk result (λ refusal. is_some refusal ≡ false → left ≡ drop m batches)
+left_behind batches k n m b left (Ok None) first counted count =
+    λ none. (next_left batches n b left (sym first)).1
+    ∙ ap (λ i. drop i batches) (sym (count ∙ ap (λ i. i + 1) counted))
+left_behind batches k n m b left (Ok (Some why)) first counted count = λ none. absurd (false≢true (sym none))
+left_behind batches k n m b left (Err e) first counted count = tt
 
 -- a step that is done
 pub step_done : (old new : SimulationParts) (stage : Stage) (taken : Step) (n : ℕ) (did : Did) → IsAt old stage

@@ -1,3 +1,4 @@
+pub mod Checked
 pub mod Feeds
 pub mod Held
 pub mod Messages

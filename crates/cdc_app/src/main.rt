@@ -21,7 +21,7 @@ mod telling;
 
 use advice::{advise, advise_on_steps};
 use commands::books::books;
-use commands::check::check;
+use commands::check::{check, check_files};
 use commands::messages::messages;
 use commands::simulate::simulate_command;
 use endings::Ending;
@@ -135,7 +135,11 @@ fn run_simulation(
     if !said {
         advise_on_steps(rt, file, steps, ending);
     }
-    if let (Some(printed), false) = (printed.bytes(), telling.explain) {
+    if let (Ending::Done | Ending::Refused(_), Some(printed), false) = (
+        ending,
+        printed.bytes(),
+        telling.explain,
+    ) {
         hint(rt, printed);
     }
     ending
@@ -156,14 +160,13 @@ fn run_check(rt: &HostRuntime, file: &str, steps: Option<&str>) -> Ending {
     let mut writer = io::writer(rt);
     match steps {
         None => {
-            let none: Option<&mut Source> = None;
-            let ending = check(rt.alloc(), &mut script, none, &mut writer);
+            let ending = check(rt.alloc(), &mut script, &mut writer);
             advise(rt, file, ending);
             ending
         }
         Some(steps) => {
             let mut step_file = Source::of_file(rt, steps);
-            let ending = check(rt.alloc(), &mut script, Some(&mut step_file), &mut writer);
+            let ending = check_files(rt.alloc(), &mut script, &mut step_file, &mut writer);
             advise_on_steps(rt, file, steps, ending);
             ending
         }

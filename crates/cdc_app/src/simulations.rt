@@ -1,6 +1,9 @@
 //! Simulations: a world over the batches of a script, moved by the acts of a step file.
 
-ghost use Rattle.std.specs.Prelude.{◌≡◌, ◌^◌, ◌<◌, ◌≤◌, ℕ, IfErr, IfOk, OnOk, Some, length};
+ghost use Rattle.std.specs.Prelude.{◌≡◌, ◌^◌, ◌<◌, ◌≤◌, ◌+◌, List, false, IfErr, IfOk, OnOk, Some};
+ghost use Rattle.std.specs.Prelude.{drop, if◌then◌else◌, is_some, length};
+ghost use Rattle.std.specs.Vec.Iter.{into_iter_items};
+ghost use Rattle.cdc_script.specs.declared.scripts.ClientBatch.{ClientBatch as Said};
 ghost use Rattle.cdc_app.specs.Options.{IsWindow};
 ghost use Rattle.cdc_app.specs.Private.Stages.{IsAt, IsSimulationFault};
 ghost use Rattle.cdc_app.specs.Simulations.{ActsTo, AnswersTo, PlaysActs, Simulates, Stage};
@@ -16,6 +19,7 @@ use cdc_script::{Act, ClientBatch, Script};
 use cdc_world::{Played, Step, StepError, World};
 use std::alloc::{AllocError, Global};
 use std::marker::Model;
+use std::vec::IntoIter;
 
 /// What is printed of a simulation, and why a step was refused, if one was.
 #[derive(Drop)]
@@ -67,7 +71,7 @@ pub fn play_script(
 {
     let Script { bindings, batches } = script;
     let mut simulation = Simulation::new(alloc, bindings.into_vec(), window)?;
-    let played = simulation.play(alloc, batches.as_slice(), acts)?;
+    let played = simulation.play(alloc, batches.into_vec(), acts)?;
     let text = simulation.into_text(played, acts.len())?;
     Ok(Simulated {
         text,
@@ -90,21 +94,22 @@ impl Simulation {
         })
     }
 
-    /// Plays acts up to the first that is refused.
+    /// Plays acts over the batches of a script, up to the first act that is refused.
     fn play(
         &mut self,
         alloc: Global,
-        batches: &[ClientBatch],
+        batches: Vec<ClientBatch>,
         acts: &[Act],
     ) -> Result<Played, AllocError>
         requires none { self.old.batches ≡ 0 }
         ensures plays { (stage : Stage) → IsAt self.old stage → stage.done ≡ 0
             → IfOk result (λ played. (end : Stage) × (IsAt self.new end × ((end.done ≡ played.done)
-            × PlaysActs batches.now stage acts.now played.refusal end))) }
+            × PlaysActs batches.items stage acts.now played.refusal end))) }
         ensures count { IfOk result (λ played. played.done ≤ length acts.now) }
     {
+        let mut left = batches.into_iter();
         for (done, act) in acts.iter().enumerate() {
-            let refusal = self.play_act(alloc, batches, act)?;
+            let refusal = self.play_act(alloc, &mut left, act)?;
             if refusal.is_some() {
                 return Ok(Played { done, refusal });
             }
@@ -115,30 +120,32 @@ impl Simulation {
         })
     }
 
-    /// Plays an act, or says why it is refused.
+    /// Plays an act, or says why it is refused. Left are the batches behind those that are done.
     fn play_act(
         &mut self,
         alloc: Global,
-        batches: &[ClientBatch],
+        left: &mut IntoIter<ClientBatch>,
         act: &Act,
     ) -> Result<Option<StepError>, AllocError>
-        requires within { self.old.batches ≤ length batches.now }
-        ensures acts { (stage : Stage) → IsAt self.old stage → IfOk result (λ refusal.
-            (after : Stage) × (IsAt self.new after
-            × ActsTo batches.now stage act.now refusal after)) }
-        ensures within { OnOk result (self.new.batches ≤ length batches.now) }
+        requires few { self.old.batches < 2 ^ 63 }
+        ensures acts { (batches : List Said) → into_iter_items left.old ≡ drop self.old.batches batches
+            → (stage : Stage) → IsAt self.old stage → IfOk result (λ refusal. (after : Stage)
+            × (IsAt self.new after × ActsTo batches stage act.now refusal after)) }
+        ensures left { (batches : List Said) → into_iter_items left.old ≡ drop self.old.batches batches
+            → IfOk result (λ refusal. is_some refusal ≡ false
+            → into_iter_items left.new ≡ drop self.new.batches batches) }
+        ensures count { OnOk result (self.new.batches ≤ self.old.batches + 1) }
     {
         match act {
             Act::Step(step) => {
                 let batches_done = self.batches;
                 self.play_step(alloc, step, batches_done)
             }
-            Act::Batch => match batches.get(self.batches) {
+            Act::Batch => match left.next() {
                 None => Ok(Some(StepError::NotEnabled)),
                 Some(item) => {
                     let batches_done = self.batches + 1;
-                    let step = Step::Submit(item.batch.try_copy(alloc)?);
-                    self.play_step(alloc, &step, batches_done)
+                    self.play_step(alloc, &Step::Submit(item.batch), batches_done)
                 }
             },
         }
@@ -155,8 +162,8 @@ impl Simulation {
         ensures answers { (stage : Stage) → IsAt self.old stage → IfOk result (λ refusal.
             (after : Stage) × (IsAt self.new after
             × AnswersTo stage (Some (step.now, batches_done)) refusal after)) }
-        ensures within { (most : ℕ) → self.old.batches ≤ most → batches_done ≤ most
-            → OnOk result (self.new.batches ≤ most) }
+        ensures count { IfOk result (λ refusal. self.new.batches
+            ≡ (if is_some refusal then self.old.batches else batches_done)) }
     {
         match self.world.step(alloc, step) {
             Ok(did) => {

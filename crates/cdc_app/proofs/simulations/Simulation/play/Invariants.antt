@@ -1,4 +1,5 @@
-use Rattle.std.proofs.Common.{◌≡◌, ◌≤◌, length}
+use Rattle.std.proofs.Common.{◌≡◌, ◌≤◌, drop}
+use Rattle.std.specs.Vec.Iter.{into_iter_items}
 use Rattle.cdc_app.specs.Private.Stages.{IsAt}
 use Rattle.cdc_app.specs.Simulations.{Stage}
 use Rattle.cdc_app.proofs.SimulationLemmas.{HasCome}
@@ -6,6 +7,8 @@ use Rattle.cdc_app.proofs.simulations.Simulation.play.Given as goal
 
 abbrev pub invariant-loop-done : goal.invariant-loop-done
 invariant-loop-done l = record {
-  within : l.self.batches ≤ length l.batches;
-  come : (stage : Stage) → IsAt l.fn.self stage → stage.done ≡ 0 → HasCome l.batches l.acts stage l.done l.self;
+  left : into_iter_items l.left ≡ drop l.self.batches l.fn.batches.items;
+  few : l.self.batches ≤ l.done;
+  come : (stage : Stage) → IsAt l.fn.self stage → stage.done ≡ 0
+      → HasCome l.fn.batches.items l.acts stage l.done l.self;
 }

@@ -5,7 +5,7 @@ use std::fmt;
 
 /// A step, printed by its words.
 #[derive(Clone, Copy)]
-pub struct StepWords<'a>(pub &'a Step);
+pub(crate) struct StepWords<'a>(pub &'a Step);
 
 impl fmt::Display for StepWords<'_> {
     fn fmt<W: fmt::Write>(&self, f: &mut fmt::Formatter<W>) -> fmt::Result {

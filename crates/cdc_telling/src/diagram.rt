@@ -1,19 +1,19 @@
 //! The steps of a simulation as a sequence diagram, in Mermaid's text (Mermaid, Sequence diagrams).
 
-use crate::telling::deeds::{ConnectorDeed, Deed, QueueDeed, packet_sentence};
-use crate::telling::sentences::Sentence;
+use crate::deeds::{ConnectorDeed, Deed, QueueDeed, packet_sentence};
+use crate::sentences::Sentence;
 use std::alloc::{AllocError, Global};
 
 /// A diagram so far. The ledger is L, the connector C, the broker B and subscriber I is SI.
 #[derive(Drop)]
-pub struct Diagram {
+pub(crate) struct Diagram {
     /// Its text.
     text: String,
 }
 
 impl Diagram {
     /// A diagram without steps, with so many subscribers.
-    pub fn new(alloc: Global, subscribers: usize) -> Result<Diagram, AllocError> {
+    pub(crate) fn new(alloc: Global, subscribers: usize) -> Result<Diagram, AllocError> {
         let mut text = String::from_str(alloc, "sequenceDiagram\n")?;
         text.push_str("    participant L as ledger\n")?;
         text.push_str("    participant C as connector\n")?;
@@ -25,13 +25,13 @@ impl Diagram {
         Ok(Diagram { text })
     }
 
-    /// The text.
-    pub fn text(&self) -> &str {
-        self.text.as_str()
+    /// The text, on its own.
+    pub(crate) fn into_text(self) -> String {
+        self.text
     }
 
     /// Adds what a step did: an arrow from an actor to another one, or a note over one of them, and what is said of it.
-    pub fn push(&mut self, deed: Deed) -> Result<(), AllocError> {
+    pub(crate) fn push(&mut self, deed: Deed) -> Result<(), AllocError> {
         let arrow = arrow(deed);
         let sentence = label(deed);
         writeln!(self.text, "    {arrow}{sentence}")

@@ -4,7 +4,7 @@ use std::alloc::{AllocError, Global};
 
 /// The lines of a script's batches and of their items, numbered from 1.
 #[derive(Drop)]
-pub struct Places {
+pub(crate) struct Places {
     /// The line of each batch.
     batches: Vec<u64>,
     /// The line of each item, those of a later batch after those of an earlier one.
@@ -13,7 +13,7 @@ pub struct Places {
 
 impl Places {
     /// The lines of a script's batches and items.
-    pub fn of(alloc: Global, script: &[u8]) -> Result<Places, AllocError> {
+    pub(crate) fn of(alloc: Global, script: &[u8]) -> Result<Places, AllocError> {
         let mut batches = Vec::new(alloc);
         let mut items = Vec::new(alloc);
         let mut number: u64 = 0;
@@ -29,18 +29,18 @@ impl Places {
     }
 
     /// The line of the batch at this place, from 0; 0 where there is none.
-    pub fn batch(&self, place: usize) -> u64 {
+    pub(crate) fn batch(&self, place: usize) -> u64 {
         self.batches.get(place).copied().unwrap_or(0)
     }
 
     /// The line of the item at this place among all, from 0; 0 where there is none.
-    pub fn item(&self, place: usize) -> u64 {
+    pub(crate) fn item(&self, place: usize) -> u64 {
         self.items.get(place).copied().unwrap_or(0)
     }
 }
 
 /// The line of the step at this place, from 0; 0 where there is none.
-pub fn step_line(steps: &[u8], place: usize) -> u64 {
+pub(crate) fn step_line(steps: &[u8], place: usize) -> u64 {
     let mut number: u64 = 0;
     let mut left = place;
     for line in steps.split(|byte| *byte == b'\n') {

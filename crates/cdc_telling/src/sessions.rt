@@ -1,10 +1,10 @@
 //! The connector's session, as far as steps tell.
 
-use crate::telling::cargo::{Cargo, Packet};
+use crate::cargo::{Cargo, Packet};
 
 /// A session: which events it was offered, and what it waits for. Events are told by how many of the log there are.
 #[derive(Clone, Copy)]
-pub struct Session {
+pub(crate) struct Session {
     /// Its number.
     pub number: u64,
     /// How many events it was offered, with those that it began after.
@@ -27,7 +27,7 @@ pub struct Session {
 
 impl Session {
     /// A session of this number that begins after so many events.
-    pub fn new(number: u64, saved: usize) -> Session {
+    pub(crate) fn new(number: u64, saved: usize) -> Session {
         Session {
             number,
             offered: saved,
@@ -42,13 +42,13 @@ impl Session {
     }
 
     /// It was offered the next event.
-    pub fn take_event(&mut self) {
+    pub(crate) fn take_event(&mut self) {
         self.offered = self.offered.saturating_add(1);
         self.unsent = true;
     }
 
     /// It sends its next packet; the last event that it was offered has this timestamp.
-    pub fn next_packet(&mut self, timestamp: u64) -> Packet {
+    pub(crate) fn next_packet(&mut self, timestamp: u64) -> Packet {
         if !self.connected {
             self.connected = true;
             return Packet::Connect {
@@ -79,7 +79,7 @@ impl Session {
     }
 
     /// The confirm that it waits for came.
-    pub fn take_confirm(&mut self) {
+    pub(crate) fn take_confirm(&mut self) {
         self.unconfirmed = None;
         self.confirmed = self.offered;
     }

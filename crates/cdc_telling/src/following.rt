@@ -1,11 +1,11 @@
 //! What is kept of a simulation's steps beside its world, which doesn't show what was sent and what is waited for.
 
-use crate::telling::cargo::{Confirm, Packet};
-use crate::telling::deeds::{ConnectorDeed, Deed, QueueDeed};
-use crate::telling::lanes::Lane;
-use crate::telling::results::{accepted_count, item_count};
-use crate::telling::sentences::Sentence;
-use crate::telling::sessions::Session;
+use crate::cargo::{Confirm, Packet};
+use crate::deeds::{ConnectorDeed, Deed, QueueDeed};
+use crate::lanes::Lane;
+use crate::results::{accepted_count, item_count};
+use crate::sentences::Sentence;
+use crate::sessions::Session;
 use cdc_ledger::Ledger;
 use cdc_match::Binding;
 use cdc_types::{Batch, BatchResults, Step};
@@ -14,7 +14,7 @@ use std::alloc::{AllocError, Global};
 
 /// All that steps tell: of the connector, of the packets and confirms that were ever sent, and of the queues.
 #[derive(Drop)]
-pub struct Followed {
+pub(crate) struct Followed {
     /// How many batches the ledger took.
     pub batches: usize,
     /// How many sessions were started.
@@ -36,7 +36,7 @@ pub struct Followed {
 }
 
 /// The place of a number that counts from 1; a place past all for 0.
-pub fn place_of(number: u64) -> usize {
+pub(crate) fn place_of(number: u64) -> usize {
     number.wrapping_sub(1) as usize
 }
 
@@ -50,7 +50,7 @@ fn timestamp_of(ledger: &Ledger, count: usize) -> u64 {
 
 impl Followed {
     /// What is kept where nothing has happened, with a queue for each binding.
-    pub fn new(alloc: Global, bindings: &[Binding]) -> Result<Followed, AllocError> {
+    pub(crate) fn new(alloc: Global, bindings: &[Binding]) -> Result<Followed, AllocError> {
         let mut lanes = Vec::new(alloc);
         for binding in bindings {
             lanes.push(Lane::new(alloc, binding.try_copy(alloc)?))?;
@@ -69,7 +69,12 @@ impl Followed {
     }
 
     /// Follows a step that was done, and says what it did. The ledger is that after it.
-    pub fn follow(&mut self, step: &Step, did: &Did, ledger: &Ledger) -> Result<Deed, AllocError> {
+    pub(crate) fn follow(
+        &mut self,
+        step: &Step,
+        did: &Did,
+        ledger: &Ledger,
+    ) -> Result<Deed, AllocError> {
         match step {
             Step::Submit(batch) => Ok(self.follow_batch(batch, did)),
             Step::CloseLedger => Ok(Deed::LedgerClosed),

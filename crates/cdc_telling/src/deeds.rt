@@ -1,12 +1,12 @@
 //! What a step of a simulation did, and how that is said.
 
-use crate::telling::cargo::{Cargo, Confirm, Packet};
-use crate::telling::sentences::Sentence;
+use crate::cargo::{Cargo, Confirm, Packet};
+use crate::sentences::Sentence;
 use cdc_subscriber::Taking;
 
 /// What a step did. Numbers count from 1; timestamps are in nanoseconds.
 #[derive(Clone, Copy)]
-pub enum Deed {
+pub(crate) enum Deed {
     /// The ledger took a batch.
     Submitted {
         batch: usize,
@@ -30,7 +30,7 @@ pub enum Deed {
 
 /// What a step of the connector did, or one of what goes between it and the broker.
 #[derive(Clone, Copy)]
-pub enum ConnectorDeed {
+pub(crate) enum ConnectorDeed {
     /// A session started, after the event of this timestamp, 0 where that is none.
     Started {
         session: u64,
@@ -76,7 +76,7 @@ pub enum ConnectorDeed {
 
 /// What a step of a queue or its subscriber did, or one of what goes between them.
 #[derive(Clone, Copy)]
-pub enum QueueDeed {
+pub(crate) enum QueueDeed {
     /// The queue handed out an item.
     Sent {
         position: usize,
@@ -108,7 +108,7 @@ pub enum QueueDeed {
 
 impl Deed {
     /// What the step did, in words.
-    pub fn sentence(self) -> Sentence {
+    pub(crate) fn sentence(self) -> Sentence {
         match self {
             Deed::Submitted {
                 batch,
@@ -188,7 +188,7 @@ fn offer_sentence(event: Option<u64>, complete: bool) -> Sentence {
 }
 
 /// A packet of this number.
-pub fn packet_sentence(number: u64, packet: Packet) -> Sentence {
+pub(crate) fn packet_sentence(number: u64, packet: Packet) -> Sentence {
     match packet {
         Packet::Connect { session } => {
             Sentence::Two(

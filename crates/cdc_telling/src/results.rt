@@ -1,7 +1,7 @@
 //! What each result of an item that wasn't accepted means: a sentence for each, with the numbers of the request and of the
 //! ledger that it speaks of.
 
-use crate::telling::sentences::Sentence;
+use crate::sentences::Sentence;
 use cdc_ledger::{BatchError, Ledger};
 use cdc_types::{
     AccountResult, Batch, BatchResults, Limits, NewAccount, NewTransfer, Transfer, TransferResult,
@@ -11,7 +11,7 @@ use cdc_types::{
 const SECOND: u128 = 1_000_000_000;
 
 /// Why an account wasn't made.
-pub fn account_sentence(answer: AccountResult, request: &NewAccount) -> Sentence {
+pub(crate) fn account_sentence(answer: AccountResult, request: &NewAccount) -> Sentence {
     let id = request.id;
     match answer {
         AccountResult::Accepted => Sentence::Plain("it was accepted"),
@@ -35,7 +35,7 @@ pub fn account_sentence(answer: AccountResult, request: &NewAccount) -> Sentence
 }
 
 /// Why a transfer wasn't made by a ledger, which stands after it as it does now.
-pub fn transfer_sentence(
+pub(crate) fn transfer_sentence(
     answer: TransferResult,
     request: &NewTransfer,
     ledger: &Ledger,
@@ -257,7 +257,7 @@ fn expires_at(pending: &Transfer) -> u128 {
 }
 
 /// Why a batch was refused as a whole.
-pub fn batch_sentence(refusal: BatchError, batch: &Batch) -> Sentence {
+pub(crate) fn batch_sentence(refusal: BatchError, batch: &Batch) -> Sentence {
     match refusal {
         BatchError::LedgerClosed => Sentence::Plain(
             "the ledger is closed, and takes no more batches",
@@ -277,7 +277,7 @@ pub fn batch_sentence(refusal: BatchError, batch: &Batch) -> Sentence {
 }
 
 /// How many items a batch has.
-pub fn item_count(batch: &Batch) -> usize {
+pub(crate) fn item_count(batch: &Batch) -> usize {
     match batch {
         Batch::Accounts { items, .. } => items.as_slice().len(),
         Batch::Transfers { items, .. } => items.as_slice().len(),
@@ -286,7 +286,7 @@ pub fn item_count(batch: &Batch) -> usize {
 }
 
 /// How many items of a batch were accepted.
-pub fn accepted_count(results: &BatchResults) -> usize {
+pub(crate) fn accepted_count(results: &BatchResults) -> usize {
     match results {
         BatchResults::Accounts(results) => results
             .as_slice()

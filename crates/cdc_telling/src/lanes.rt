@@ -1,6 +1,6 @@
 //! A queue of the broker with what is on its way to its subscriber, as far as steps tell.
 
-use crate::telling::cargo::Cargo;
+use crate::cargo::Cargo;
 use cdc_ledger::Ledger;
 use cdc_match::Binding;
 use cdc_message::headers_of;
@@ -9,7 +9,7 @@ use std::collections::VecDeque;
 
 /// A queue, and the deliveries and acknowledgements between it and its subscriber. Positions count from 1.
 #[derive(Drop)]
-pub struct Lane {
+pub(crate) struct Lane {
     /// Which events belong to the queue.
     binding: Binding,
     /// What came to the queue.
@@ -26,7 +26,7 @@ pub struct Lane {
 
 impl Lane {
     /// A queue that nothing came to.
-    pub fn new(alloc: Global, binding: Binding) -> Lane {
+    pub(crate) fn new(alloc: Global, binding: Binding) -> Lane {
         Lane {
             binding,
             queue: Vec::new(alloc),
@@ -38,22 +38,22 @@ impl Lane {
     }
 
     /// How many items came to the queue.
-    pub fn len(&self) -> usize {
+    pub(crate) fn len(&self) -> usize {
         self.queue.len()
     }
 
     /// How many acknowledgements the subscriber gave.
-    pub fn ack_count(&self) -> usize {
+    pub(crate) fn ack_count(&self) -> usize {
         self.acks.len()
     }
 
     /// Whether nothing is on its way to the subscriber.
-    pub fn is_still(&self) -> bool {
+    pub(crate) fn is_still(&self) -> bool {
         self.flight.is_empty()
     }
 
     /// An item comes to the queue, if it belongs to it.
-    pub fn take_in(&mut self, cargo: Cargo, ledger: &Ledger) -> Result<(), AllocError> {
+    pub(crate) fn take_in(&mut self, cargo: Cargo, ledger: &Ledger) -> Result<(), AllocError> {
         if self.wants(cargo, ledger) {
             self.queue.push(cargo)?;
         }
@@ -72,7 +72,7 @@ impl Lane {
     }
 
     /// The item at the cursor is on its way now: its position, and what it is.
-    pub fn hand_out(&mut self) -> Result<Option<(usize, Cargo)>, AllocError> {
+    pub(crate) fn hand_out(&mut self) -> Result<Option<(usize, Cargo)>, AllocError> {
         let Some(cargo) = self.queue.get(self.cursor).copied() else {
             return Ok(None);
         };
@@ -82,7 +82,7 @@ impl Lane {
     }
 
     /// The subscriber takes and acknowledges what comes first: its position, and what it is.
-    pub fn take(&mut self) -> Result<Option<(usize, Cargo)>, AllocError> {
+    pub(crate) fn take(&mut self) -> Result<Option<(usize, Cargo)>, AllocError> {
         let Some(position) = self.flight.pop_front() else {
             return Ok(None);
         };
@@ -92,20 +92,20 @@ impl Lane {
     }
 
     /// The queue goes back to the first position that isn't acknowledged, which is answered.
-    pub fn rewind(&mut self) -> usize {
+    pub(crate) fn rewind(&mut self) -> usize {
         self.cursor = self.acked;
         self.acked.saturating_add(1)
     }
 
     /// What is on its way is lost: how much that was.
-    pub fn lose_flight(&mut self) -> usize {
+    pub(crate) fn lose_flight(&mut self) -> usize {
         let lost = self.flight.len();
         self.flight.clear();
         lost
     }
 
     /// An acknowledgement that was given comes to the queue: up to which position all are acknowledged now.
-    pub fn acknowledge(&mut self, place: usize) -> usize {
+    pub(crate) fn acknowledge(&mut self, place: usize) -> usize {
         if let Some(position) = self.acks.get(place).copied() {
             self.acked = self.acked.max(position);
             self.cursor = self.cursor.max(self.acked);

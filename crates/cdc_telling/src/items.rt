@@ -1,14 +1,14 @@
 //! Why items of a script weren't accepted: a line for each of them.
 
-use crate::telling::places::Places;
-use crate::telling::results::{account_sentence, batch_sentence, item_count, transfer_sentence};
+use crate::places::Places;
+use crate::results::{account_sentence, batch_sentence, item_count, transfer_sentence};
 use cdc_ledger::{BatchError, Ledger};
 use cdc_types::{AccountResult, Batch, BatchResults, NewAccount, NewTransfer, TransferResult};
 use std::alloc::{AllocError, Global};
 
 /// The lines so far, and how far a script was gone through.
 #[derive(Drop)]
-pub struct ItemLines<'a> {
+pub(crate) struct ItemLines<'a> {
     /// The script, as it is named to a person.
     name: &'a str,
     /// Where its batches and items stand.
@@ -23,7 +23,11 @@ pub struct ItemLines<'a> {
 
 impl<'a> ItemLines<'a> {
     /// No lines, of a script of this name and these bytes.
-    pub fn new(alloc: Global, name: &'a str, script: &[u8]) -> Result<ItemLines<'a>, AllocError> {
+    pub(crate) fn new(
+        alloc: Global,
+        name: &'a str,
+        script: &[u8],
+    ) -> Result<ItemLines<'a>, AllocError> {
         Ok(ItemLines {
             name,
             places: Places::of(alloc, script)?,
@@ -33,19 +37,14 @@ impl<'a> ItemLines<'a> {
         })
     }
 
-    /// The lines.
-    pub fn text(&self) -> &str {
-        self.text.as_str()
-    }
-
     /// The lines, on their own.
-    pub fn into_text(self) -> String {
+    pub(crate) fn into_text(self) -> String {
         let ItemLines { text, .. } = self;
         text
     }
 
     /// Adds what is to be said of the next batch, which the ledger took with these results and stands after it.
-    pub fn push_results(
+    pub(crate) fn push_results(
         &mut self,
         batch: &Batch,
         results: &BatchResults,
@@ -65,7 +64,11 @@ impl<'a> ItemLines<'a> {
     }
 
     /// Adds why the next batch was refused as a whole.
-    pub fn push_refusal(&mut self, batch: &Batch, refusal: BatchError) -> Result<(), AllocError> {
+    pub(crate) fn push_refusal(
+        &mut self,
+        batch: &Batch,
+        refusal: BatchError,
+    ) -> Result<(), AllocError> {
         let (name, line) = (self.name, self.places.batch(self.batches));
         let number = self.batches.saturating_add(1);
         let (result, why) = (refusal.number(), refusal.name());

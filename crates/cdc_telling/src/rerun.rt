@@ -1,24 +1,24 @@
 //! A second run of a simulation, step by step, which is told.
 
 ghost use Rattle.std.specs.Prelude.{◌≡◌};
-ghost use Rattle.cdc_app.specs.Options.{IsWindow};
 
-use crate::telling::diagram::Diagram;
-use crate::telling::following::Followed;
-use crate::telling::items::ItemLines;
-use crate::telling::reasons::reason;
-use crate::telling::results::batch_sentence;
-use crate::telling::steps::StepWords;
+use crate::diagram::Diagram;
+use crate::following::Followed;
+use crate::items::ItemLines;
+use crate::reasons::reason;
+use crate::results::batch_sentence;
+use crate::steps::StepWords;
 use cdc_ledger::BatchError;
 use cdc_progress::MemoryStore;
 use cdc_script::{Act, ClientBatch, Script};
-use cdc_types::{Batch, Step};
+use cdc_types::{Batch, Limits, Step};
 use cdc_world::{Did, StepError, World};
 use std::alloc::{AllocError, Global};
+use std::vec::IntoIter;
 
-/// What is told of a simulation.
+/// What a second run tells.
 #[derive(Drop)]
-pub struct Told<'a> {
+pub(crate) struct Retold<'a> {
     /// Why items weren't accepted.
     pub items: ItemLines<'a>,
     /// What each step did, a line for each.
@@ -34,27 +34,33 @@ pub struct Told<'a> {
 struct SecondRun<'a> {
     /// The world.
     world: World<MemoryStore>,
+    /// The script's batches that are left.
+    batches: IntoIter<ClientBatch>,
+    /// How many batches the script has.
+    batch_count: usize,
     /// What steps tell beside it.
     followed: Followed,
     /// What is told.
-    told: Told<'a>,
+    told: Retold<'a>,
 }
 
 /// Plays a script by a step file once more, and tells it.
-pub fn rerun<'a>(
+pub(crate) fn rerun<'a>(
     alloc: Global,
     script: Script,
     window: usize,
     acts: &[Act],
     items: ItemLines<'a>,
-) -> Result<Told<'a>, AllocError>
-    requires { IsWindow window }
+) -> Result<Retold<'a>, AllocError>
+    requires { window ≡ Limits.WINDOW_TODAY }
 {
     let Script { bindings, batches } = script;
     let followed = Followed::new(alloc, bindings.as_slice())?;
     let mut rerun = SecondRun {
         world: World::new(alloc, bindings.into_vec(), window, MemoryStore::new())?,
-        told: Told {
+        batch_count: batches.as_slice().len(),
+        batches: batches.into_vec().into_iter(),
+        told: Retold {
             items,
             trace: String::new(alloc),
             diagram: Diagram::new(alloc, followed.lanes.len())?,
@@ -62,20 +68,15 @@ pub fn rerun<'a>(
         },
         followed,
     };
-    rerun.play(alloc, batches.as_slice(), acts)?;
+    rerun.play(alloc, acts)?;
     Ok(rerun.told)
 }
 
 impl SecondRun<'_> {
     /// Plays acts up to the first that is refused.
-    fn play(
-        &mut self,
-        alloc: Global,
-        batches: &[ClientBatch],
-        acts: &[Act],
-    ) -> Result<(), AllocError> {
+    fn play(&mut self, alloc: Global, acts: &[Act]) -> Result<(), AllocError> {
         for (place, act) in acts.iter().enumerate() {
-            if let Some(why) = self.play_act(alloc, batches, act)? {
+            if let Some(why) = self.play_act(alloc, act)? {
                 self.told.refusal = Some((place, why));
                 return Ok(());
             }
@@ -84,21 +85,13 @@ impl SecondRun<'_> {
     }
 
     /// Plays an act, or says why it is refused.
-    fn play_act(
-        &mut self,
-        alloc: Global,
-        batches: &[ClientBatch],
-        act: &Act,
-    ) -> Result<Option<String>, AllocError> {
+    fn play_act(&mut self, alloc: Global, act: &Act) -> Result<Option<String>, AllocError> {
         match act {
             Act::Step(step) => self.play_step(alloc, step),
-            Act::Batch => match batches.get(self.followed.batches) {
-                Some(item) => {
-                    let step = Step::Submit(item.batch.try_copy(alloc)?);
-                    self.play_step(alloc, &step)
-                }
+            Act::Batch => match self.batches.next() {
+                Some(item) => self.play_step(alloc, &Step::Submit(item.batch)),
                 None => {
-                    let count = batches.len();
+                    let count = self.batch_count;
                     let text = format!(in alloc;
                         "batch: not enabled: no batch is left of the script's {count}"
                     )?;

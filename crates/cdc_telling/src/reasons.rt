@@ -1,12 +1,12 @@
 //! Why a step isn't enabled: a sentence for each reason.
 
-use crate::telling::following::{Followed, place_of};
-use crate::telling::sentences::Sentence;
-use crate::telling::sessions::Session;
+use crate::following::{Followed, place_of};
+use crate::sentences::Sentence;
+use crate::sessions::Session;
 use cdc_types::Step;
 
 /// Why a step isn't enabled now.
-pub fn reason(step: &Step, followed: &Followed) -> Sentence {
+pub(crate) fn reason(step: &Step, followed: &Followed) -> Sentence {
     match *step {
         Step::Send(i) | Step::Rewind(i) | Step::Break(i) | Step::Take(i) | Step::Close(i) => {
             queue_reason(step, i, followed)

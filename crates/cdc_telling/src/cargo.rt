@@ -2,7 +2,7 @@
 
 /// An item that is published, queued and handed out.
 #[derive(Clone, Copy)]
-pub enum Cargo {
+pub(crate) enum Cargo {
     /// The event at this place of the ledger's log, from 0, with its timestamp in nanoseconds.
     Event {
         /// Its place.
@@ -16,7 +16,7 @@ pub enum Cargo {
 
 /// What a session sends to the broker.
 #[derive(Clone, Copy)]
-pub enum Packet {
+pub(crate) enum Packet {
     /// The session begins.
     Connect {
         /// Its number.
@@ -35,7 +35,7 @@ pub enum Packet {
 
 /// What the broker sends to the connector for a publish that it took.
 #[derive(Clone, Copy)]
-pub struct Confirm {
+pub(crate) struct Confirm {
     /// The number of the session that published.
     pub session: u64,
     /// The tag that it published under.

@@ -1,0 +1,24 @@
+//! Why items of a script weren't accepted: its batches are handed to a ledger once more, and what it answers is told.
+
+use crate::items::ItemLines;
+use cdc_ledger::{BatchError, Ledger};
+use cdc_script::parse_script;
+use std::alloc::Global;
+
+/// A line for each item of a script that wasn't accepted, and for each batch that was refused. The script is named to a
+/// person by this name. There is none where the script has a fault, or no memory was left.
+pub fn books_lines(alloc: Global, name: &str, script: &[u8]) -> Option<String> {
+    let Ok(said) = parse_script(alloc, script) else {
+        return None;
+    };
+    let mut lines = ItemLines::new(alloc, name, script).ok()?;
+    let mut ledger = Ledger::new(alloc);
+    for item in said.batches.as_slice() {
+        match ledger.submit(alloc, &item.batch) {
+            Ok(results) => lines.push_results(&item.batch, &results, &ledger).ok()?,
+            Err(BatchError::OutOfMemory) => return None,
+            Err(refusal) => lines.push_refusal(&item.batch, refusal).ok()?,
+        }
+    }
+    Some(lines.into_text())
+}

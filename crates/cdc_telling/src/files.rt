@@ -1,0 +1,67 @@
+//! What a script or a step file has to have where it has a fault: a sentence for each kind of fault.
+
+use crate::sentences::Sentence;
+use cdc_script::FaultKind;
+use cdc_types::Limits;
+
+/// What a script has to have where it has this fault.
+pub fn script_sentence(kind: FaultKind) -> Sentence {
+    match kind {
+        FaultKind::BadText => Sentence::Plain(
+            "a line is printable ASCII characters, bytes 32 to 126, and ends with a line feed",
+        ),
+        FaultKind::UnknownWord => Sentence::Plain(
+            "a line begins with subscriber, client, accounts, account, transfers, transfer or pulse",
+        ),
+        FaultKind::WrongCount => Sentence::Plain(
+            "accounts, transfers, pulse and client have one number, account and transfer one key=value or more",
+        ),
+        FaultKind::BadNumber => Sentence::Plain("a number is one or more digits from 0 to 9"),
+        FaultKind::NumberOutOfRange => Sentence::Plain(
+            "a number fits its field: 128 bits, but 64 for moments, clients and user_data_64, 32 for user_data_32, timeout and ledger, 16 for code and flags",
+        ),
+        FaultKind::UnknownKey => Sentence::Plain(
+            "a word is key=value with a key of an account (id, user_data_128, user_data_64, user_data_32, ledger, code, flags) or of a transfer (these, and debit_account_id, credit_account_id, amount, pending_id, timeout)",
+        ),
+        FaultKind::KeyTwice => Sentence::Plain("a key stands once in a line"),
+        FaultKind::NoOpenBatch => Sentence::Plain(
+            "account lines follow a line accounts NOW, and transfer lines a line transfers NOW, with nothing but blank lines and comments between",
+        ),
+        FaultKind::BadBinding => Sentence::Plain(
+            "a binding is the word all or any, and up to ten words key=value with event_type and the name of a kind of event, or with ledger (a number of 32 bits), transfer_code, debit_account_code or credit_account_code (numbers of 16 bits)",
+        ),
+        FaultKind::TooManySubscribers => Sentence::One(
+            "a script has ",
+            Limits::SUBSCRIBERS as u128,
+            " subscriber lines at most",
+        ),
+        FaultKind::BadClient => Sentence::Plain("a client's number is 1 or 2"),
+        FaultKind::NoSubscriber => Sentence::Plain(
+            "a script has a line subscriber BINDING, as subscriber all",
+        ),
+        FaultKind::TooLong => Sentence::One(
+            "a script has ",
+            Limits::SCRIPT_BYTES as u128,
+            " bytes at most",
+        ),
+    }
+}
+
+/// What a step file has to have where it has this fault. It has the faults of words and numbers alone.
+pub fn steps_sentence(kind: FaultKind) -> Sentence {
+    match kind {
+        FaultKind::UnknownWord => Sentence::Plain(
+            "a line begins with batch, close_ledger, start, crash, poll, publish, arrive, answer, save, send, rewind, break, take, ack or close",
+        ),
+        FaultKind::WrongCount => Sentence::Plain(
+            "ack has two numbers, arrive, answer, send, rewind, break, take and close have one number, batch, close_ledger, start, crash, poll, publish and save have none",
+        ),
+        FaultKind::NumberOutOfRange => Sentence::Plain("a number has 64 bits at most"),
+        FaultKind::TooLong => Sentence::One(
+            "a step file has ",
+            Limits::SCRIPT_BYTES as u128,
+            " bytes at most",
+        ),
+        _ => script_sentence(kind),
+    }
+}

@@ -1,0 +1,27 @@
+//! What standard error tells of a command beside what it printed, as texts: why items weren't accepted, why a step was
+//! refused, what each step did, and what a bad file has to have. Nothing here reads or writes.
+#![tactic(auto)]
+
+mod books;
+mod cargo;
+mod deeds;
+mod diagram;
+mod files;
+mod following;
+mod items;
+mod lanes;
+mod places;
+mod reasons;
+mod rerun;
+mod results;
+mod sentences;
+mod sessions;
+mod simulations;
+mod steps;
+mod tally;
+
+pub use books::books_lines;
+pub use files::{script_sentence, steps_sentence};
+pub use sentences::Sentence;
+pub use simulations::{RefusedStep, Told, simulation_told};
+pub use tally::{Tally, count_lines};

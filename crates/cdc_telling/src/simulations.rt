@@ -1,0 +1,67 @@
+//! What is told of a simulation, from the bytes of its files.
+
+ghost use Rattle.std.specs.Prelude.{◌≡◌};
+
+use crate::items::ItemLines;
+use crate::places::step_line;
+use crate::rerun::{Retold, rerun};
+use cdc_script::{parse_script, parse_steps};
+use cdc_types::Limits;
+use std::alloc::Global;
+
+/// What is told of a simulation. Lines end with a line feed.
+#[derive(Drop)]
+pub struct Told {
+    /// A line for each item that wasn't accepted: why.
+    pub items: String,
+    /// A line for each step that was done: what it did.
+    pub trace: String,
+    /// The steps that were done as a sequence diagram for Mermaid.
+    pub diagram: String,
+    /// The step that was refused, if one was.
+    pub refusal: Option<RefusedStep>,
+}
+
+/// A step that was refused.
+#[derive(Drop)]
+pub struct RefusedStep {
+    /// The line of the step file that it stands in, from 1.
+    pub line: u64,
+    /// Why it was refused.
+    pub why: String,
+}
+
+/// What is told of the simulation of a script, which is named to a person by this name, by a step file. There is none
+/// where a file has a fault, or no memory was left.
+pub fn simulation_told(
+    alloc: Global,
+    name: &str,
+    script: &[u8],
+    steps: &[u8],
+    window: usize,
+) -> Option<Told>
+    requires { window ≡ Limits.WINDOW_TODAY }
+{
+    let Ok(said) = parse_script(alloc, script) else {
+        return None;
+    };
+    let Ok(acts) = parse_steps(alloc, steps) else {
+        return None;
+    };
+    let items = ItemLines::new(alloc, name, script).ok()?;
+    let Retold {
+        items,
+        trace,
+        diagram,
+        refusal,
+    } = rerun(alloc, said, window, acts.as_slice(), items).ok()?;
+    Some(Told {
+        items: items.into_text(),
+        trace,
+        diagram: diagram.into_text(),
+        refusal: refusal.map(|(place, why)| RefusedStep {
+            line: step_line(steps, place),
+            why,
+        }),
+    })
+}
