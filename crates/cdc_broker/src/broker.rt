@@ -1,6 +1,6 @@
 //! The broker as its callers see it.
 
-ghost use Rattle.std.specs.Prelude.{◌≡◌, ◌<◌, ◌≤◌, List, [], All, IfOk, OnOk, OnErr, is_some, not, if◌then◌else◌, length, map, take, drop};
+ghost use Rattle.std.specs.Prelude.{◌≡◌, ◌<◌, ◌≤◌, IsTrue, List, [], All, IfOk, OnOk, OnErr, is_some, not, if◌then◌else◌, length, map, take, drop};
 ghost use Rattle.cdc_message.specs.declared.items.Item.{Item as SomeItem};
 ghost use Rattle.cdc_message.specs.declared.packets.Packet.TheVariants.{Connect};
 ghost use Rattle.cdc_broker.specs.Broker.{HasAccepted, Publishes, accepted_after, connected, empty_broker, queue_of, takes_packet, with_queue};
@@ -163,8 +163,8 @@ impl Broker {
         self.queues[i - 1].has_next()
     }
 
-    /// Hands out the item at the cursor of queue `i`, with its position, and moves the cursor on; nothing where no item
-    /// stands there. Where memory runs out nothing changes.
+    /// Hands out the item at the cursor of queue `i`, with its position, and moves the cursor on; nothing, for which no
+    /// memory is needed, where no item stands there. Where memory runs out nothing changes.
     pub fn next_for(&mut self, alloc: Global, i: usize) -> Result<Option<Delivery>, AllocError>
         requires first { 0 < i }
         requires last { i ≤ length self.old.queues }
@@ -173,6 +173,8 @@ impl Broker {
             with_queue i
             (with_delivery (next_delivery (queue_of self.old i)) (queue_of self.old i)) self.old) }
         ensures err { OnErr result (self.new ≡ self.old) }
+        ensures memory { OnErr result
+            (IsTrue (is_some (next_delivery (queue_of self.old i)))) }
         ensures accepted { (accepted : List SomeItem) → HasAccepted self.old accepted
             → HasAccepted self.new accepted }
     {

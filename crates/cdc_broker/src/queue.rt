@@ -1,6 +1,6 @@
 //! One queue: a list of items in the order in which they came.
 
-ghost use Rattle.std.specs.Prelude.{◌≡◌, ◌<◌, not, is_some, IfOk, OnOk, OnErr, if◌then◌else◌};
+ghost use Rattle.std.specs.Prelude.{◌≡◌, ◌<◌, IsTrue, not, is_some, IfOk, OnOk, OnErr, if◌then◌else◌};
 ghost use Rattle.cdc_match.specs.Queue.{takes_item};
 ghost use Rattle.cdc_broker.specs.Queues.{acknowledged, empty_queue, is_unknown, item_for, next_delivery, rewound_queue, with_delivery, with_item};
 ghost use Rattle.cdc_broker.specs.Kept.{queue_state, room_of, IsInOrder};
@@ -91,6 +91,7 @@ impl Queue {
         ensures ok { OnOk result (queue_state self.new
             ≡ with_delivery (next_delivery (queue_state self.old)) (queue_state self.old)) }
         ensures err { OnErr result (queue_state self.new ≡ queue_state self.old) }
+        ensures memory { OnErr result (IsTrue (is_some (next_delivery (queue_state self.old)))) }
         ensures in_order { IsInOrder self.new }
     {
         let Some(item) = self.items.get(self.next as usize - 1) else {

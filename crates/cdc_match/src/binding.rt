@@ -1,6 +1,6 @@
 //! A binding.
 
-ghost use Rattle.std.specs.Prelude.{◌≡◌, IfOk, Err, map};
+ghost use Rattle.std.specs.Prelude.{◌≡◌, ◌<◌, IfOk, OnErr, Err, length, map};
 ghost use Rattle.cdc_match.specs.Errors.{GivesUnlessMemory};
 ghost use Rattle.cdc_match.specs.Found.{FindsPairsUnlessMemory};
 ghost use Rattle.cdc_match.specs.Matching as matching;
@@ -92,11 +92,18 @@ impl Binding {
         self.pairs.as_slice()
     }
 
-    /// An equal binding in memory of its own.
+    /// An equal binding in memory of its own; one without pairs takes none.
     pub fn try_copy(&self, alloc: Global) -> Result<Binding, AllocError>
-        ensures { IfOk result (λ copy. copy ≡ self.now) }
+        ensures copy { IfOk result (λ copy. copy ≡ self.now) }
+        ensures memory { OnErr result (0 < length self.now.pairs) }
     {
         let Binding { mode, pairs } = self;
+        if pairs.is_empty() {
+            return Ok(Binding {
+                mode: *mode,
+                pairs: Vec::new(alloc),
+            });
+        }
         Ok(Binding {
             mode: *mode,
             pairs: pairs.clone()?,

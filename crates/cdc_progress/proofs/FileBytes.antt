@@ -1,6 +1,6 @@
 -- What was read of a file, piece by piece, and what its bytes say, where as many were read as a record can have, and
 -- one more.
-use Rattle.std.proofs.Common.{◌≡◌, ℕ, ◌+◌, ◌<◌, ◌≤◌, ◌^◌, List, [], ◌∷◌, ◌++◌, Option, Some, None, length, take, drop, sym, ap, ◌∙◌, le_refl, drop_at, length-take-le, arith, length-append}
+use Rattle.std.proofs.Common.{◌≡◌, ℕ, ◌+◌, ◌<◌, ◌≤◌, List, [], ◌∷◌, ◌++◌, Option, Some, None, length, take, drop, sym, ap, ◌∙◌, le_refl, drop_at, length-take-le, arith, length-append}
 use Rattle.std.specs.Prelude.{IfSome, codes, decimal, Err}
 use Rattle.std.specs.Io.KnownBytes.{Consumes, IsAtEnd}
 use Rattle.std.proofs.lemmas.Fmt.{length-decimal-le}

@@ -1,6 +1,7 @@
 -- A store in memory that fails at one call.
-use Rattle.std.specs.Prelude.{ℕ, ◌+◌, ◌-◌, ◌^◌, ◌<◌, min, Bool, not, ◌&&◌, ◌||◌, ◌==◌, nat_le, Option, Some, if◌then◌else◌}
+use Rattle.std.specs.Prelude.{ℕ, ◌+◌, ◌-◌, ◌^◌, ◌<◌, min, Bool, false, not, ◌&&◌, ◌||◌, ◌==◌, nat_le, Option, Some, if◌then◌else◌}
 use Rattle.cdc_progress.specs.Records.{Saved}
+use Rattle.cdc_progress.specs.Stores.{Risks}
 
 -- what is held; how many calls of load and save there were; which of them fails, from 1, or 0 for none; and whether a
 -- save that fails keeps the new record all the same
@@ -22,6 +23,10 @@ fails_next memory = (memory.calls + 1) == memory.fails_at
 -- how often the store has failed: once it has come to the call that fails, and never before
 abbrev pub failures_of : Memory → ℕ
 failures_of memory = if not (memory.fails_at == 0) && nat_le memory.fails_at memory.calls then 1 else 0
+
+-- it never lacks memory, and a call of it can fail where its plan names one
+abbrev pub risks_of : Memory → Risks
+risks_of memory = record { memory = false; faults = not (memory.fails_at == 0) }
 
 -- one call more; the count stays at its greatest
 abbrev pub called : Memory → Memory

@@ -1,5 +1,5 @@
 -- What a store may answer.
-use Rattle.std.specs.Prelude.{◌≡◌, ◌⊎◌, ℕ, ◌<◌, Bool, Option, Result, Ok, Err, List}
+use Rattle.std.specs.Prelude.{◌≡◌, ◌⊎◌, ℕ, ◌<◌, Bool, false, IsTrue, Option, Result, Ok, Err, List}
 use Rattle.cdc_types.specs.Widths.{max_64}
 use Rattle.cdc_progress.specs.Records.{Fits, Saved, text_of}
 use Rattle.cdc_progress.specs.declared.errors.StoreError.{StoreError}
@@ -13,6 +13,22 @@ pub record StoreChange : Type 0 where
   pub after : Option Saved
   pub failed_before : ℕ
   pub failed_after : ℕ
+
+-- what may befall the calls of a store: that memory runs out; and that one can't read, can't write or finds no record
+pub record Risks : Type 0 where
+  pub memory : Bool
+  pub faults : Bool
+
+-- neither of them
+abbrev pub no_risks : Risks
+no_risks = record { memory = false; faults = false }
+
+-- a store of these risks may refuse a load or a save like this
+abbrev pub IsRisked : Risks → StoreError → Type 0
+IsRisked risks ReadFault = IsTrue risks.faults
+IsRisked risks WriteFault = IsTrue risks.faults
+IsRisked risks BadRecord = IsTrue risks.faults
+IsRisked risks OutOfMemory = IsTrue risks.memory
 
 -- a failure was counted: the count rose, or stays at the greatest that there is
 abbrev pub IsCounted : ℕ → ℕ → Type 0

@@ -1,6 +1,6 @@
 //! Progress in a file.
 
-ghost use Rattle.std.specs.Prelude.{◌≡◌, ◌<◌, ◌≤◌, ◌++◌, length, take, codes, None, IfOk, IfErr, IfSome, OnOk, false, string_bytes};
+ghost use Rattle.std.specs.Prelude.{◌≡◌, ◌<◌, ◌≤◌, ◌++◌, length, take, codes, None, IfOk, IfErr, IfSome, OnOk, false, true, string_bytes};
 ghost use Rattle.std.specs.Io.KnownBytes.{Appends, Consumes, IsAtEnd};
 ghost use Rattle.cdc_progress.specs.Stores.{IsCounted, IsLoadFault, ReadsAs};
 
@@ -137,6 +137,8 @@ impl<'a, R: Files + AllocGlobal> ProgressStore for FileStore<'a, R> {
 
     // What a read gives is the system's, so nothing that is known before it can promise it.
     ghost is_honest = { λ _. false };
+
+    ghost risks = { λ _. record { memory = true; faults = true } };
 
     fn load(&mut self) -> Result<Option<Progress>, StoreError> {
         match read_record(self.rt, self.path) {

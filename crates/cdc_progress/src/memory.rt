@@ -1,7 +1,7 @@
 //! Progress in memory.
 
 ghost use Rattle.std.specs.Prelude.{◌≡◌, ◌<◌, ◌-◌, ◌^◌, None, Ok, Err, true, false, if◌then◌else◌};
-ghost use Rattle.cdc_progress.specs.Memory.{Memory, HasBounds, fails_next, failures_of, called, after_save};
+ghost use Rattle.cdc_progress.specs.Memory.{Memory, HasBounds, fails_next, failures_of, called, after_save, risks_of};
 
 use crate::errors::StoreError;
 use crate::progress::Progress;
@@ -76,6 +76,8 @@ impl ProgressStore for MemoryStore {
     ghost failed = { failures_of };
 
     ghost is_honest = { λ _. true };
+
+    ghost risks = { risks_of };
 
     fn load(&mut self) -> Result<Option<Progress>, StoreError>
         ensures answer { result

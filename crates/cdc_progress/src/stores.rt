@@ -2,7 +2,7 @@
 
 ghost use Rattle.std.specs.Prelude.{◌≡◌, ◌⊎◌, ℕ, Bool, Option, Some, Err, IfOk, IfErr, OnOk, OnErr, IsTrue};
 ghost use Rattle.cdc_progress.specs.Records.{Saved};
-ghost use Rattle.cdc_progress.specs.Stores.{MayRefuseLoad, MayRefuseSave};
+ghost use Rattle.cdc_progress.specs.Stores.{IsRisked, MayRefuseLoad, MayRefuseSave, Risks};
 
 use crate::errors::StoreError;
 use crate::progress::Progress;
@@ -18,6 +18,9 @@ pub trait ProgressStore {
     // A load gives what is held. No call changes it.
     ghost is_honest: { Self → Bool };
 
+    // Why a load or a save may be refused at all. No call changes it.
+    ghost risks: { Self → Risks };
+
     /// What is held, or none where nothing was saved yet.
     ///
     /// A refused load changes nothing that is held. `ReadFault`: it can't be read, and `failures` counts it, as no other
@@ -31,7 +34,9 @@ pub trait ProgressStore {
         ensures refused { OnErr result (held self.new ≡ held self.old) }
         ensures refusals { IfErr result (MayRefuseLoad (failed self.old) (failed self.new)) }
         ensures uncounted { OnOk result (failed self.new ≡ failed self.old) }
-        ensures honest { is_honest self.new ≡ is_honest self.old };
+        ensures honest { is_honest self.new ≡ is_honest self.old }
+        ensures risked { IfErr result (IsRisked (risks self.old)) }
+        ensures same_risks { risks self.new ≡ risks self.old };
 
     /// Makes this what is held.
     ///
@@ -45,7 +50,9 @@ pub trait ProgressStore {
             → held self.new ≡ held self.old }
         ensures refusals { IfErr result (MayRefuseSave (failed self.old) (failed self.new)) }
         ensures uncounted { OnOk result (failed self.new ≡ failed self.old) }
-        ensures honest { is_honest self.new ≡ is_honest self.old };
+        ensures honest { is_honest self.new ≡ is_honest self.old }
+        ensures risked { IfErr result (IsRisked (risks self.old)) }
+        ensures same_risks { risks self.new ≡ risks self.old };
 
     /// How often a read or a write has failed, at most 2^64-1.
     fn failures(&self) -> u64

@@ -1,6 +1,6 @@
 -- What a session keeps gives what its course has.
 use Rattle.std.proofs.Common.{◌≡◌, ℕ, ◌+◌, ◌-◌, ◌≤◌, ◌==◌, Bool, true, false, ◌&&◌, not, refl, sym, ap, ap₂, ◌∙◌, length, is_none, Option, Some, None, arith}
-use Rattle.std.specs.Prelude.{nat_le, nat_lt, if◌then◌else◌}
+use Rattle.std.specs.Prelude.{Err, Ok, OnErr, Result, nat_le, nat_lt, if◌then◌else◌}
 use Rattle.std.specs.List.{list_all}
 use Rattle.std.proofs.lemmas.Bool.Decides.{nat_tests}
 use Rattle.std.proofs.Math.Bool.{and-false}
@@ -168,3 +168,8 @@ takes_is kept course session tag stands =
     ap₂ (λ number b. (session == number) && b) stands.number
     (sym (waits_by (is_confirmed course tag) (tags_sent course) tag kept.unconfirmed
     (confirmed_tags kept course stands tag) stands.last_tag))
+
+-- what holds, whatever is answered, holds where an error is
+pub whatever_answered : {A E P : Type 0} (answer : Result A E) → P → OnErr answer P
+whatever_answered (Ok given) p = tt
+whatever_answered (Err why) p = p

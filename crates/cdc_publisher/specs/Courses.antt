@@ -1,6 +1,6 @@
 -- The course of a session: what it was offered, what it has sent of that, and what was confirmed (TigerBeetle, Change
 -- Data Capture; RabbitMQ, Publisher Confirms, for tags).
-use Rattle.std.specs.Prelude.{ℕ, zero, suc, ◌+◌, ◌-◌, ◌==◌, ◌&&◌, not, nat_lt, nat_le, Bool, false, Option, Some, None, List, [], ◌∷◌, ◌++◌, length, filter, slice_get, if◌then◌else◌}
+use Rattle.std.specs.Prelude.{ℕ, zero, suc, ◌+◌, ◌-◌, ◌==◌, ◌&&◌, not, nat_lt, nat_le, Bool, true, false, Option, Some, None, List, [], ◌∷◌, ◌++◌, length, filter, slice_get, if◌then◌else◌}
 use Rattle.std.specs.List.{list_all, list_any}
 use Rattle.cdc_types.specs.declared.bounds.TheConstants.Limits.{SESSION}
 use Rattle.cdc_types.specs.declared.events.Event.{Event}
@@ -110,6 +110,13 @@ abbrev pub next_packet : Course → Option Packet
 next_packet course =
     if course.sent == 0 then Some (Connect course.number)
     else publish_packet course (slice_get course.offered (tags_sent course))
+
+-- there is a packet, and it has an event, for whose message memory may run out
+abbrev pub has_event : Option Packet → Bool
+has_event None = false
+has_event (Some (Connect session)) = false
+has_event (Some (Publish session tag EndMark)) = false
+has_event (Some (Publish session tag (OfEvent event))) = true
 
 -- the session after it has sent one more packet, if there was one
 abbrev pub with_sent : Option Packet → Course → Course

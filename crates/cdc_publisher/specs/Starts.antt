@@ -1,7 +1,7 @@
 -- How a session starts, and what the store then holds.
 use Rattle.std.specs.Prelude.{◌≡◌, ◌⊎◌, ℕ, IsTrue, Option, Some, None}
 use Rattle.cdc_progress.specs.Records.{Saved}
-use Rattle.cdc_progress.specs.Stores.{IsCounted, StoreChange}
+use Rattle.cdc_progress.specs.Stores.{IsCounted, IsRisked, Risks, StoreChange}
 use Rattle.cdc_progress.specs.declared.errors.StoreError.TheVariants as error
 use Rattle.cdc_publisher.specs.declared.errors.StartError.{StartError}
 use Rattle.cdc_publisher.specs.declared.errors.StartError.TheVariants.{Store, SessionsExhausted, OutOfMemory}
@@ -46,3 +46,10 @@ MayRefuseStart store (Store error.OutOfMemory) = ⊥
 MayRefuseStart store SessionsExhausted =
     CountsNone store × ((begun store.after ≡ None) × (IsTrue store.honest → store.after ≡ store.before))
 MayRefuseStart store OutOfMemory = CountsNone store × (IsTrue store.honest → store.after ≡ store.before)
+
+-- a start on a store of these risks may be refused like this: as its calls may be, or for want of a further number; of
+-- its own it takes no memory
+abbrev pub IsStartRisked : Risks → StartError → Type 0
+IsStartRisked risks (Store why) = IsRisked risks why
+IsStartRisked risks SessionsExhausted = Unit {0}
+IsStartRisked risks OutOfMemory = IsTrue risks.memory

@@ -1,12 +1,12 @@
 //! The session itself.
 
-ghost use Rattle.std.specs.Prelude.{◌≡◌, ◌⊎◌, ◌≤◌, Some, Err, IfOk, IfErr, OnOk, OnErr, is_some, option_map};
-ghost use Rattle.cdc_progress.specs.Stores.{MayRefuseSave};
-ghost use Rattle.cdc_publisher.specs.Courses.{Course, begun, confirmed_timestamp, is_done, next_packet, next_poll, progress_of, takes_confirm, with_confirm, with_offer, with_sent};
+ghost use Rattle.std.specs.Prelude.{◌≡◌, ◌⊎◌, ◌≤◌, IsTrue, Some, Err, IfOk, IfErr, OnOk, OnErr, is_some, option_map};
+ghost use Rattle.cdc_progress.specs.Stores.{IsRisked, MayRefuseSave};
+ghost use Rattle.cdc_publisher.specs.Courses.{Course, begun, confirmed_timestamp, has_event, is_done, next_packet, next_poll, progress_of, takes_confirm, with_confirm, with_offer, with_sent};
 ghost use Rattle.cdc_publisher.specs.Kept.{poll_of};
 ghost use Rattle.cdc_publisher.specs.Offers.{IsOffered};
 ghost use Rattle.cdc_publisher.specs.Stands.{StandsFor};
-ghost use Rattle.cdc_publisher.specs.Starts.{HasStarted, MayRefuseStart};
+ghost use Rattle.cdc_publisher.specs.Starts.{HasStarted, IsStartRisked, MayRefuseStart};
 ghost use Rattle.cdc_publisher.specs.Turns.{advanced, ends, packet_of};
 
 use crate::errors::StartError;
@@ -89,7 +89,7 @@ fn begin(held: Option<Progress>) -> Option<Progress>
 impl Session {
     /// The session after the one whose progress a store holds. It begins after the timestamp that is held, once the
     /// store has saved its number; so no later session has the same one. `window` is for how many events it may wait at
-    /// a time.
+    /// a time. `OutOfMemory` is the store's alone.
     pub fn start<S: ProgressStore>(
         _alloc: Global,
         store: &mut S,
@@ -110,7 +110,9 @@ impl Session {
           failed_before = S.failed store.old;
           failed_after = S.failed store.new;
         })) }
+        ensures risked { IfErr result (IsStartRisked (S.risks store.old)) }
         ensures honest { S.is_honest store.new ≡ S.is_honest store.old }
+        ensures same_risks { S.risks store.new ≡ S.risks store.old }
     {
         let saved = begin(store.load()?).ok_or(StartError::SessionsExhausted)?;
         store.save(saved)?;
@@ -178,13 +180,16 @@ impl Session {
     }
 
     /// What the session sends next: first the connect, then the oldest unsent event, and the end mark once every event is
-    /// confirmed and no other one follows. Nothing where nothing is to be sent. Where memory runs out nothing changes.
+    /// confirmed and no other one follows. Nothing where nothing is to be sent. An event alone takes memory, and where
+    /// that runs out nothing changes.
     pub fn next_packet(&mut self, alloc: Global) -> Result<Option<Packet>, AllocError>
         ensures packet { (course : Course) → StandsFor self.old course
             → IfOk result (λ packet. packet ≡ next_packet course) }
         ensures stands { (course : Course) → StandsFor self.old course
             → OnOk result (StandsFor self.new (with_sent (next_packet course) course)) }
         ensures err { OnErr result (self.new ≡ self.old) }
+        ensures memory { (course : Course) → StandsFor self.old course
+            → OnErr result (IsTrue (has_event (next_packet course))) }
     {
         let packet = self.packet(alloc)?;
         self.advance();
@@ -227,7 +232,9 @@ impl Session {
             → S.held store.new ≡ S.held store.old }
         ensures refusals { IfErr result (MayRefuseSave (S.failed store.old) (S.failed store.new)) }
         ensures uncounted { OnOk result (S.failed store.new ≡ S.failed store.old) }
+        ensures risked { IfErr result (IsRisked (S.risks store.old)) }
         ensures honest { S.is_honest store.new ≡ S.is_honest store.old }
+        ensures same_risks { S.risks store.new ≡ S.risks store.old }
     {
         store.save(Progress::new(self.number, self.confirmed()))
     }
@@ -255,7 +262,8 @@ impl Session {
 
     /// What is sent next.
     fn packet(&self, alloc: Global) -> Result<Option<Packet>, AllocError>
-        ensures { IfOk result (λ packet. packet ≡ packet_of self.now) }
+        ensures packet { IfOk result (λ packet. packet ≡ packet_of self.now) }
+        ensures memory { OnErr result (IsTrue (has_event (packet_of self.now))) }
     {
         if self.sent == 0 {
             return Ok(Some(Packet::Connect {

@@ -7,13 +7,13 @@ use Rattle.cdc_log.specs.Log.{events_after}
 use Rattle.cdc_message.specs.declared.packets.Confirm.{Confirm}
 use Rattle.cdc_message.specs.declared.packets.Packet.{Packet}
 use Rattle.cdc_progress.specs.Records.{Saved}
-use Rattle.cdc_progress.specs.Stores.{MayRefuseSave}
+use Rattle.cdc_progress.specs.Stores.{IsRisked, MayRefuseSave, Risks}
 use Rattle.cdc_progress.specs.declared.errors.StoreError.{StoreError}
 use Rattle.cdc_progress.specs.declared.errors.StoreError.TheVariants as store
 use Rattle.cdc_publisher.specs.Courses.{Course, after_answer, begun, new_course, next_packet, next_poll, progress_of, with_offer, with_sent}
 use Rattle.cdc_publisher.specs.Kept.{Kept}
 use Rattle.cdc_publisher.specs.Stands.{StandsFor}
-use Rattle.cdc_publisher.specs.Starts.{HasStarted, MayRefuseStart}
+use Rattle.cdc_publisher.specs.Starts.{HasStarted, IsStartRisked, MayRefuseStart}
 use Rattle.cdc_publisher.specs.declared.errors.StartError.{StartError}
 use Rattle.cdc_publisher.specs.declared.errors.StartError.TheVariants as start
 use Rattle.cdc_publisher.specs.declared.session.Poll.{Poll}
@@ -21,14 +21,14 @@ use Rattle.cdc_types.specs.declared.steps.Step.{Step}
 use Rattle.cdc_types.specs.declared.steps.Step.TheVariants.{Start, Crash, Poll as PollStep, Publish as PublishStep, Answer, Save}
 use Rattle.cdc_world.specs.declared.steps.Did.TheVariants.{Counted, Done}
 use Rattle.cdc_world.specs.declared.steps.StepError.TheVariants.{NotEnabled}
-use Rattle.cdc_world.specs.Moves.{Moves}
-use Rattle.cdc_world.specs.Next.{IsTried, Outcome, ◌>>=◌, counts, next, none_follow, success, with_answer, with_crash, with_packet, with_poll, with_progress, with_session, with_start}
+use Rattle.cdc_world.specs.Moves.{Moves, MovesBy}
+use Rattle.cdc_world.specs.Next.{IsStepRisked, IsTried, Next, Outcome, ◌>>=◌, counts, next, none_follow, success, with_answer, with_crash, with_packet, with_poll, with_progress, with_session, with_start}
 use Rattle.cdc_world.specs.Parts.{ActorParts, Parts}
 use Rattle.cdc_world.specs.Refusals.{start_refusal, store_refusal}
 use Rattle.cdc_world.specs.Stands.{ActorsStand, SessionStands, Stands}
 use Rattle.cdc_world.specs.Turns.{ActorsMove, Offers, OffersAt, Sends, SendsAt}
 use Rattle.cdc_world.specs.Worlds.{WorldState, numbered}
-use Rattle.cdc_world.proofs.Stepping.{unable}
+use Rattle.cdc_world.proofs.Stepping.{Moves-risked, unable}
 
 -- the course of a session that is there
 pub record IsCourse (kept : Kept) (session : Option Course) : Type 0 where
@@ -236,10 +236,10 @@ actors_held a w held st =
     record { history = st.history; connector = st.connector; broker = st.broker; subscribers = st.subscribers }
 
 -- what is kept where the store holds something else
-with_held : (p : Parts) (w : WorldState) (held : Option Saved) (honest : Bool) (failed' : ℕ) (held' : Option Saved)
+with_held : (p : Parts) (w : WorldState) (held : Option Saved) (honest : Bool) (risks : Risks) (failed' : ℕ) (held' : Option Saved)
     → Stands p w → held ≡ held'
-    → Stands (record p { held = held; honest = honest; failed = failed' }) (record w { held = held' })
-with_held p w held honest failed' held' st same =
+    → Stands (record p { held = held; honest = honest; failed = failed'; risks = risks }) (record w { held = held' })
+with_held p w held honest risks failed' held' st same =
     record { actors = actors_held p.actors w held' st.actors; held = same }
 
 -- so a store that failed once more, or didn't, changes nothing of it
@@ -252,15 +252,15 @@ saves_next : (w : WorldState) (course : Course) → w.session ≡ Some course
 saves_next w course is = ap (λ (s : Option Course). s >>= (λ course. success (with_progress w course))) is
 
 -- the session saves
-pub save_done : (p : Parts) (kept : Kept) (held : Option Saved) (honest : Bool) (failed' : ℕ)
+pub save_done : (p : Parts) (kept : Kept) (held : Option Saved) (honest : Bool) (risks : Risks) (failed' : ℕ)
     → p.actors.session ≡ Some kept
     → ((course : Course) → StandsFor kept course → held ≡ Some (progress_of course))
-    → Moves p Save (Ok Done) (record p { held = held; honest = honest; failed = failed' })
-save_done p kept held honest' failed' is saved honest w st =
+    → MovesBy Next p Save (Ok Done) (record p { held = held; honest = honest; failed = failed'; risks = risks })
+save_done p kept held honest' risks' failed' is saved honest w st =
     let at = course_of p.actors w kept st.actors is in (
       with_progress w at.course,
       (
-        with_held p w held honest' failed' (Some (progress_of at.course)) st (saved at.course at.stands),
+        with_held p w held honest' risks' failed' (Some (progress_of at.course)) st (saved at.course at.stands),
         saves_next w at.course at.is,
       ),
     )
@@ -270,28 +270,28 @@ save_tried : (w : WorldState) (course : Course) → w.session ≡ Some course �
 save_tried w course is = subst IsTried (sym (saves_next w course is)) tt
 
 -- a save that fails
-pub save_failed : (p : Parts) (kept : Kept) (held : Option Saved) (honest : Bool) (why : StoreError)
+pub save_failed : (p : Parts) (kept : Kept) (held : Option Saved) (honest : Bool) (risks : Risks) (why : StoreError)
     (failed failed' : ℕ) → p.actors.session ≡ Some kept
     → ((course : Course) → StandsFor kept course → (held ≡ p.held) ⊎ (held ≡ Some (progress_of course)))
     → (why ≡ store.OutOfMemory → held ≡ p.held) → MayRefuseSave failed failed' why
-    → Moves p Save (Err (store_refusal why)) (record p { held = held; honest = honest; failed = failed' })
-save_failed p kept held honest' store.ReadFault failed failed' is either lacking may honest w st = absurd may
-save_failed p kept held honest' store.BadRecord failed failed' is either lacking may honest w st = absurd may
-save_failed p kept held honest' store.OutOfMemory failed failed' is either lacking may honest w st =
+    → MovesBy Next p Save (Err (store_refusal why)) (record p { held = held; honest = honest; failed = failed'; risks = risks })
+save_failed p kept held honest' risks' store.ReadFault failed failed' is either lacking may honest w st = absurd may
+save_failed p kept held honest' risks' store.BadRecord failed failed' is either lacking may honest w st = absurd may
+save_failed p kept held honest' risks' store.OutOfMemory failed failed' is either lacking may honest w st =
     let at = course_of p.actors w kept st.actors is in (
       w,
       (
-        with_held p w held honest' failed' w.held st (lacking refl ∙ st.held),
+        with_held p w held honest' risks' failed' w.held st (lacking refl ∙ st.held),
         (refl, (save_tried w at.course at.is, refl)),
       ),
     )
-save_failed p kept held honest' store.WriteFault failed failed' is either lacking may honest w st =
+save_failed p kept held honest' risks' store.WriteFault failed failed' is either lacking may honest w st =
     let at = course_of p.actors w kept st.actors is in
     elim (either at.course at.stands) [
       | inl same ↦ (
         w,
         (
-          with_held p w held honest' failed' w.held st (same ∙ st.held),
+          with_held p w held honest' risks' failed' w.held st (same ∙ st.held),
           (
             refl,
             (
@@ -304,7 +304,7 @@ save_failed p kept held honest' store.WriteFault failed failed' is either lackin
       | inr new ↦ (
         record w { held = Some (progress_of at.course) },
         (
-          with_held p w held honest' failed' (Some (progress_of at.course)) st new,
+          with_held p w held honest' risks' failed' (Some (progress_of at.course)) st new,
           (
             refl,
             (
@@ -333,7 +333,7 @@ start_tried w down =
 
 -- a session starts over an honest store: it stands for a new course under the record that is now held
 pub start_done : (p : Parts) (actors' : ActorParts) (kept : Kept) (held : Option Saved) (honest : Bool)
-    (failed' window : ℕ) → p.actors.session ≡ None → actors' ≡ record p.actors { session = Some kept }
+    (risks : Risks) (failed' window : ℕ) → p.actors.session ≡ None → actors' ≡ record p.actors { session = Some kept }
     → window ≡ p.actors.window
     → HasStarted (record {
       honest = p.honest;
@@ -342,8 +342,8 @@ pub start_done : (p : Parts) (actors' : ActorParts) (kept : Kept) (held : Option
       failed_before = p.failed;
       failed_after = failed';
     }) window kept
-    → Moves p Start (Ok Done) (record { actors = actors'; held = held; honest = honest; failed = failed' })
-start_done p actors' kept held honest' failed' window down new waits has honest w st =
+    → MovesBy Next p Start (Ok Done) (record { actors = actors'; held = held; honest = honest; failed = failed'; risks = risks })
+start_done p actors' kept held honest' risks' failed' window down new waits has honest w st =
     let begins : begun w.held ≡ Some has.saved = ap begun (sym st.held) ∙ ap begun (sym (has.given (honest refl)))
     ∙ has.begins in
     let after : WorldState = record w { held = Some has.saved; session = Some (new_course has.saved w.window) } in (
@@ -369,7 +369,7 @@ start_done p actors' kept held honest' failed' window down new waits has honest 
     )
 
 -- a session doesn't start
-pub start_failed : (p : Parts) (held : Option Saved) (honest : Bool) (why : StartError) (failed failed' : ℕ)
+pub start_failed : (p : Parts) (held : Option Saved) (honest : Bool) (risks : Risks) (why : StartError) (failed failed' : ℕ)
     → p.actors.session ≡ None
     → MayRefuseStart (record {
       honest = p.honest;
@@ -378,18 +378,18 @@ pub start_failed : (p : Parts) (held : Option Saved) (honest : Bool) (why : Star
       failed_before = failed;
       failed_after = failed';
     }) why
-    → Moves p Start (Err (start_refusal why)) (record p { held = held; honest = honest; failed = failed' })
-start_failed p held honest' (start.Store store.ReadFault) failed failed' down may honest w st = (
+    → MovesBy Next p Start (Err (start_refusal why)) (record p { held = held; honest = honest; failed = failed'; risks = risks })
+start_failed p held honest' risks' (start.Store store.ReadFault) failed failed' down may honest w st = (
   w,
   (
-    with_held p w held honest' failed' w.held st (may.0 ∙ st.held),
+    with_held p w held honest' risks' failed' w.held st (may.0 ∙ st.held),
     (refl, (start_tried w (no_course p.actors w st.actors down), (refl, refl))),
   ),
 )
-start_failed p held honest' (start.Store store.BadRecord) failed failed' down may honest w st =
+start_failed p held honest' risks' (start.Store store.BadRecord) failed failed' down may honest w st =
     absurd (may.1.1 (honest refl))
-start_failed p held honest' (start.Store store.OutOfMemory) failed failed' down may honest w st = absurd may
-start_failed p held honest' (start.Store store.WriteFault) failed failed' down may honest w st =
+start_failed p held honest' risks' (start.Store store.OutOfMemory) failed failed' down may honest w st = absurd may
+start_failed p held honest' risks' (start.Store store.WriteFault) failed failed' down may honest w st =
     let half = may.0 in
     let begins : begun w.held ≡ Some half.saved = ap begun (sym st.held) ∙ ap begun (sym (half.given (honest refl)))
     ∙ half.begins in
@@ -398,30 +398,59 @@ start_failed p held honest' (start.Store store.WriteFault) failed failed' down m
       | inl same ↦ (
         w,
         (
-          with_held p w held honest' failed' w.held st (same ∙ (half.given (honest refl) ∙ st.held)),
+          with_held p w held honest' risks' failed' w.held st (same ∙ (half.given (honest refl) ∙ st.held)),
           (refl, (tried, (half.saved, begins, inl refl))),
         ),
       )
       | inr new ↦ (
         record w { held = Some half.saved },
         (
-          with_held p w held honest' failed' (Some half.saved) st new,
+          with_held p w held honest' risks' failed' (Some half.saved) st new,
           (refl, (tried, (half.saved, begins, inr refl))),
         ),
       )
     ]
-start_failed p held honest' start.SessionsExhausted failed failed' down may honest w st =
+start_failed p held honest' risks' start.SessionsExhausted failed failed' down may honest w st =
     let same = may.1.1 (honest refl) ∙ st.held in (
       w,
       (
-        with_held p w held honest' failed' w.held st same,
+        with_held p w held honest' risks' failed' w.held st same,
         (starts_next w None (no_course p.actors w st.actors down) (ap begun (sym same) ∙ may.1.0), refl),
       ),
     )
-start_failed p held honest' start.OutOfMemory failed failed' down may honest w st = (
+start_failed p held honest' risks' start.OutOfMemory failed failed' down may honest w st = (
   w,
   (
-    with_held p w held honest' failed' w.held st (may.1 (honest refl) ∙ st.held),
+    with_held p w held honest' risks' failed' w.held st (may.1 (honest refl) ∙ st.held),
     (refl, (start_tried w (no_course p.actors w st.actors down), refl)),
   ),
 )
+
+-- ---- at which risk
+
+-- a save is refused as its store may be
+save_risked : (risks : Risks) (outcome : Outcome) (why : StoreError) → IsRisked risks why
+    → IsStepRisked risks outcome (Err (store_refusal why))
+save_risked risks outcome store.ReadFault may = may
+save_risked risks outcome store.WriteFault may = may
+save_risked risks outcome store.BadRecord may = may
+save_risked risks outcome store.OutOfMemory may = inr may
+
+-- and so is a start
+start_risked : (risks : Risks) (outcome : Outcome) (why : StartError) → IsStartRisked risks why
+    → IsStepRisked risks outcome (Err (start_refusal why))
+start_risked risks outcome (start.Store why) may = may
+start_risked risks outcome start.SessionsExhausted may = tt
+start_risked risks outcome start.OutOfMemory may = inr may
+
+-- so a save that fails
+pub save_refused : (p : Parts) (why : StoreError) (p' : Parts) → IsRisked p.risks why
+    → MovesBy Next p Save (Err (store_refusal why)) p' → Moves p Save (Err (store_refusal why)) p'
+save_refused p why p' may moves =
+    Moves-risked p Save (Err (store_refusal why)) p' moves (λ w st. save_risked p.risks (next w Save) why may)
+
+-- and a session that doesn't start
+pub start_refused : (p : Parts) (why : StartError) (p' : Parts) → IsStartRisked p.risks why
+    → MovesBy Next p Start (Err (start_refusal why)) p' → Moves p Start (Err (start_refusal why)) p'
+start_refused p why p' may moves =
+    Moves-risked p Start (Err (start_refusal why)) p' moves (λ w st. start_risked p.risks (next w Start) why may)

@@ -7,6 +7,7 @@ use Rattle.cdc_types.specs.declared.transfers.NewTransfer.{NewTransfer}
 use Rattle.cdc_ledger.specs.declared.errors.BatchError.TheVariants.{LedgerClosed}
 use Rattle.cdc_match.specs.declared.pairs.Mode.TheVariants.{All}
 use Rattle.cdc_progress.specs.Records.{Saved}
+use Rattle.cdc_progress.specs.Stores.{Risks}
 use Rattle.cdc_progress.specs.declared.errors.StoreError.TheVariants.{WriteFault}
 use Rattle.cdc_publisher.specs.Courses.{new_course}
 use Rattle.cdc_subscriber.specs.declared.book.BookEntry.{BookEntry}
@@ -249,6 +250,10 @@ holding session = record start { held = Some (record { session = session; timest
 abbrev running : ℕ → WorldState
 running session = record (holding session) { session = Some (new_course (record { session = session; timestamp = 0 }) 1) }
 
+-- the store may fail, and lacks no memory
+abbrev failing : Risks
+failing = record { memory = false; faults = true }
+
 -- the save of a first start fails, and the store holds the new record, or the old one
 fails_with_new : Next start Start (Err (Store WriteFault)) (holding 1)
 fails_with_new = (refl, (tt, (record { session = 1; timestamp = 0 }, refl, inr refl)))
@@ -257,45 +262,45 @@ fails_with_old : Next start Start (Err (Store WriteFault)) start
 fails_with_old = (refl, (tt, (record { session = 1; timestamp = 0 }, refl, inl refl)))
 
 -- it is refused where it isn't tried again
-start_refused : NextPast 0 start Start (Err (Store WriteFault)) (holding 1)
+start_refused : NextPast failing 0 start Start (Err (Store WriteFault)) (holding 1)
 start_refused = record {
   failed = 0;
   within = omega arith;
   before = start;
   fails = refl;
-  last = fails_with_new;
+  last = (fails_with_new, refl);
   spent = λ passing. refl;
 }
 
 -- tried once more it starts the session after the one that is held: the second where the new record was kept, ..
-start_after_new : NextPast 1 start Start (Ok Done) (running 2)
+start_after_new : NextPast failing 1 start Start (Ok Done) (running 2)
 start_after_new = record {
   failed = 1;
   within = omega arith;
   before = holding 1;
-  fails = (Err (Store WriteFault), start, (refl, (refl, fails_with_new)));
-  last = refl;
+  fails = (Err (Store WriteFault), start, (refl, (refl, (fails_with_new, refl))));
+  last = (refl, tt);
   spent = λ passing. cc;
 }
 
 -- .. and the first where the old one was
-start_after_old : NextPast 1 start Start (Ok Done) (running 1)
+start_after_old : NextPast failing 1 start Start (Ok Done) (running 1)
 start_after_old = record {
   failed = 1;
   within = omega arith;
   before = start;
-  fails = (Err (Store WriteFault), start, (refl, (refl, fails_with_old)));
-  last = refl;
+  fails = (Err (Store WriteFault), start, (refl, (refl, (fails_with_old, refl))));
+  last = (refl, tt);
   spent = λ passing. cc;
 }
 
 -- a step that there is nothing for is refused at its first try
-crash_refused : NextPast 9 start Crash (Err NotEnabled) start
+crash_refused : NextPast failing 9 start Crash (Err NotEnabled) start
 crash_refused = record {
   failed = 0;
   within = omega arith;
   before = start;
   fails = refl;
-  last = (refl, refl);
+  last = ((refl, refl), tt);
   spent = λ passing. cc;
 }

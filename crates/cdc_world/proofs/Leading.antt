@@ -3,10 +3,11 @@ use Rattle.std.proofs.Common.{ℕ, zero, suc, List, [], ◌∷◌, ◌++◌, dro
 use Rattle.std.specs.Prelude.{None, Ok, Option, Err, Result, Some}
 use Rattle.cdc_match.specs.Arguments.{Arguments}
 use Rattle.cdc_progress.specs.Records.{Saved}
+use Rattle.cdc_progress.specs.Stores.{Risks}
 use Rattle.cdc_world.specs.declared.steps.Did.{Did}
 use Rattle.cdc_types.specs.declared.steps.Step.{Step}
 use Rattle.cdc_world.specs.declared.steps.StepError.{StepError}
-use Rattle.cdc_world.specs.Next.{IsAtStart, IsReached, Leads, Next}
+use Rattle.cdc_world.specs.Next.{IsAtStart, IsReached, Leads, Next, NextOver}
 use Rattle.cdc_world.specs.Moves.{DoesAll, Going, IsPlay, IsPlayBy, StopsAt}
 use Rattle.cdc_world.specs.Tries.{FailsTimes, NextPast}
 use Rattle.cdc_world.specs.Worlds.{WorldState, new_world}
@@ -40,17 +41,18 @@ IsReached-next w step answer w' reached next = record {
 }
 
 -- tries of a step that all failed
-fails_reach : (failed : ℕ) (w : WorldState) (step : Step) (w' : WorldState) → IsReached w → FailsTimes failed w step w'
-    → IsReached w'
-fails_reach zero w step w' reached fails = subst IsReached (sym fails) reached
-fails_reach (suc failed) w step w' reached (answer, between, (before, (passing, last))) =
-    IsReached-next between step answer w' (fails_reach failed w step between reached before) last
+fails_reach : (risks : Risks) (failed : ℕ) (w : WorldState) (step : Step) (w' : WorldState) → IsReached w
+    → FailsTimes risks failed w step w' → IsReached w'
+fails_reach risks zero w step w' reached fails = subst IsReached (sym fails) reached
+fails_reach risks (suc failed) w step w' reached (answer, between, (before, (passing, last))) =
+    IsReached-next between step answer w' (fails_reach risks failed w step between reached before) last.0
 
 -- so does a step that is tried again
-IsReached-past : (tries : ℕ) (w : WorldState) (step : Step) (answer : Result Did StepError) (w' : WorldState)
-    → IsReached w → NextPast tries w step answer w' → IsReached w'
-IsReached-past tries w step answer w' reached next =
-    IsReached-next next.before step answer w' (fails_reach next.failed w step next.before reached next.fails) next.last
+IsReached-past : (risks : Risks) (tries : ℕ) (w : WorldState) (step : Step) (answer : Result Did StepError)
+    (w' : WorldState) → IsReached w → NextPast risks tries w step answer w' → IsReached w'
+IsReached-past risks tries w step answer w' reached next =
+    IsReached-next next.before step answer w' (fails_reach risks next.failed w step next.before reached next.fails)
+    next.last.0
 
 -- steps that are taken like this lead on to worlds that are reached
 abbrev ReachesBy : Going → Type 0
@@ -81,11 +83,13 @@ IsReached-by Goes reaches w steps done refusal w' reached plays =
     (does_reach Goes w plays.before (take done steps) reaches reached plays.does) plays.stops
 
 -- one that takes each step once
-pub IsReached-played : (w : WorldState) (steps : List Step) (done : ℕ) (refusal : Option StepError)
-    (w' : WorldState) → IsReached w → IsPlay w steps done refusal w' → IsReached w'
-IsReached-played = IsReached-by Next IsReached-next
+pub IsReached-played : (risks : Risks) (w : WorldState) (steps : List Step) (done : ℕ) (refusal : Option StepError)
+    (w' : WorldState) → IsReached w → IsPlay risks w steps done refusal w' → IsReached w'
+IsReached-played risks =
+    IsReached-by (NextOver risks) (λ w step answer w' reached next. IsReached-next w step answer w' reached next.0)
 
 -- and one that tries again
-pub IsReached-played-past : (tries : ℕ) (w : WorldState) (steps : List Step) (done : ℕ) (refusal : Option StepError)
-    (w' : WorldState) → IsReached w → IsPlayBy (NextPast tries) w steps done refusal w' → IsReached w'
-IsReached-played-past tries = IsReached-by (NextPast tries) (IsReached-past tries)
+pub IsReached-played-past : (risks : Risks) (tries : ℕ) (w : WorldState) (steps : List Step) (done : ℕ)
+    (refusal : Option StepError) (w' : WorldState) → IsReached w
+    → IsPlayBy (NextPast risks tries) w steps done refusal w' → IsReached w'
+IsReached-played-past risks tries = IsReached-by (NextPast risks tries) (IsReached-past risks tries)

@@ -4,23 +4,20 @@ use Rattle.std.specs.List.{list_any}
 use Rattle.std.proofs.lemmas.List.{take_more}
 use Rattle.std.proofs.lemmas.List.Folds.{list_any_at}
 use Rattle.cdc_world.specs.declared.steps.Did.{Did}
+use Rattle.cdc_progress.specs.Stores.{Risks}
 use Rattle.cdc_types.specs.declared.steps.Step.{Step}
 use Rattle.cdc_world.specs.declared.steps.StepError.{StepError}
-use Rattle.cdc_world.specs.Next.{Next, loads}
-use Rattle.cdc_world.specs.Moves.{DoesAll, GoesOn, Going, Plays, PlaysBy, StopsAt}
+use Rattle.cdc_world.specs.Next.{NextOver, loads}
+use Rattle.cdc_world.specs.Moves.{DoesAll, Going, MovesBy, Plays, PlaysBy, StopsAt}
 use Rattle.cdc_world.specs.Parts.{Parts}
 use Rattle.cdc_world.specs.Stands.{Stands}
 use Rattle.cdc_world.specs.Tries.{FailsTimes, NextPast}
 use Rattle.cdc_world.specs.Worlds.{WorldState}
 
--- what is kept goes on by a step that is taken like this; of a step that loads this is said over an honest store
-abbrev pub MovesBy : Going → Parts → Step → Result Did StepError → Parts → Type 0
-MovesBy Goes p step answer p' =
-    (IsTrue (loads step) → IsTrue p.honest) → GoesOn p (λ w w'. Goes w step answer w') p'
-
 -- so many of these steps are done
 pub record HasDone (Goes : Going) (p p' : Parts) (steps : List Step) (done : ℕ) : Type 0 where
   pub honest : p'.honest ≡ p.honest
+  pub risks : p'.risks ≡ p.risks
   pub leads : (IsTrue (list_any loads steps) → IsTrue p.honest) → (w : WorldState) → Stands p w
       → ((w' : WorldState) × (Stands p' w' × DoesAll Goes w (take done steps) w'))
 
@@ -40,10 +37,11 @@ DoesAll_push Goes w between w' (first ∷ steps) step did does next =
 -- so the loop of a play may go on once another step is done
 pub HasDone-more : (Goes : Going) (p p' p'' : Parts) (steps : List Step) (done : ℕ) (step : Step) (did : Did)
     → done < length steps → step ≡ get_or steps done step → HasDone Goes p p' steps done
-    → MovesBy Goes p' step (Ok did) p'' → p''.honest ≡ p'.honest
+    → MovesBy Goes p' step (Ok did) p'' → p''.honest ≡ p'.honest → p''.risks ≡ p'.risks
     → HasDone Goes p p'' steps (done + 1)
-HasDone-more Goes p p' p'' steps done step did inside here has moves honest' = record {
+HasDone-more Goes p p' p'' steps done step did inside here has moves honest' risks' = record {
   honest = honest' ∙ has.honest;
+  risks = risks' ∙ has.risks;
   leads = λ honest w st.
       let before = has.leads honest w st in
       let after = moves (λ reads. has.honest ∙ honest (loads_one steps done step inside here reads))
@@ -111,34 +109,42 @@ Plays-ended Goes p p' steps done all within has honest w st =
       ),
     )
 
+-- a step that is tried again is the same over equal risks
+pub MovesBy-past : (risks risks' : Risks) (tries : ℕ) (p : Parts) (step : Step) (answer : Result Did StepError)
+    (p' : Parts) → risks ≡ risks' → MovesBy (NextPast risks tries) p step answer p'
+    → MovesBy (NextPast risks' tries) p step answer p'
+MovesBy-past risks risks' tries p step answer p' same moves =
+    subst (λ (r : Risks). MovesBy (NextPast r tries) p step answer p') same moves
+
 -- ---- a play that tries nothing again takes each step once
 
 -- as each of its steps is
-once : (w : WorldState) (step : Step) (answer : Result Did StepError) (w' : WorldState)
-    → NextPast 0 w step answer w' → Next w step answer w'
-once w step answer w' next =
+once : (risks : Risks) (w : WorldState) (step : Step) (answer : Result Did StepError) (w' : WorldState)
+    → NextPast risks 0 w step answer w' → NextOver risks w step answer w'
+once risks w step answer w' next =
     let none : next.failed ≡ 0 = omega (arith, next.within) in
     let same : next.before ≡ w =
-    subst (λ (n : ℕ). FailsTimes n w step next.before) none next.fails in
-    subst (λ (x : WorldState). Next x step answer w') same next.last
+    subst (λ (n : ℕ). FailsTimes risks n w step next.before) none next.fails in
+    subst (λ (x : WorldState). NextOver risks x step answer w') same next.last
 
 -- those that are done
-does_once : (w w' : WorldState) (steps : List Step) → DoesAll (NextPast 0) w steps w' → DoesAll Next w steps w'
-does_once w w' [] does = does
-does_once w w' (step ∷ steps) (did, between, (here, rest)) =
-    (did, between, (once w step (Ok did) between here, does_once between w' steps rest))
+does_once : (risks : Risks) (w w' : WorldState) (steps : List Step) → DoesAll (NextPast risks 0) w steps w'
+    → DoesAll (NextOver risks) w steps w'
+does_once risks w w' [] does = does
+does_once risks w w' (step ∷ steps) (did, between, (here, rest)) =
+    (did, between, (once risks w step (Ok did) between here, does_once risks between w' steps rest))
 
 -- and the one that is refused, if one is
-stops_once : (w w' : WorldState) (steps : List Step) (refusal : Option StepError)
-    → StopsAt (NextPast 0) w steps refusal w' → StopsAt Next w steps refusal w'
-stops_once w w' [] None stops = stops
-stops_once w w' [] (Some why) stops = stops
-stops_once w w' (step ∷ steps) None stops = stops
-stops_once w w' (step ∷ steps) (Some why) stops = once w step (Err why) w' stops
+stops_once : (risks : Risks) (w w' : WorldState) (steps : List Step) (refusal : Option StepError)
+    → StopsAt (NextPast risks 0) w steps refusal w' → StopsAt (NextOver risks) w steps refusal w'
+stops_once risks w w' [] None stops = stops
+stops_once risks w w' [] (Some why) stops = stops
+stops_once risks w w' (step ∷ steps) None stops = stops
+stops_once risks w w' (step ∷ steps) (Some why) stops = once risks w step (Err why) w' stops
 
 -- so it is a play
 pub Plays-once : (p : Parts) (steps : List Step) (done : ℕ) (refusal : Option StepError) (p' : Parts)
-    → PlaysBy (NextPast 0) p steps done refusal p' → Plays p steps done refusal p'
+    → PlaysBy (NextPast p.risks 0) p steps done refusal p' → Plays p steps done refusal p'
 Plays-once p steps done refusal p' plays honest w st =
     let after = plays honest w st in
     let play = after.1.1 in (
@@ -148,8 +154,8 @@ Plays-once p steps done refusal p' plays honest w st =
         record {
           count = play.count;
           before = play.before;
-          does = does_once w play.before (take done steps) play.does;
-          stops = stops_once play.before after.0 (drop done steps) refusal play.stops;
+          does = does_once p.risks w play.before (take done steps) play.does;
+          stops = stops_once p.risks play.before after.0 (drop done steps) refusal play.stops;
         },
       ),
     )

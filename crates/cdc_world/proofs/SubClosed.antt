@@ -8,6 +8,7 @@ use Rattle.cdc_ledger.specs.Submit.{submit}
 use Rattle.cdc_message.specs.declared.items.Delivery.{Delivery}
 use Rattle.cdc_message.specs.declared.packets.Packet.{Packet}
 use Rattle.cdc_progress.specs.Records.{Saved}
+use Rattle.cdc_progress.specs.Stores.{Risks}
 use Rattle.cdc_publisher.specs.Courses.{Course, begun, next_packet, next_poll}
 use Rattle.cdc_subscriber.specs.Heard.{Heard, has_ended}
 use Rattle.cdc_types.specs.declared.batches.BatchResults.{BatchResults}
@@ -19,7 +20,7 @@ use Rattle.cdc_broker.specs.Packets.{is_taken}
 use Rattle.cdc_world.specs.Closed.{AllStay, Stays}
 use Rattle.cdc_world.specs.Moves.{DoesAll, Going, IsPlayBy, StopsAt}
 use Rattle.cdc_world.specs.Tries.{FailsTimes, NextPast}
-use Rattle.cdc_world.specs.Next.{Next, first_flight, next, next_delivery, with_ack, with_arrival, with_batch, with_break, with_close, with_delivery, with_rewind, with_session, with_start, with_subscription, with_taking}
+use Rattle.cdc_world.specs.Next.{Next, NextOver, first_flight, next, next_delivery, with_ack, with_arrival, with_batch, with_break, with_close, with_delivery, with_rewind, with_session, with_start, with_subscription, with_taking}
 use Rattle.cdc_world.specs.Worlds.{Subscription, WorldState, numbered, with_numbered}
 use Rattle.cdc_world.proofs.Places.{numbered_from, numbered_parts}
 use Rattle.cdc_world.proofs.SubSteps.{Leaves, Leaves_on, next_leaves}
@@ -169,19 +170,24 @@ AllStay-trans w between w' first second i before found =
     (c.0, c.1, Stays-trans before b.0 c.0 b.2 c.2)
 
 -- through tries of a step that all failed
-AllStay-fails : (failed : ℕ) (w : WorldState) (step : Step) (w' : WorldState) → FailsTimes failed w step w'
-    → AllStay w w'
-AllStay-fails zero w step w' fails = subst (AllStay w) (sym fails) (AllStay-same w)
-AllStay-fails (suc failed) w step w' (answer, between, (before, (passing, last))) =
-    AllStay-trans w between w' (AllStay-fails failed w step between before)
-    (AllStay-next between step answer w' last)
+AllStay-fails : (risks : Risks) (failed : ℕ) (w : WorldState) (step : Step) (w' : WorldState)
+    → FailsTimes risks failed w step w' → AllStay w w'
+AllStay-fails risks zero w step w' fails = subst (AllStay w) (sym fails) (AllStay-same w)
+AllStay-fails risks (suc failed) w step w' (answer, between, (before, (passing, last))) =
+    AllStay-trans w between w' (AllStay-fails risks failed w step between before)
+    (AllStay-next between step answer w' last.0)
 
 -- so through a step that is tried again
-pub AllStay-past : (tries : ℕ) (w : WorldState) (step : Step) (answer : Result Did StepError) (w' : WorldState)
-    → NextPast tries w step answer w' → AllStay w w'
-AllStay-past tries w step answer w' next =
-    AllStay-trans w next.before w' (AllStay-fails next.failed w step next.before next.fails)
-    (AllStay-next next.before step answer w' next.last)
+pub AllStay-past : (risks : Risks) (tries : ℕ) (w : WorldState) (step : Step) (answer : Result Did StepError)
+    (w' : WorldState) → NextPast risks tries w step answer w' → AllStay w w'
+AllStay-past risks tries w step answer w' next =
+    AllStay-trans w next.before w' (AllStay-fails risks next.failed w step next.before next.fails)
+    (AllStay-next next.before step answer w' next.last.0)
+
+-- and through one over a store of these risks
+pub AllStay-over : (risks : Risks) (w : WorldState) (step : Step) (answer : Result Did StepError) (w' : WorldState)
+    → NextOver risks w step answer w' → AllStay w w'
+AllStay-over risks w step answer w' next = AllStay-next w step answer w' next.0
 
 -- all stay through steps that are taken like this
 abbrev pub StaysBy : Going → Type 0

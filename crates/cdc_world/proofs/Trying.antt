@@ -1,10 +1,11 @@
 -- Tries of a step that failed, one more at a time, and the last one.
 use Rattle.std.proofs.Common.{◌≡◌, ℕ, suc, ◌+◌, ◌≤◌, false, IsTrue, Result, refl, subst, ◌∙◌, arith}
+use Rattle.cdc_progress.specs.Stores.{Risks}
 use Rattle.cdc_types.specs.declared.steps.Step.{Step}
 use Rattle.cdc_world.specs.declared.steps.Did.{Did}
 use Rattle.cdc_world.specs.declared.steps.StepError.{StepError}
 use Rattle.cdc_world.specs.Moves.{Moves}
-use Rattle.cdc_world.specs.Next.{loads}
+use Rattle.cdc_world.specs.Next.{NextOver, loads}
 use Rattle.cdc_world.specs.Parts.{Parts}
 use Rattle.cdc_world.specs.Stands.{Stands}
 use Rattle.cdc_world.specs.Tries.{FailsTimes, MovesPast, is_passing}
@@ -13,28 +14,36 @@ use Rattle.cdc_world.specs.Worlds.{WorldState}
 -- a step was tried so often, and each try failed
 pub record HasFailed (p p' : Parts) (step : Step) (failed : ℕ) : Type 0 where
   pub honest : p'.honest ≡ p.honest
+  pub risks : p'.risks ≡ p.risks
   pub leads : (IsTrue (loads step) → IsTrue p.honest) → (w : WorldState) → Stands p w
-      → ((w' : WorldState) × (Stands p' w' × FailsTimes failed w step w'))
+      → ((w' : WorldState) × (Stands p' w' × FailsTimes p.risks failed w step w'))
 
 -- before the first try
 pub HasFailed-none : (p : Parts) (step : Step) → HasFailed p p step 0
-HasFailed-none p step = record { honest = refl; leads = λ honest w st. (w, (st, refl)) }
+HasFailed-none p step = record { honest = refl; risks = refl; leads = λ honest w st. (w, (st, refl)) }
 
 -- one more
 pub HasFailed-more : (p p' p'' : Parts) (step : Step) (failed : ℕ) (answer : Result Did StepError)
     → IsTrue (is_passing answer) → HasFailed p p' step failed → Moves p' step answer p'' → p''.honest ≡ p'.honest
-    → HasFailed p p'' step (failed + 1)
-HasFailed-more p p' p'' step failed answer passing has moves honest' =
+    → p''.risks ≡ p'.risks → HasFailed p p'' step (failed + 1)
+HasFailed-more p p' p'' step failed answer passing has moves honest' risks' =
     let more : suc failed ≡ failed + 1 = omega arith in record {
       honest = honest' ∙ has.honest;
+      risks = risks' ∙ has.risks;
       leads = λ honest w st.
           let before = has.leads honest w st in
           let after = moves (λ reads. has.honest ∙ honest reads) before.0 before.1.0 in (
             after.0,
             (
               after.1.0,
-              subst (λ (n : ℕ). FailsTimes n w step after.0) more
-                  (answer, before.0, (before.1.1, (passing, after.1.1))),
+              subst (λ (n : ℕ). FailsTimes p.risks n w step after.0) more (
+                answer,
+                before.0,
+                (
+                  before.1.1,
+                  (passing, subst (λ (r : Risks). NextOver r before.0 step answer after.0) has.risks after.1.1),
+                ),
+              ),
             ),
           );
     }
@@ -59,7 +68,7 @@ MovesPast-last p p' p'' step tries failed answer within spent has moves honest w
           within = within;
           before = before.0;
           fails = before.1.1;
-          last = after.1.1;
+          last = subst (λ (r : Risks). NextOver r before.0 step answer after.0) has.risks after.1.1;
           spent = spent;
         },
       ),

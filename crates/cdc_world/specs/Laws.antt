@@ -3,6 +3,7 @@ use Rattle.std.specs.Prelude.{◌≡◌, ℕ, List, Option, Some, Result}
 use Rattle.cdc_laws.specs.Faithful.{IsFaithful}
 use Rattle.cdc_match.specs.Arguments.{Arguments}
 use Rattle.cdc_progress.specs.Records.{Saved}
+use Rattle.cdc_progress.specs.Stores.{Risks}
 use Rattle.cdc_types.specs.declared.steps.Step.{Step}
 use Rattle.cdc_world.specs.Closed.{AllStay}
 use Rattle.cdc_world.specs.declared.steps.Did.{Did}
@@ -35,10 +36,10 @@ StepsGoOn = (w : WorldState) (step : Step) (answer : Result Did StepError) (w' :
 
 -- and by a play
 abbrev pub PlaysGoOn : Type 0
-PlaysGoOn = (w : WorldState) (steps : List Step) (done : ℕ) (refusal : Option StepError) (w' : WorldState)
-    → IsReached w → IsPlay w steps done refusal w' → IsReached w'
+PlaysGoOn = (risks : Risks) (w : WorldState) (steps : List Step) (done : ℕ) (refusal : Option StepError)
+    → (w' : WorldState) → IsReached w → IsPlay risks w steps done refusal w' → IsReached w'
 
 -- and by a play that tries again what the store or want of memory refused
 abbrev pub PlaysPastGoOn : Type 0
-PlaysPastGoOn = (tries : ℕ) (w : WorldState) (steps : List Step) (done : ℕ) (refusal : Option StepError)
-    → (w' : WorldState) → IsReached w → IsPlayBy (NextPast tries) w steps done refusal w' → IsReached w'
+PlaysPastGoOn = (risks : Risks) (tries : ℕ) (w : WorldState) (steps : List Step) (done : ℕ)
+    → (refusal : Option StepError) (w' : WorldState) → IsReached w → IsPlayBy (NextPast risks tries) w steps done refusal w' → IsReached w'

@@ -1,14 +1,14 @@
 -- What a world keeps after a step, and after a play.
 use Rattle.std.specs.Prelude.{◌≡◌, ◌≤◌, ℕ, IsTrue, Option, Some, None, Result, Ok, Err, List, [], ◌∷◌, length, take, drop}
 use Rattle.std.specs.List.{list_any}
-use Rattle.cdc_progress.specs.Stores.{IsCounted}
+use Rattle.cdc_progress.specs.Stores.{IsCounted, Risks}
 use Rattle.cdc_progress.specs.declared.errors.StoreError.TheVariants as store
 use Rattle.cdc_types.specs.declared.steps.Step.{Step}
 use Rattle.cdc_world.specs.Closed.{AllStay}
 use Rattle.cdc_world.specs.declared.steps.Did.{Did}
 use Rattle.cdc_world.specs.declared.steps.StepError.{StepError}
 use Rattle.cdc_world.specs.declared.steps.StepError.TheVariants.{NotEnabled, Refused, Store, SessionsExhausted, OutOfMemory}
-use Rattle.cdc_world.specs.Next.{Next, loads}
+use Rattle.cdc_world.specs.Next.{Next, NextOver, loads}
 use Rattle.cdc_world.specs.Parts.{Parts}
 use Rattle.cdc_world.specs.Stands.{Stands}
 use Rattle.cdc_world.specs.Worlds.{WorldState}
@@ -17,19 +17,23 @@ use Rattle.cdc_world.specs.Worlds.{WorldState}
 abbrev pub GoesOn : Parts → (WorldState → WorldState → Type 0) → Parts → Type 0
 GoesOn p LeadsTo p' = (w : WorldState) → Stands p w → (w' : WorldState) × (Stands p' w' × LeadsTo w w')
 
--- by a step that is answered so; of a step that loads this is said over an honest store
-abbrev pub Moves : Parts → Step → Result Did StepError → Parts → Type 0
-Moves p step answer p' =
-    (IsTrue (loads step) → IsTrue p.honest) → GoesOn p (λ w w'. Next w step answer w') p'
-
--- the same, and no closed subscriber has heard anything more after it, and each has its binding
-abbrev pub StepFixesClosed : Parts → Step → Result Did StepError → Parts → Type 0
-StepFixesClosed p step answer p' =
-    (IsTrue (loads step) → IsTrue p.honest) → GoesOn p (λ w w'. Next w step answer w' × AllStay w w') p'
-
 -- how a step may be answered, and the world after it
 abbrev pub Going : Type 1
 Going = WorldState → Step → Result Did StepError → WorldState → Type 0
+
+-- by a step that is taken like this and answered so; of a step that loads this is said over an honest store
+abbrev pub MovesBy : Going → Parts → Step → Result Did StepError → Parts → Type 0
+MovesBy Goes p step answer p' =
+    (IsTrue (loads step) → IsTrue p.honest) → GoesOn p (λ w w'. Goes w step answer w') p'
+
+-- by one over a store of the risks that are kept
+abbrev pub Moves : Parts → Step → Result Did StepError → Parts → Type 0
+Moves p = MovesBy (NextOver p.risks) p
+
+-- by one, and no closed subscriber has heard anything more after it, and each has its binding
+abbrev pub StepFixesClosed : Parts → Step → Result Did StepError → Parts → Type 0
+StepFixesClosed p step answer p' =
+    (IsTrue (loads step) → IsTrue p.honest) → GoesOn p (λ w w'. Next w step answer w' × AllStay w w') p'
 
 -- steps that are all done, each like this, lead from one state to another
 abbrev pub DoesAll : Going → WorldState → List Step → WorldState → Type 0
@@ -52,9 +56,9 @@ pub record IsPlayBy (Goes : Going) (w : WorldState) (steps : List Step) (done : 
   pub does : DoesAll Goes w (take done steps) before
   pub stops : StopsAt Goes before (drop done steps) refusal w'
 
--- a play of steps, each taken once
-abbrev pub IsPlay : WorldState → List Step → ℕ → Option StepError → WorldState → Type 0
-IsPlay = IsPlayBy Next
+-- a play of steps, each taken once, over a store of these risks
+abbrev pub IsPlay : Risks → WorldState → List Step → ℕ → Option StepError → WorldState → Type 0
+IsPlay risks = IsPlayBy (NextOver risks)
 
 -- what is kept goes on by a play; where one of its steps loads, this is said over an honest store
 abbrev pub PlaysBy : Going → Parts → List Step → ℕ → Option StepError → Parts → Type 0
@@ -63,7 +67,7 @@ PlaysBy Goes p steps done refusal p' =
 
 -- by one that takes each step once
 abbrev pub Plays : Parts → List Step → ℕ → Option StepError → Parts → Type 0
-Plays = PlaysBy Next
+Plays p = PlaysBy (NextOver p.risks) p
 
 -- the same, and no closed subscriber has heard anything more after it, and each has its binding
 abbrev pub PlayFixesClosedBy : Going → Parts → List Step → ℕ → Option StepError → Parts → Type 0
@@ -73,7 +77,7 @@ PlayFixesClosedBy Goes p steps done refusal p' =
 
 -- by one that takes each step once
 abbrev pub PlayFixesClosed : Parts → List Step → ℕ → Option StepError → Parts → Type 0
-PlayFixesClosed = PlayFixesClosedBy Next
+PlayFixesClosed p = PlayFixesClosedBy (NextOver p.risks) p
 
 -- a step that is answered so leaves the store's count of failures as it is, unless it is refused for a read or a write
 -- that failed, which counts

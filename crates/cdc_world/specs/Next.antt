@@ -18,6 +18,7 @@ use Rattle.cdc_message.specs.declared.packets.Packet.TheVariants.{Connect, Publi
 use Rattle.cdc_progress.specs.declared.errors.StoreError.{StoreError}
 use Rattle.cdc_progress.specs.declared.errors.StoreError.TheVariants as store
 use Rattle.cdc_progress.specs.Records.{Saved}
+use Rattle.cdc_progress.specs.Stores.{IsRisked, Risks}
 use Rattle.cdc_publisher.specs.Courses.{Course, after_answer, begun, new_course, next_packet, progress_of, takes_confirm, next_poll, with_offer, with_sent}
 use Rattle.cdc_publisher.specs.declared.session.Poll.{Poll}
 use Rattle.cdc_subscriber.specs.Answers.{answer_to}
@@ -256,6 +257,25 @@ Next w step (Err SessionsExhausted) w' = (next w step ≡ Err SessionsExhausted)
 Next w step (Err OutOfMemory) w' = IsTrue (takes_memory step) × (IsTried (next w step) × (w' ≡ w))
 Next w step (Err (Store why)) w' =
     IsTrue (uses_store step) × (IsTried (next w step) × AfterFailure w step why w')
+
+-- the step would be done, where memory and the store allow it
+abbrev pub IsDone : Outcome → Type 0
+IsDone (Ok after) = Unit {0}
+IsDone (Err why) = ⊥
+
+-- a step of this outcome may be answered so over a store of these risks: the store fails where it may; and memory runs
+-- out where the step would be done, or where the store may lack it
+abbrev pub IsStepRisked : Risks → Outcome → Result Did StepError → Type 0
+IsStepRisked risks outcome (Ok did) = Unit {0}
+IsStepRisked risks outcome (Err NotEnabled) = Unit {0}
+IsStepRisked risks outcome (Err (Refused why)) = Unit {0}
+IsStepRisked risks outcome (Err (Store why)) = IsRisked risks why
+IsStepRisked risks outcome (Err SessionsExhausted) = Unit {0}
+IsStepRisked risks outcome (Err OutOfMemory) = IsDone outcome ⊎ IsTrue risks.memory
+
+-- so a step may be answered over a store of these risks, and leave this world
+abbrev pub NextOver : Risks → WorldState → Step → Result Did StepError → WorldState → Type 0
+NextOver risks w step answer w' = Next w step answer w' × IsStepRisked risks (next w step) answer
 
 -- steps, with whatever answers, lead from one world to another
 abbrev pub Leads : WorldState → List Step → WorldState → Type 0

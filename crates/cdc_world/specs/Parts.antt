@@ -6,6 +6,7 @@ use Rattle.cdc_message.specs.declared.items.Delivery.{Delivery}
 use Rattle.cdc_message.specs.declared.packets.Confirm.{Confirm}
 use Rattle.cdc_message.specs.declared.packets.Packet.{Packet}
 use Rattle.cdc_progress.specs.Records.{Saved}
+use Rattle.cdc_progress.specs.Stores.{Risks}
 use Rattle.cdc_publisher.specs.Kept.{Kept as SessionKept}
 use Rattle.cdc_subscriber.specs.Kept.{Kept}
 use Rattle.cdc_world.specs.declared.subscriptions.Subscription.{Subscription}
@@ -32,9 +33,10 @@ pub record ActorParts : Type 0 where
   pub confirms : List Confirm
   pub subscriptions : List SubscriptionParts
 
--- the actors and the store: what it holds, whether it is honest, and how often it has failed
+-- the actors and the store: what it holds, whether it is honest, how often it has failed, and what may befall it
 pub record Parts : Type 0 where
   pub actors : ActorParts
   pub held : Option Saved
   pub honest : Bool
   pub failed : ℕ
+  pub risks : Risks

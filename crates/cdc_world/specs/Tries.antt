@@ -4,8 +4,9 @@ use Rattle.cdc_types.specs.declared.steps.Step.{Step}
 use Rattle.cdc_world.specs.declared.steps.Did.{Did}
 use Rattle.cdc_world.specs.declared.steps.StepError.{StepError}
 use Rattle.cdc_world.specs.declared.steps.StepError.TheVariants.{NotEnabled, Refused, Store, SessionsExhausted, OutOfMemory}
-use Rattle.cdc_world.specs.Moves.{GoesOn, Going}
-use Rattle.cdc_world.specs.Next.{Next, loads}
+use Rattle.cdc_progress.specs.Stores.{Risks}
+use Rattle.cdc_world.specs.Moves.{MovesBy}
+use Rattle.cdc_world.specs.Next.{NextOver}
 use Rattle.cdc_world.specs.Parts.{Parts}
 use Rattle.cdc_world.specs.Worlds.{WorldState}
 
@@ -18,25 +19,24 @@ is_passing (Err (Store why)) = true
 is_passing (Err SessionsExhausted) = false
 is_passing (Err OutOfMemory) = true
 
--- this many tries of a step, one after another, each of them answered so
-abbrev pub FailsTimes : ℕ → WorldState → Step → WorldState → Type 0
-FailsTimes zero w step w' = w' ≡ w
-FailsTimes (suc failed) w step w' =
+-- this many tries of a step over a store of these risks, one after another, each of them answered so
+abbrev pub FailsTimes : Risks → ℕ → WorldState → Step → WorldState → Type 0
+FailsTimes risks zero w step w' = w' ≡ w
+FailsTimes risks (suc failed) w step w' =
     (answer : Result Did StepError) × (between : WorldState)
-    × (FailsTimes failed w step between × (IsTrue (is_passing answer) × Next between step answer w'))
+    × (FailsTimes risks failed w step between × (IsTrue (is_passing answer) × NextOver risks between step answer w'))
 
 -- a step that is tried again after such an answer, at most this many times more: the tries that failed, and the last
 -- one, whose answer is the step's; that one too has failed only where as many failed before it as may be tried again
-pub record NextPast (tries : ℕ) (w : WorldState) (step : Step) (answer : Result Did StepError) (w' : WorldState)
-    : Type 0 where
+pub record NextPast (risks : Risks) (tries : ℕ) (w : WorldState) (step : Step) (answer : Result Did StepError)
+    (w' : WorldState) : Type 0 where
   pub failed : ℕ
   pub within : failed ≤ tries
   pub before : WorldState
-  pub fails : FailsTimes failed w step before
-  pub last : Next before step answer w'
+  pub fails : FailsTimes risks failed w step before
+  pub last : NextOver risks before step answer w'
   pub spent : IsTrue (is_passing answer) → failed ≡ tries
 
 -- what is kept goes on by a step that is tried so; of a step that loads this is said over an honest store
 abbrev pub MovesPast : ℕ → Parts → Step → Result Did StepError → Parts → Type 0
-MovesPast tries p step answer p' =
-    (IsTrue (loads step) → IsTrue p.honest) → GoesOn p (λ w w'. NextPast tries w step answer w') p'
+MovesPast tries p = MovesBy (NextPast p.risks tries) p

@@ -2,7 +2,7 @@
 
 ghost use Rattle.std.specs.Prelude.{◌≡◌, ◌<◌, ◌≤◌, ℕ, Some, IfOk, IfErr, IsTrue, OnOk, Err, length};
 ghost use Rattle.cdc_laws.specs.Faithful.{IsFaithful, kept_from};
-ghost use Rattle.cdc_progress.specs.Stores.{MayRefuseLoad};
+ghost use Rattle.cdc_progress.specs.Stores.{IsRisked, MayRefuseLoad};
 ghost use Rattle.cdc_subscriber.specs.Heard.{kept_of};
 ghost use Rattle.cdc_types.specs.declared.steps.Step.TheVariants.{Save, Start};
 ghost use Rattle.cdc_world.specs.Moves.{IsStoreCounted, Moves, PlayFixesClosed, PlayFixesClosedBy, Plays, PlaysBy, StepFixesClosed};
@@ -53,6 +53,7 @@ impl<S: ProgressStore> Model for World<S> {
       held = S.held world.store;
       honest = S.is_honest world.store;
       failed = S.failed world.store;
+      risks = S.risks world.store;
     } };
 }
 
@@ -76,6 +77,7 @@ impl<S: ProgressStore + Drop> World<S> {
         ensures stands { IfOk result
             (λ world. Stands world (new_world bindings.items window (S.held store))) }
         ensures honest { IfOk result (λ world. world.honest ≡ S.is_honest store) }
+        ensures risks { IfOk result (λ world. world.risks ≡ S.risks store) }
     {
         Ok(World {
             actors: Actors::new(alloc, bindings, window)?,
@@ -93,6 +95,7 @@ impl<S: ProgressStore> World<S> {
         ensures fixed { StepFixesClosed self.old step.now result self.new }
         ensures counted { IsStoreCounted self.old.failed self.new.failed result }
         ensures honest { self.new.honest ≡ self.old.honest }
+        ensures risks { self.new.risks ≡ self.old.risks }
     {
         match step {
             Step::Start => self.start(alloc),
@@ -106,6 +109,7 @@ impl<S: ProgressStore> World<S> {
         ensures plays { Plays self.old steps.now result.done result.refusal self.new }
         ensures fixed { PlayFixesClosed self.old steps.now result.done result.refusal self.new }
         ensures honest { self.new.honest ≡ self.old.honest }
+        ensures risks { self.new.risks ≡ self.old.risks }
     {
         self.play_past(alloc, steps, 0)
     }
@@ -113,11 +117,12 @@ impl<S: ProgressStore> World<S> {
     /// Takes these steps in order, up to the first that is refused. One that is refused because the store failed or memory
     /// ran out is taken again, at most `tries` times more; the answer of the last try is the step's.
     pub fn play_past(&mut self, alloc: Global, steps: &[Step], tries: usize) -> Played
-        ensures plays { PlaysBy (NextPast tries) self.old steps.now result.done result.refusal
-            self.new }
-        ensures fixed { PlayFixesClosedBy (NextPast tries) self.old steps.now result.done
+        ensures plays { PlaysBy (NextPast self.old.risks tries) self.old steps.now result.done
             result.refusal self.new }
+        ensures fixed { PlayFixesClosedBy (NextPast self.old.risks tries) self.old steps.now
+            result.done result.refusal self.new }
         ensures honest { self.new.honest ≡ self.old.honest }
+        ensures risks { self.new.risks ≡ self.old.risks }
     {
         for (done, step) in steps.iter().enumerate() {
             if let Err(why) = self.step_past(alloc, step, tries) {
@@ -175,7 +180,9 @@ impl<S: ProgressStore> World<S> {
         ensures counted { IfErr result (MayRefuseLoad self.old.failed self.new.failed) }
         ensures uncounted { OnOk result (self.new.failed ≡ self.old.failed) }
         ensures record { IsTrue self.old.honest → ¬ (result ≡ Err StoreError.BadRecord) }
+        ensures risked { IfErr result (IsRisked self.old.risks) }
         ensures honest { self.new.honest ≡ self.old.honest }
+        ensures risks { self.new.risks ≡ self.old.risks }
     {
         self.store.load()
     }
@@ -218,6 +225,7 @@ impl<S: ProgressStore> World<S> {
     fn step_past(&mut self, alloc: Global, step: &Step, tries: usize) -> Result<Did, StepError>
         ensures next { MovesPast tries self.old step.now result self.new }
         ensures honest { self.new.honest ≡ self.old.honest }
+        ensures risks { self.new.risks ≡ self.old.risks }
     {
         for _ in 0..tries {
             let answer = self.step(alloc, step);
@@ -233,6 +241,7 @@ impl<S: ProgressStore> World<S> {
         ensures next { Moves self.old Start result self.new }
         ensures counted { IsStoreCounted self.old.failed self.new.failed result }
         ensures honest { self.new.honest ≡ self.old.honest }
+        ensures risks { self.new.risks ≡ self.old.risks }
     {
         if self.actors.session().is_some() {
             return Err(StepError::NotEnabled);
@@ -247,6 +256,7 @@ impl<S: ProgressStore> World<S> {
         ensures next { Moves self.old Save result self.new }
         ensures counted { IsStoreCounted self.old.failed self.new.failed result }
         ensures honest { self.new.honest ≡ self.old.honest }
+        ensures risks { self.new.risks ≡ self.old.risks }
     {
         let Some(session) = self.actors.session() else {
             return Err(StepError::NotEnabled);

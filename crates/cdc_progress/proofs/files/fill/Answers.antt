@@ -1,7 +1,6 @@
-use Rattle.std.proofs.Common.{◌-◌, rules, arith, length, sym, subst, le_refl}
+use Rattle.std.proofs.Common.{◌-◌, rules, length, sym, subst}
 use Rattle.std.specs.Io.KnownBytes.{Consumes}
 use Rattle.std.proofs.KnownBytes.{Consumes-trans}
-use Rattle.std.proofs.lemmas.Slice.{take-put_mid_below}
 use Rattle.cdc_progress.proofs.FileBytes.{filled_more}
 use Rattle.cdc_progress.proofs.files.fill.Goals as goal
 

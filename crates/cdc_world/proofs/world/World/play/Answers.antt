@@ -1,7 +1,7 @@
-use Rattle.cdc_world.specs.Next.{Next}
+use Rattle.cdc_world.specs.Next.{NextOver}
 use Rattle.cdc_world.proofs.Fixed.{PlayFixesClosed-plays}
 use Rattle.cdc_world.proofs.Playing.{Plays-once}
-use Rattle.cdc_world.proofs.SubClosed.{AllStay-next}
+use Rattle.cdc_world.proofs.SubClosed.{AllStay-over}
 use Rattle.cdc_world.proofs.world.World.play.Goals as goal
 
 pub returns-clause-plays : goal.returns-clause-plays
@@ -11,7 +11,7 @@ returns-clause-plays g c =
 
 pub returns-clause-fixed : goal.returns-clause-fixed
 returns-clause-fixed g c =
-    PlayFixesClosed-plays Next AllStay-next c.args.self.now c.args.steps.now c.play_past.result.done
+    PlayFixesClosed-plays (NextOver c.args.self.now.risks) (AllStay-over c.args.self.now.risks) c.args.self.now c.args.steps.now c.play_past.result.done
     c.play_past.result.refusal c.play_past.new.self
     (Plays-once c.args.self.now c.args.steps.now c.play_past.result.done c.play_past.result.refusal
     c.play_past.new.self c.play_past.ensures.plays)

@@ -3,4 +3,4 @@ use Rattle.cdc_world.proofs.Playing.{HasDone}
 use Rattle.cdc_world.proofs.world.World.play_past.Given as goal
 
 abbrev pub invariant-loop-done : goal.invariant-loop-done
-invariant-loop-done g l = HasDone (NextPast l.tries) l.fn.self l.self l.steps l.done
+invariant-loop-done g l = HasDone (NextPast l.fn.self.risks l.tries) l.fn.self l.self l.steps l.done

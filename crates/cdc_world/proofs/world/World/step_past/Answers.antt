@@ -1,5 +1,4 @@
-use Rattle.std.proofs.Common.{◌≡◌, ◌∙◌, sym, subst, IsTrue, true, arith}
-use Rattle.cdc_world.specs.Tries.{is_passing}
+use Rattle.std.proofs.Common.{◌∙◌, sym, arith}
 use Rattle.cdc_world.proofs.Trying.{HasFailed-more, HasFailed-none, MovesPast-last, isnt_passing}
 use Rattle.cdc_world.proofs.world.World.step_past.Goals as goal
 
@@ -21,7 +20,7 @@ loop-preserved g c = record {
   within = omega arith;
   failed = HasFailed-more c.args.self.now c.loop.self c.step-answer.new.self c.args.step.now c.loop.counter c.step-answer.result
       (sym c.is_passing.ensures ∙ c.if-not-is_passing.false) c.loop.invariant.failed c.step-answer.ensures.next
-      c.step-answer.ensures.honest;
+      c.step-answer.ensures.honest c.step-answer.ensures.risks;
 }
 
 pub returns-clause-next : goal.returns-clause-next
@@ -32,3 +31,9 @@ returns-clause-next g c =
 
 pub returns-clause-honest : goal.returns-clause-honest
 returns-clause-honest g c = c.step.ensures.honest ∙ c.loop.invariant.failed.honest
+
+pub returns-then-not-is_passing-clause-risks : goal.returns-then-not-is_passing-clause-risks
+returns-then-not-is_passing-clause-risks g c = c.step-answer.ensures.risks ∙ c.loop.invariant.failed.risks
+
+pub returns-clause-risks : goal.returns-clause-risks
+returns-clause-risks g c = c.step.ensures.risks ∙ c.loop.invariant.failed.risks
