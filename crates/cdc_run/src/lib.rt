@@ -1,0 +1,17 @@
+//! A run in threads: what it is asked for, the links between its ends, one thread for each end, and what all of them come
+//! to at the end.
+#![tactic(auto)]
+
+pub mod configs;
+pub mod gates;
+pub mod limits;
+pub mod places;
+pub mod plans;
+#[cfg(test)]
+mod tests;
+
+pub use configs::Config;
+pub use gates::{Gate, OpenGate};
+pub use limits::RunLimits;
+pub use places::Place;
+pub use plans::Faults;
