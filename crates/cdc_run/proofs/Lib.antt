@@ -1,1 +1,3 @@
 mod Closes
+mod Gathering
+mod Zips

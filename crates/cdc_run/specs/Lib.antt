@@ -1,2 +1,4 @@
 pub mod Configs
+pub mod Jobs
+pub mod Outcomes
 pub mod Plans

@@ -4,7 +4,9 @@
 
 pub mod configs;
 pub mod gates;
+mod jobs;
 pub mod limits;
+mod outcomes;
 pub mod places;
 pub mod plans;
 #[cfg(test)]
