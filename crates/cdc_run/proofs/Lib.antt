@@ -1,3 +1,4 @@
 mod Closes
 mod Gathering
 mod Zips
+mod Fresh

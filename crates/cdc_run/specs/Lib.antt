@@ -2,3 +2,4 @@ pub mod Configs
 pub mod Jobs
 pub mod Outcomes
 pub mod Plans
+pub mod Wires

@@ -11,6 +11,7 @@ pub mod places;
 pub mod plans;
 #[cfg(test)]
 mod tests;
+mod wires;
 
 pub use configs::Config;
 pub use gates::{Gate, OpenGate};
