@@ -1,7 +1,8 @@
 -- What a subscriber's end has received of the broker, what its subscriber has heard of that, and what it has acknowledged.
-use Rattle.std.specs.Prelude.{◌≡◌, ℕ, ◌<◌, ◌&&◌, nat_le, nat_lt, Bool, true, false, Option, Some, None, List, [], ◌∷◌, ◌++◌, fold, length, map, if◌then◌else◌}
+use Rattle.std.specs.Prelude.{◌≡◌, ◌⊎◌, ℕ, ◌<◌, ◌&&◌, nat_le, nat_lt, Bool, true, false, Option, Some, None, List, [], ◌∷◌, ◌++◌, fold, length, map, if◌then◌else◌}
 use Rattle.std.specs.List.{filter_map}
 use Rattle.cdc_ends.specs.declared.faults.RunFault.{RunFault}
+use Rattle.cdc_ends.specs.declared.faults.RunFault.TheVariants.{PeerGone, OutOfMemory}
 use Rattle.cdc_ends.specs.declared.turns.Turn.{Turn}
 use Rattle.cdc_ends.specs.declared.turns.Turn.TheVariants.{More, Finished}
 use Rattle.cdc_laws.specs.Hearing.{HasTaken}
@@ -135,6 +136,10 @@ pub record IsTurned (old : Intake) (turn : Turn) (new : Intake) : Type 0 where
 pub record HasTurned (old : SubscriberState) (turn : Turn) (new : SubscriberState) : Type 0 where
   pub turned : IsTurned old.intake turn new.intake
   pub rest : new ≡ record old { intake = new.intake }
+
+-- a turn fails where a link refuses it, or for want of memory
+abbrev pub IsTurnFault : RunFault → Type 0
+IsTurnFault fault = (fault ≡ PeerGone) ⊎ (fault ≡ OutOfMemory)
 
 -- ---- laws
 

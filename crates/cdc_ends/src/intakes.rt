@@ -1,7 +1,7 @@
 //! A subscriber over its links.
 
-ghost use Rattle.std.specs.Prelude.{◌≡◌, IfOk, length, min};
-ghost use Rattle.cdc_ends.specs.SubscriberEnds.{IsBrought, IsSubscriberEnd, IsTurned, heard_after, is_due, new_intake};
+ghost use Rattle.std.specs.Prelude.{◌≡◌, IfErr, IfOk, length, min};
+ghost use Rattle.cdc_ends.specs.SubscriberEnds.{IsBrought, IsSubscriberEnd, IsTurnFault, IsTurned, heard_after, is_due, new_intake};
 ghost use Rattle.cdc_links.specs.Links.{with_sent};
 ghost use Rattle.cdc_subscriber.specs.Heard.{Heard, applied_of, kept_of};
 ghost use Rattle.cdc_traffic.specs.Following.{FollowsToBroker};
@@ -53,7 +53,8 @@ impl Naming<()> for Nothing {
 
 // Receives the broker's next message.
 fn hear<R: Wait>(inbox: &mut LinkIn<ToSubscriber>, rt: &R) -> Result<ToSubscriber, RunFault>
-    ensures { IfOk result (λ message. IsBrought inbox.old message inbox.new) }
+    ensures brought { IfOk result (λ message. IsBrought inbox.old message inbox.new) }
+    ensures fault { IfErr result IsTurnFault }
 {
     match inbox.receive(rt) {
         Ok(message) => Ok(message),
@@ -64,7 +65,8 @@ fn hear<R: Wait>(inbox: &mut LinkIn<ToSubscriber>, rt: &R) -> Result<ToSubscribe
 // Sends the broker an acknowledgement.
 fn acknowledge<R: Wait>(acks: &mut LinkOut<ToBroker>, rt: &R, ack: Ack) -> Result<(), RunFault>
     requires { FollowsToBroker acks.old.number acks.old.sent (ToBroker.Ack ack, tt) }
-    ensures { IfOk result (λ _. acks.new ≡ with_sent acks.old (ToBroker.Ack ack, tt)) }
+    ensures sent { IfOk result (λ _. acks.new ≡ with_sent acks.old (ToBroker.Ack ack, tt)) }
+    ensures fault { IfErr result IsTurnFault }
 {
     match acks.send::<Nothing, R>(rt, ToBroker::Ack(ack)) {
         Ok(()) => Ok(()),
@@ -90,8 +92,9 @@ fn take(
     delivery: &Delivery,
     close_after: Option<u64>,
 ) -> Result<(), RunFault>
-    ensures { (heard : Heard) → subscriber.old ≡ kept_of heard
+    ensures heard { (heard : Heard) → subscriber.old ≡ kept_of heard
         → IfOk result (λ _. subscriber.new ≡ kept_of (heard_after close_after heard delivery.now)) }
+    ensures fault { IfErr result IsTurnFault }
 {
     let Ok(_) = subscriber.take(alloc, delivery) else {
         return Err(RunFault::OutOfMemory);
@@ -126,7 +129,8 @@ impl Intake {
     /// Receives the broker's next message: takes a delivery and acknowledges it, or finishes.
     pub(crate) fn turn<R: Wait>(&mut self, rt: &R, alloc: Global) -> Result<Turn, RunFault>
         requires { IsSubscriberEnd self.old }
-        ensures { IfOk result (λ turn. IsTurned self.old turn self.new) }
+        ensures turned { IfOk result (λ turn. IsTurned self.old turn self.new) }
+        ensures fault { IfErr result IsTurnFault }
     {
         if self.finished {
             return Ok(Turn::Finished);

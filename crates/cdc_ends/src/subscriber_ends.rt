@@ -1,7 +1,7 @@
 //! A subscriber's end: it takes what its queue hands out, and acknowledges each delivery.
 
 ghost use Rattle.std.specs.Prelude.{◌≡◌, ◌<◌, Err, IfErr, IfOk, None, Some, []};
-ghost use Rattle.cdc_ends.specs.SubscriberEnds.{AskedClose, DeliveriesAreHeard, HasTurned, UnaskedStayOpen, new_intake};
+ghost use Rattle.cdc_ends.specs.SubscriberEnds.{AskedClose, DeliveriesAreHeard, HasTurned, IsTurnFault, UnaskedStayOpen, new_intake};
 
 use crate::faults::RunFault;
 use crate::intakes::Intake;
@@ -64,11 +64,13 @@ impl SubscriberEnd {
 
     /// Receives one message of the broker. A delivery is taken, where the subscriber isn't closed yet and has applied as
     /// many events as it is to close after it closes, and the delivery is acknowledged, also by one that is closed. At
-    /// the broker's last message the end has finished; from then on nothing more is received. The first fault stays: it
-    /// is answered from then on.
+    /// the broker's last message the end has finished; from then on nothing more is received. `PeerGone`: a message or an
+    /// acknowledgement was refused by its link. `OutOfMemory`: a delivery wasn't taken. The first fault stays: it is
+    /// answered from then on.
     pub fn turn<R: Wait>(&mut self, rt: &R, alloc: Global) -> Result<Turn, RunFault>
         ensures turned { IfOk result (λ turn. HasTurned self.old turn self.new) }
         ensures fault { IfErr result (λ fault. self.new.fault ≡ Some fault) }
+        ensures kind { self.old.fault ≡ None → IfErr result IsTurnFault }
         ensures again { (fault : RunFault) → self.old.fault ≡ Some fault
             → (result ≡ Err fault) × (self.new ≡ self.old) }
     {

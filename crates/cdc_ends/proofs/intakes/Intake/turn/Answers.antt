@@ -19,5 +19,5 @@ acknowledge-requires g c =
     let is : IsSubscriberEnd intake = subst IsSubscriberEnd (sym c.self.view_is) c.requires in
     let delivery : Delivery = c.in-Delivery.delivery in
     let position : 0 < delivery.position =
-    subst MaySendSubscriber c.in-Delivery.is c.in_ok-delivery.ensures.follows.may in
+    subst MaySendSubscriber c.in-Delivery.is c.in_ok-delivery.ensures.brought.follows.may in
     may_acknowledge intake is delivery position
