@@ -1,3 +1,5 @@
+mod Closing
 mod Equal
 mod Said
+mod Taking
 mod Talking

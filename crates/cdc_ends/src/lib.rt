@@ -5,11 +5,16 @@
 mod clients;
 mod conversations;
 pub mod faults;
+mod intakes;
 mod orders;
 mod same;
+mod subscriber_ends;
 #[cfg(test)]
 mod tests;
+pub mod turns;
 
 pub use clients::ClientEnd;
 pub use faults::RunFault;
 pub use orders::order_laws;
+pub use subscriber_ends::{SubscriberEnd, subscriber_laws};
+pub use turns::Turn;
