@@ -1,3 +1,6 @@
 mod Equal
 mod Said
 mod Talking
+mod Receipts
+mod Told
+mod Booked

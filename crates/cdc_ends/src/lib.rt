@@ -4,12 +4,18 @@
 
 mod clients;
 mod conversations;
+mod desks;
 pub mod faults;
+mod heard;
+mod ledger_ends;
 mod orders;
 mod same;
 #[cfg(test)]
 mod tests;
+pub mod turns;
 
 pub use clients::ClientEnd;
 pub use faults::RunFault;
+pub use ledger_ends::LedgerEnd;
 pub use orders::order_laws;
+pub use turns::Turn;
