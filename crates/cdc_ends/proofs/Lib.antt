@@ -3,3 +3,6 @@ mod Equal
 mod Said
 mod Taking
 mod Talking
+mod Receipts
+mod Told
+mod Booked
