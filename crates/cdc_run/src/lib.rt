@@ -9,6 +9,7 @@ pub mod limits;
 mod outcomes;
 pub mod places;
 pub mod plans;
+mod settling;
 #[cfg(test)]
 mod tests;
 mod wires;
@@ -18,3 +19,4 @@ pub use gates::{Gate, OpenGate};
 pub use limits::RunLimits;
 pub use places::Place;
 pub use plans::Faults;
+pub use settling::settle_laws;
