@@ -22,7 +22,7 @@ one_batch client before p rest own true is = ap (λ (l : List Batch). p.1 ∷ l)
 one_batch client before p rest own false is = is
 
 -- those of a list that begins with it
-own_batches : (client : ℕ) (p : ℕ × Batch) (order : List (ℕ × Batch)) (b : Bool) → (p.0 == client) ≡ b
+pub own_batches : (client : ℕ) (p : ℕ × Batch) (order : List (ℕ × Batch)) (b : Bool) → (p.0 == client) ≡ b
     → batches_by client (p ∷ order) ≡ (if b then p.1 ∷ batches_by client order else batches_by client order)
 own_batches client p order true is =
     ap (λ (b : Bool). map (λ (q : ℕ × Batch). q.1)
@@ -63,7 +63,7 @@ pub replies_are_said : RepliesAreSaid
 replies_are_said client order p = said_push client [] order p
 
 -- the past that one batch more makes
-past_push : (before : List (ℕ × Batch)) (p : ℕ × Batch) → past_of (before ++ p ∷ []) ≡ with_batch p.1 (past_of before)
+pub past_push : (before : List (ℕ × Batch)) (p : ℕ × Batch) → past_of (before ++ p ∷ []) ≡ with_batch p.1 (past_of before)
 past_push before p =
     ap (λ (bs : List Batch). record { batches = bs; closed = false })
     (map-append (λ (q : ℕ × Batch). q.1) before (p ∷ []))

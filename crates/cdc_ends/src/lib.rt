@@ -4,10 +4,19 @@
 
 mod clients;
 mod conversations;
+mod desks;
 pub mod faults;
+mod intakes;
+mod heard;
+mod ledger_ends;
 mod orders;
 mod same;
+mod subscriber_ends;
+pub mod turns;
 
 pub use clients::ClientEnd;
 pub use faults::RunFault;
+pub use ledger_ends::LedgerEnd;
 pub use orders::order_laws;
+pub use subscriber_ends::{SubscriberEnd, subscriber_laws};
+pub use turns::Turn;

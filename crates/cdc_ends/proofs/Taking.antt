@@ -1,0 +1,117 @@
+-- A subscriber's end: what it may acknowledge, and what stays so of it with a message more.
+use Rattle.std.proofs.Common.{◌≡◌, ℕ, ◌<◌, Bool, true, false, Option, List, [], ◌∷◌, ◌++◌, refl, sym, ap, ◌∙◌, subst, map, append-nil}
+use Rattle.std.specs.Prelude.{◌||◌}
+use Rattle.std.specs.List.{list_any}
+use Rattle.std.proofs.lemmas.List.{map-append}
+use Rattle.std.proofs.lemmas.List.Elements.{filter_map-append}
+use Rattle.cdc_ends.specs.SubscriberEnds.{HasReceived, Intake, IsSubscriberEnd, IsTurned, ack_of, delivery_of, heard_by, stop_if, taken_by, with_message}
+use Rattle.cdc_ends.specs.declared.turns.Turn.{Turn}
+use Rattle.cdc_ends.proofs.Closing.{deliveries_are_heard}
+use Rattle.cdc_links.specs.Links.{of_sender}
+use Rattle.cdc_links.proofs.Entries.{of_sender-snoc_own}
+use Rattle.cdc_message.specs.declared.items.Delivery.{Delivery}
+use Rattle.cdc_subscriber.specs.Heard.{kept_of}
+use Rattle.cdc_traffic.specs.Following.{FollowsToBroker, ends_to_broker, has_ended}
+use Rattle.cdc_traffic.specs.declared.messages.ToBroker.{ToBroker}
+use Rattle.cdc_traffic.specs.declared.messages.ToSubscriber.{ToSubscriber}
+use Rattle.cdc_traffic.specs.declared.messages.ToSubscriber.TheVariants.{Delivery as Hands, Stop}
+
+-- no acknowledgement ends a conversation
+acks_go_on : (number : ℕ) (ds : List Delivery) → list_any ends_to_broker (map (ack_of number) ds) ≡ false
+acks_go_on number [] = refl
+acks_go_on number (d ∷ ds) = acks_go_on number ds
+
+-- whether a sender has ended is told by its messages, whatever they name
+ended_of : (sent : List (ToBroker × Unit {0}))
+    → has_ended ends_to_broker sent ≡ list_any ends_to_broker (map (λ m. m.0) sent)
+ended_of [] = refl
+ended_of (m ∷ sent) = ap (λ (b : Bool). ends_to_broker m.0 || b) (ended_of sent)
+
+module _ (c : Intake) (is : IsSubscriberEnd c) where
+  -- it may acknowledge a delivery that has a position
+  pub may_acknowledge : (d : Delivery) → 0 < d.position
+      → FollowsToBroker c.acks.number c.acks.sent (ack_of c.number d, tt)
+  may_acknowledge d position = record {
+    goes_on = ended_of c.acks.sent
+        ∙ ap (list_any ends_to_broker) is.acknowledged
+        ∙ acks_go_on c.number (taken_by c.inbox);
+    may = (subst (λ (n : ℕ). 0 < n) (sym is.own) is.first, sym is.own, position);
+  }
+
+  -- of an end that hasn't finished
+  module _ (goes_on : c.finished ≡ false) where
+    came_so_far : map (λ e. e.1.0) c.inbox.received ≡ map Hands (taken_by c.inbox)
+    came_so_far =
+        is.came
+        ∙ ap (λ (b : Bool). map Hands (taken_by c.inbox) ++ stop_if b) goes_on
+        ∙ append-nil (map Hands (taken_by c.inbox))
+
+    -- what a message more makes of what came of the broker
+    of_broker_more : (message : ToSubscriber)
+        → of_sender 0 (c.inbox.received ++ (0, (message, tt)) ∷ [])
+        ≡ map (λ e. e.1) (c.inbox.received ++ (0, (message, tt)) ∷ [])
+    of_broker_more message =
+        of_sender-snoc_own (0, (message, tt)) c.inbox.received
+        ∙ ap (λ (l : List (ToSubscriber × Unit {0})). l ++ (message, tt) ∷ []) is.of_broker
+        ∙ sym (map-append (λ (e : ℕ × (ToSubscriber × Unit {0})). e.1) c.inbox.received ((0, (message, tt)) ∷ []))
+
+    -- with a delivery more it is one still
+    taken_is : (d : Delivery) → IsSubscriberEnd (with_message (Hands d) c)
+    taken_is d =
+        let next : Intake = with_message (Hands d) c in
+        let brings : ℕ × (ToSubscriber × Unit {0}) → Option Delivery = λ e. delivery_of e.1.0 in
+        let more : taken_by next.inbox ≡ taken_by c.inbox ++ d ∷ [] =
+        filter_map-append brings c.inbox.received ((0, (Hands d, tt)) ∷ []) in
+        let all : List Delivery = taken_by c.inbox ++ d ∷ [] in
+        record {
+          first = is.first;
+          own = is.own;
+          alone = is.alone;
+          of_broker = of_broker_more (Hands d);
+          came = map-append (λ (e : ℕ × (ToSubscriber × Unit {0})). e.1.0) c.inbox.received ((0, (Hands d, tt)) ∷ [])
+              ∙ ap (λ (l : List ToSubscriber). l ++ Hands d ∷ []) came_so_far
+              ∙ sym (map-append Hands (taken_by c.inbox) (d ∷ []))
+              ∙ ap (map Hands) (sym more)
+              ∙ sym (append-nil (map Hands (taken_by next.inbox)))
+              ∙ ap (λ (b : Bool). map Hands (taken_by next.inbox) ++ stop_if b) (sym goes_on);
+          acknowledged = map-append (λ (m : ToBroker × Unit {0}). m.0) c.acks.sent ((ack_of c.number d, tt) ∷ [])
+              ∙ ap (λ (l : List ToBroker). l ++ ack_of c.number d ∷ []) is.acknowledged
+              ∙ sym (map-append (ack_of c.number) (taken_by c.inbox) (d ∷ []))
+              ∙ ap (map (ack_of c.number)) (sym more);
+          keeps = ap (λ (l : List Delivery). kept_of (heard_by c.close_after l)) (sym more);
+          hears = deliveries_are_heard c.close_after (taken_by next.inbox);
+        }
+
+    -- and once it was told to stop
+    stopped_is : IsSubscriberEnd (with_message Stop c)
+    stopped_is =
+        let next : Intake = with_message Stop c in
+        let brings : ℕ × (ToSubscriber × Unit {0}) → Option Delivery = λ e. delivery_of e.1.0 in
+        let same : taken_by next.inbox ≡ taken_by c.inbox =
+        filter_map-append brings c.inbox.received ((0, (Stop, tt)) ∷ []) ∙ append-nil (taken_by c.inbox) in
+        record {
+          first = is.first;
+          own = is.own;
+          alone = is.alone;
+          of_broker = of_broker_more Stop;
+          came = map-append (λ (e : ℕ × (ToSubscriber × Unit {0})). e.1.0) c.inbox.received ((0, (Stop, tt)) ∷ [])
+              ∙ ap (λ (l : List ToSubscriber). l ++ Stop ∷ []) came_so_far
+              ∙ ap (λ (l : List Delivery). map Hands l ++ Stop ∷ []) (sym same);
+          acknowledged = is.acknowledged ∙ ap (map (ack_of c.number)) (sym same);
+          keeps = is.keeps ∙ ap (λ (l : List Delivery). kept_of (heard_by c.close_after l)) (sym same);
+          hears = deliveries_are_heard c.close_after (taken_by next.inbox);
+        }
+
+    received_is : (message : ToSubscriber) → IsSubscriberEnd (with_message message c)
+    received_is (Hands d) = taken_is d
+    received_is Stop = stopped_is
+
+-- after a turn it is one still
+pub turned_is : (old new : Intake) (turn : Turn) → IsSubscriberEnd old → IsTurned old turn new → IsSubscriberEnd new
+turned_is old new turn is turned = go old.finished refl
+  where
+    go : (b : Bool) → old.finished ≡ b → IsSubscriberEnd new
+    go true finished = subst IsSubscriberEnd (sym (turned.stays finished)) is
+    go false goes_on =
+        let has : HasReceived old new = turned.goes_on goes_on in
+        subst IsSubscriberEnd (sym has.after) (received_is old is goes_on has.message)

@@ -1,0 +1,163 @@
+-- What a subscriber's end has received of the broker, what its subscriber has heard of that, and what it has acknowledged.
+use Rattle.std.specs.Prelude.{◌≡◌, ◌⊎◌, ℕ, ◌<◌, ◌&&◌, nat_le, nat_lt, Bool, true, false, Option, Some, None, List, [], ◌∷◌, ◌++◌, fold, length, map, if◌then◌else◌}
+use Rattle.std.specs.List.{filter_map}
+use Rattle.cdc_ends.specs.declared.faults.RunFault.{RunFault}
+use Rattle.cdc_ends.specs.declared.faults.RunFault.TheVariants.{PeerGone, OutOfMemory}
+use Rattle.cdc_ends.specs.declared.turns.Turn.{Turn}
+use Rattle.cdc_ends.specs.declared.turns.Turn.TheVariants.{More, Finished}
+use Rattle.cdc_laws.specs.Hearing.{HasTaken}
+use Rattle.cdc_links.specs.Links.{Incoming, Outgoing, of_sender, with_received, with_sent}
+use Rattle.cdc_message.specs.declared.items.Delivery.{Delivery}
+use Rattle.cdc_subscriber.specs.Heard.{Heard, applied_of, has_ended, kept_of, next, nothing}
+use Rattle.cdc_subscriber.specs.Kept.{Kept}
+use Rattle.cdc_traffic.specs.Following.{FollowsToSubscriber}
+use Rattle.cdc_traffic.specs.declared.messages.ToBroker.{ToBroker}
+use Rattle.cdc_traffic.specs.declared.messages.ToBroker.TheVariants.{Ack as Acknowledges}
+use Rattle.cdc_traffic.specs.declared.messages.ToSubscriber.{ToSubscriber}
+use Rattle.cdc_traffic.specs.declared.messages.ToSubscriber.TheVariants.{Delivery as Hands, Stop}
+
+-- a subscriber over its links: its number, what it has received and what it has acknowledged, what it keeps, after how
+-- many events it was asked to close, and whether it was told to stop
+pub record Intake : Type 0 where
+  pub number : ℕ
+  pub inbox : Incoming ToSubscriber (Unit {0})
+  pub acks : Outgoing ToBroker (Unit {0})
+  pub subscriber : Kept
+  pub close_after : Option ℕ
+  pub finished : Bool
+
+-- a subscriber's end: the number of the system that it is of, the subscriber over its links, and the fault that it met
+pub record SubscriberState : Type 0 where
+  pub system : ℕ
+  pub intake : Intake
+  pub fault : Option RunFault
+
+-- ---- what is heard
+
+-- it is asked to close; 0 asks for nothing
+abbrev pub is_asked : Option ℕ → Bool
+is_asked None = false
+is_asked (Some n) = nat_lt 0 n
+
+-- the subscriber has applied as many events as it was asked to close after
+abbrev pub is_due : Option ℕ → Heard → Bool
+is_due None heard = false
+is_due (Some n) heard = is_asked (Some n) && nat_le n (length (applied_of heard))
+
+-- closed, where it is due
+abbrev pub closed_if : Bool → Heard → Heard
+closed_if due heard = if due then record heard { closed = true } else heard
+
+-- what is heard once one more delivery was taken, and the subscriber closed where it is due then
+abbrev pub heard_after : Option ℕ → Heard → Delivery → Heard
+heard_after close_after heard d = closed_if (is_due close_after (next heard d.item)) (next heard d.item)
+
+-- what is heard of deliveries that are taken one after another
+abbrev pub heard_by : Option ℕ → List Delivery → Heard
+heard_by close_after taken = fold (heard_after close_after) nothing taken
+
+-- ---- what is received and sent
+
+-- the delivery that a message brings
+abbrev pub delivery_of : ToSubscriber → Option Delivery
+delivery_of (Hands d) = Some d
+delivery_of Stop = None
+
+-- the deliveries that were received, in order
+abbrev pub taken_by : Incoming ToSubscriber (Unit {0}) → List Delivery
+taken_by inbox = filter_map (λ e. delivery_of e.1.0) inbox.received
+
+-- the last message of the broker, once the end has finished
+abbrev pub stop_if : Bool → List ToSubscriber
+stop_if finished = if finished then Stop ∷ [] else []
+
+-- the acknowledgement of a delivery, by the subscriber of this number
+abbrev pub ack_of : ℕ → Delivery → ToBroker
+ack_of number d = Acknowledges (record { subscriber = number; position = d.position })
+
+-- a subscriber's end has received deliveries of the broker, and then, where it has finished, that it is to stop; it has
+-- acknowledged each delivery, in their order and nothing else; and its subscriber has heard just what is to be heard of
+-- them
+pub record IsSubscriberEnd (c : Intake) : Type 0 where
+  pub first : 0 < c.number
+  pub own : c.acks.number ≡ c.number
+  pub alone : c.inbox.senders ≡ 1
+  pub of_broker : of_sender 0 c.inbox.received ≡ map (λ e. e.1) c.inbox.received
+  pub came : map (λ e. e.1.0) c.inbox.received ≡ map Hands (taken_by c.inbox) ++ stop_if c.finished
+  pub acknowledged : map (λ m. m.0) c.acks.sent ≡ map (ack_of c.number) (taken_by c.inbox)
+  pub keeps : c.subscriber ≡ kept_of (heard_by c.close_after (taken_by c.inbox))
+  pub hears : HasTaken (heard_by c.close_after (taken_by c.inbox)) (taken_by c.inbox)
+
+-- nothing was received yet
+abbrev pub new_intake : ℕ → Incoming ToSubscriber (Unit {0}) → Outgoing ToBroker (Unit {0}) → Option ℕ → Intake
+new_intake number inbox acks close_after = record {
+  number = number;
+  inbox = inbox;
+  acks = acks;
+  subscriber = kept_of nothing;
+  close_after = close_after;
+  finished = false;
+}
+
+-- ---- a turn
+
+-- the broker's next message was received
+pub record IsBrought (old : Incoming ToSubscriber (Unit {0})) (message : ToSubscriber)
+    (new : Incoming ToSubscriber (Unit {0})) : Type 0 where
+  pub follows : FollowsToSubscriber 0 (of_sender 0 old.received) (message, tt)
+  pub after : new ≡ with_received old (0, (message, tt))
+
+-- the end, once it has received one message more: a delivery is taken and acknowledged
+abbrev pub with_message : ToSubscriber → Intake → Intake
+with_message (Hands d) c = record c {
+  inbox = with_received c.inbox (0, (Hands d, tt));
+  acks = with_sent c.acks (ack_of c.number d, tt);
+  subscriber = kept_of (heard_by c.close_after (taken_by c.inbox ++ d ∷ []));
+}
+with_message Stop c = record c { inbox = with_received c.inbox (0, (Stop, tt)); finished = true }
+
+-- the broker's next message was received, and nothing has changed but what follows from it
+pub record HasReceived (old new : Intake) : Type 0 where
+  pub message : ToSubscriber
+  pub brought : IsBrought old.inbox message new.inbox
+  pub after : new ≡ with_message message old
+
+-- what a turn answers: whether the end has finished
+abbrev pub turn_of : Bool → Turn
+turn_of finished = if finished then Finished else More
+
+-- a turn of an end that hasn't finished receives one message; one that has finished stays as it is
+pub record IsTurned (old : Intake) (turn : Turn) (new : Intake) : Type 0 where
+  pub answers : turn ≡ turn_of new.finished
+  pub goes_on : old.finished ≡ false → HasReceived old new
+  pub stays : old.finished ≡ true → new ≡ old
+
+-- the same of a subscriber's end that has met no fault
+pub record HasTurned (old : SubscriberState) (turn : Turn) (new : SubscriberState) : Type 0 where
+  pub turned : IsTurned old.intake turn new.intake
+  pub rest : new ≡ record old { intake = new.intake }
+
+-- a turn fails where a link refuses it, or for want of memory
+abbrev pub IsTurnFault : RunFault → Type 0
+IsTurnFault fault = (fault ≡ PeerGone) ⊎ (fault ≡ OutOfMemory)
+
+-- ---- laws
+
+-- what is heard of deliveries is what a subscriber hears that takes them one after another, whenever it closes
+abbrev pub DeliveriesAreHeard : Type 0
+DeliveriesAreHeard = (close_after : Option ℕ) (taken : List Delivery)
+    → HasTaken (heard_by close_after taken) taken
+
+-- a subscriber that wasn't asked to close isn't closed
+abbrev pub UnaskedStayOpen : Type 0
+UnaskedStayOpen = (close_after : Option ℕ) (taken : List Delivery) → is_asked close_after ≡ false
+    → (heard_by close_after taken).closed ≡ false
+
+-- it is closed just where it has applied so many events, no more, before it has heard the end; else it has applied fewer
+pub record ClosesAfter (n : ℕ) (heard : Heard) : Type 0 where
+  pub shut : heard.closed ≡ true → (length (applied_of heard) ≡ n) × (has_ended heard ≡ false)
+  pub open_yet : heard.closed ≡ false → length (applied_of heard) < n
+
+-- so is one that was asked to close after a number of events
+abbrev pub AskedClose : Type 0
+AskedClose = (n : ℕ) (taken : List Delivery) → 0 < n → ClosesAfter n (heard_by (Some n) taken)

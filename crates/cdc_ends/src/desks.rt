@@ -1,0 +1,276 @@
+//! What the ledger's end keeps, and what it does with each message.
+
+ghost use Rattle.std.specs.Prelude.{◌≡◌, ℕ, ◌+◌, ◌<◌, ◌≤◌, Option, None, Some, List, [], ◌∷◌, ◌++◌, All, IfOk, MatchBool, length, vec_len};
+ghost use Rattle.cdc_ends.specs.LedgerEnds.{AreTold, IsBooked, IsDesk, IsServed, first_desk, has_to_wait, is_over, links_of, order_of, past_of_inbox, replied_of, kept_of, replies_of, turn_of, with_replies};
+ghost use Rattle.cdc_ends.specs.LedgerSteps.{IsNext, IsTaken, looked_at, with_one_done};
+ghost use Rattle.cdc_ends.specs.Orders.{past_of, batches_by};
+ghost use Rattle.cdc_links.specs.Links.{CanSend, of_sender, with_sent};
+ghost use Rattle.cdc_traffic.specs.Answering.{read_by};
+ghost use Rattle.cdc_traffic.specs.Following.{FollowsToClient, FollowsToConnector, FollowsToLedger, last_named};
+ghost use Rattle.cdc_traffic.specs.Pasts.{Continues, history_of};
+ghost use Rattle.cdc_traffic.specs.declared.messages.ToConnector.TheVariants.{PollReply as OfPoll};
+
+use crate::faults::RunFault;
+use crate::heard::{Heard, Under};
+use crate::turns::Turn;
+use cdc_ledger::Ledger;
+use cdc_links::{LinkIn, LinkOut};
+use cdc_traffic::{Poll, PollReply, Reply, Request, ToConnector, ToLedger};
+use std::alloc::Global;
+use std::marker::{Brand, Model};
+use std::sync::Wait;
+
+/// The ledger's end of each of its links, the ledger, how many clients aren't done, whether the connector is, and the
+/// poll that is kept until there is something to reply.
+#[derive(Drop)]
+pub(crate) struct Desk {
+    inbox: LinkIn<ToLedger>,
+    clients: Vec<LinkOut<Reply>>,
+    connector: LinkOut<ToConnector>,
+    ledger: Ledger,
+    clients_left: usize,
+    connector_done: bool,
+    kept: Option<Poll>,
+}
+
+impl Model for Desk {
+    ghost use Rattle.cdc_ends.specs.LedgerEnds.{Desk};
+
+    ghost Value = { Desk };
+
+    ghost view = { λ desk. record {
+      inbox = desk.inbox;
+      clients = desk.clients.items;
+      connector = desk.connector;
+      ledger = desk.ledger;
+      clients_left = desk.clients_left;
+      connector_done = desk.connector_done;
+      kept = desk.kept;
+    } };
+}
+
+// Receives the next message.
+fn hear<R: Wait>(inbox: &mut LinkIn<ToLedger>, rt: &R) -> Result<ToLedger, RunFault>
+    ensures next { IfOk result (λ message. IsNext inbox.old message inbox.new) }
+    ensures lawful { (j : ℕ) → CanSend FollowsToLedger j (of_sender j inbox.old.received) }
+{
+    let _count = inbox.received_count();
+    match inbox.receive(rt) {
+        Ok(message) => Ok(message),
+        Err(_) => Err(RunFault::PeerGone),
+    }
+}
+
+// Sends a client a reply.
+fn tell_client<K: Heard, R: Wait>(
+    client: &mut LinkOut<Reply>,
+    rt: &R,
+    reply: Reply,
+) -> Result<(), RunFault>
+    requires { FollowsToClient client.old.number client.old.sent
+        (reply, past_of K.order) }
+    ensures { IfOk result (λ _.
+        client.new ≡ with_sent client.old (reply, past_of K.order)) }
+{
+    match client.send::<Under<K>, R>(rt, reply) {
+        Ok(()) => Ok(()),
+        Err(_) => Err(RunFault::PeerGone),
+    }
+}
+
+// Sends the connector a reply.
+fn tell_connector<K: Heard, R: Wait>(
+    connector: &mut LinkOut<ToConnector>,
+    rt: &R,
+    reply: PollReply,
+) -> Result<(), RunFault>
+    requires { FollowsToConnector connector.old.number connector.old.sent
+        (OfPoll reply, Some K.past) }
+    ensures { IfOk result (λ _. connector.new
+        ≡ with_sent connector.old (OfPoll reply, Some K.past)) }
+{
+    match connector.send::<Under<K>, R>(rt, ToConnector::PollReply(reply)) {
+        Ok(()) => Ok(()),
+        Err(_) => Err(RunFault::PeerGone),
+    }
+}
+
+// Submits the batch of a request, and replies to its client.
+fn answer<K: Heard, R: Wait>(
+    clients: &mut [LinkOut<Reply>],
+    ledger: &mut Ledger,
+    rt: &R,
+    alloc: Global,
+    request: Request,
+) -> Result<(), RunFault>
+    requires first { 0 < request.client }
+    requires last { request.client ≤ length clients.old }
+    requires number { request.number
+        ≡ length (batches_by request.client K.order) + 1 }
+    requires told { AreTold 1 K.order clients.old }
+    requires history { ledger.old ≡ history_of (past_of K.order) }
+    ensures told { IfOk result (λ _. AreTold 1
+        (K.order ++ (request.client, request.batch) ∷ []) clients.new) }
+    ensures history { IfOk result (λ _. ledger.new ≡ history_of
+        (past_of (K.order ++ (request.client, request.batch) ∷ []))) }
+    ensures links { IfOk result (λ _. links_of clients.new ≡ links_of clients.old) }
+{
+    let place = request.client as usize - 1;
+    let reply = request.answer(alloc, ledger)?;
+    let client = &mut clients[place];
+    tell_client::<K, R>(client, rt, reply)
+}
+
+// Replies to a poll that was kept, as the ledger is now.
+fn reply_kept<K: Heard, R: Wait>(
+    connector: &mut LinkOut<ToConnector>,
+    ledger: &Ledger,
+    rt: &R,
+    alloc: Global,
+    kept: Option<Poll>,
+) -> Result<(), RunFault>
+    requires own { connector.old.number ≡ 0 }
+    requires history { ledger.now ≡ history_of K.past }
+    requires named { Continues (last_named connector.old.sent) K.past }
+    ensures { IfOk result (λ _. connector.new
+        ≡ with_replies connector.old K.past (replies_of ledger.now kept)) }
+{
+    match kept {
+        Some(poll) => tell_connector::<K, R>(connector, rt, poll.read(alloc, ledger)?),
+        None => Ok(()),
+    }
+}
+
+// Replies to a poll, or says that it has to wait.
+fn look<K: Heard, R: Wait>(
+    connector: &mut LinkOut<ToConnector>,
+    ledger: &Ledger,
+    rt: &R,
+    alloc: Global,
+    poll: Poll,
+) -> Result<Option<Poll>, RunFault>
+    requires own { connector.old.number ≡ 0 }
+    requires history { ledger.now ≡ history_of K.past }
+    requires named { Continues (last_named connector.old.sent) K.past }
+    ensures replied { IfOk result (λ _. connector.new
+        ≡ with_replies connector.old K.past (replied_of ledger.now (Some poll))) }
+    ensures kept { IfOk result (λ kept. kept ≡ kept_of ledger.now (Some poll)) }
+{
+    let reply = poll.read(alloc, ledger)?;
+    if !ledger.closed() && reply.events.as_slice().is_empty() {
+        return Ok(Some(poll));
+    }
+    tell_connector::<K, R>(connector, rt, reply)?;
+    Ok(None)
+}
+
+impl Desk {
+    /// Nothing was received yet, and the ledger has taken nothing.
+    pub(crate) fn new(
+        alloc: Global,
+        inbox: LinkIn<ToLedger>,
+        clients: Vec<LinkOut<Reply>>,
+        connector: LinkOut<ToConnector>,
+    ) -> Desk
+        ensures { result ≡ first_desk inbox clients.items connector }
+    {
+        Desk {
+            inbox,
+            clients_left: clients.len(),
+            clients,
+            connector,
+            ledger: Ledger::new(alloc),
+            connector_done: false,
+            kept: None,
+        }
+    }
+
+    // Whether all clients and the connector are done.
+    fn is_over(&self) -> bool
+        ensures { result ≡ is_over self.now }
+    {
+        self.clients_left == 0 && self.connector_done
+    }
+
+    // A client is done: once all are, the ledger is closed.
+    fn count_done(&mut self)
+        requires { 0 < self.old.clients_left }
+        ensures { self.new ≡ with_one_done self.old }
+    {
+        self.clients_left -= 1;
+        if self.clients_left == 0 {
+            self.ledger.close();
+        }
+    }
+
+    // Receives a message and takes it; the poll that is kept isn't looked at yet.
+    fn take<K: Heard, R: Wait>(&mut self, rt: &R, alloc: Global) -> Result<(), RunFault>
+        requires order { K.order ≡ order_of self.old.inbox.received }
+        requires past { K.past ≡ past_of_inbox self.old.inbox }
+        requires kept { IsDesk self.old }
+        ensures { IfOk result (λ _. IsTaken self.old self.new) }
+    {
+        let message = hear(&mut self.inbox, rt)?;
+        match message {
+            ToLedger::Request(request) => answer::<K, R>(
+                self.clients.as_mut_slice(),
+                &mut self.ledger,
+                rt,
+                alloc,
+                request,
+            ),
+            ToLedger::Done { client: _ } => {
+                self.count_done();
+                Ok(())
+            }
+            ToLedger::Poll(poll) => {
+                reply_kept::<K, R>(&mut self.connector, &self.ledger, rt, alloc, self.kept)?;
+                self.kept = Some(poll);
+                Ok(())
+            }
+            ToLedger::Finish => {
+                self.connector_done = true;
+                Ok(())
+            }
+        }
+    }
+
+    // Looks whether there is something to reply to the poll that is kept.
+    fn look_again<K: Heard, R: Wait>(&mut self, rt: &R, alloc: Global) -> Result<(), RunFault>
+        requires past { K.past ≡ past_of_inbox self.old.inbox }
+        requires kept { IsBooked self.old }
+        ensures { IfOk result (λ _. self.new ≡ looked_at self.old) }
+    {
+        if let Some(poll) = self.kept {
+            self.kept = look::<K, R>(&mut self.connector, &self.ledger, rt, alloc, poll)?;
+        }
+        Ok(())
+    }
+
+    // Receives one message, and sends what follows from it.
+    fn serve<R: Wait>(&mut self, rt: &R, alloc: Global) -> Result<(), RunFault>
+        requires { IsDesk self.old }
+        ensures { IfOk result (λ _. IsServed self.old self.new) }
+    {
+        self.take::<Brand, R>(rt, alloc)?;
+        self.look_again::<Brand, R>(rt, alloc)
+    }
+
+    /// Receives one message, and sends what follows from it; nothing, where the end is finished.
+    pub(crate) fn turn<R: Wait>(&mut self, rt: &R, alloc: Global) -> Result<Turn, RunFault>
+        requires { IsDesk self.old }
+        ensures turn { IfOk result (λ turn. turn ≡ turn_of self.new) }
+        ensures served { IfOk result (λ _.
+            MatchBool (is_over self.old) (self.new ≡ self.old) (IsServed self.old self.new)) }
+    {
+        if self.is_over() {
+            return Ok(Turn::Finished);
+        }
+        self.serve(rt, alloc)?;
+        if self.is_over() {
+            Ok(Turn::Finished)
+        } else {
+            Ok(Turn::More)
+        }
+    }
+}

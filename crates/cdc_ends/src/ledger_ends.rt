@@ -1,0 +1,88 @@
+//! The ledger's end: it answers requests and polls, and closes the ledger once all clients are done.
+
+ghost use Rattle.std.specs.Prelude.{◌≡◌, ◌+◌, ◌<◌, All, Err, IfErr, IfOk, None, Some, [], length};
+ghost use Rattle.cdc_ends.specs.LedgerEnds.{HasTurned, IsDesk, first_desk};
+
+use crate::desks::Desk;
+use crate::faults::RunFault;
+use crate::turns::Turn;
+use cdc_links::{LinkIn, LinkOut};
+use cdc_traffic::{Reply, ToConnector, ToLedger};
+use std::alloc::Global;
+use std::marker::Model;
+use std::sync::Wait;
+
+/// The ledger's end of a run. A clause sees the number of the system that it is of, its desk (what it has received, what
+/// it has sent each client and the connector, the ledger, how many clients aren't done, whether the connector is, and the
+/// poll that is kept), and the fault that it met, if it did.
+#[derive(Drop)]
+pub struct LedgerEnd {
+    system: u64,
+    desk: Desk,
+    fault: Option<RunFault>,
+}
+
+impl Model for LedgerEnd {
+    ghost use Rattle.std.specs.Prelude.{◌≡◌, None};
+    ghost use Rattle.cdc_ends.specs.LedgerEnds.{IsDesk, LedgerEndState};
+
+    ghost Value = { LedgerEndState };
+
+    ghost view = { λ end. record { system = end.system; desk = end.desk; fault = end.fault } };
+
+    ghost invariant = { λ end. end.fault ≡ None → IsDesk end.desk };
+}
+
+impl LedgerEnd {
+    /// The end of a ledger that has taken nothing yet. The clients' links come in order of the clients' numbers, from 1;
+    /// of each of these links, and of the connector's, this end is the sender 0.
+    pub fn new(
+        alloc: Global,
+        system: u64,
+        inbox: LinkIn<ToLedger>,
+        clients: Vec<LinkOut<Reply>>,
+        connector: LinkOut<ToConnector>,
+    ) -> LedgerEnd
+        requires some { 0 < length clients.items }
+        requires senders { inbox.senders ≡ length clients.items + 1 }
+        requires fresh { inbox.received ≡ [] }
+        requires untold { All (λ client. (client.number ≡ 0) × (client.sent ≡ [])) clients.items }
+        requires own { connector.number ≡ 0 }
+        requires silent { connector.sent ≡ [] }
+        ensures { result ≡ record {
+          system = system;
+          desk = first_desk inbox clients.items connector;
+          fault = None;
+        } }
+    {
+        LedgerEnd {
+            system,
+            desk: Desk::new(alloc, inbox, clients, connector),
+            fault: None,
+        }
+    }
+
+    /// Receives one message, and sends what follows from it. A batch is submitted, and its client gets the reply. A poll
+    /// for which there is nothing is kept while the ledger is open: it is replied once there is something, once the
+    /// ledger is closed, or once a later poll comes. The ledger is closed once all clients are done, and the end is
+    /// finished once the connector is done too; from then on nothing is received. The first fault stays: it is answered
+    /// from then on.
+    pub fn turn<R: Wait>(&mut self, rt: &R, alloc: Global) -> Result<Turn, RunFault>
+        ensures turned { IfOk result (λ turn. HasTurned self.old turn self.new) }
+        ensures kept { IfOk result (λ _. IsDesk self.new.desk) }
+        ensures fault { IfErr result (λ fault. self.new.fault ≡ Some fault) }
+        ensures again { (fault : RunFault) → self.old.fault ≡ Some fault
+            → (result ≡ Err fault) × (self.new ≡ self.old) }
+    {
+        match self.fault {
+            Some(fault) => Err(fault),
+            None => match self.desk.turn(rt, alloc) {
+                Ok(turn) => Ok(turn),
+                Err(fault) => {
+                    self.fault = Some(fault);
+                    Err(fault)
+                }
+            },
+        }
+    }
+}

@@ -1,0 +1,96 @@
+//! A subscriber's end: it takes what its queue hands out, and acknowledges each delivery.
+
+ghost use Rattle.std.specs.Prelude.{◌≡◌, ◌<◌, Err, IfErr, IfOk, None, Some, []};
+ghost use Rattle.cdc_ends.specs.SubscriberEnds.{AskedClose, DeliveriesAreHeard, HasTurned, IsTurnFault, UnaskedStayOpen, new_intake};
+
+use crate::faults::RunFault;
+use crate::intakes::Intake;
+use crate::turns::Turn;
+use cdc_links::{LinkIn, LinkOut};
+use cdc_traffic::{ToBroker, ToSubscriber};
+use std::alloc::Global;
+use std::marker::Model;
+use std::sync::Wait;
+
+/// A subscriber's end of a run. A clause sees the number of the system that it is of, the subscriber over its links (its
+/// number, what it has received and acknowledged, what it keeps, after how many events it is to close, and whether it has
+/// finished), and the fault that it met, if it did.
+#[derive(Drop)]
+pub struct SubscriberEnd {
+    system: u64,
+    intake: Intake,
+    fault: Option<RunFault>,
+}
+
+impl Model for SubscriberEnd {
+    ghost use Rattle.std.specs.Prelude.{◌≡◌, None};
+    ghost use Rattle.cdc_ends.specs.SubscriberEnds.{IsSubscriberEnd, SubscriberState};
+
+    ghost Value = { SubscriberState };
+
+    ghost view = { λ end. record { system = end.system; intake = end.intake; fault = end.fault } };
+
+    ghost invariant = { λ end. end.fault ≡ None → IsSubscriberEnd end.intake };
+}
+
+impl SubscriberEnd {
+    /// The end of a subscriber to which nothing has come yet. The number of its end of the link to the broker is the
+    /// subscriber's. It is to close after so many events, from 1, where a number is given; 0 asks for nothing.
+    pub fn new(
+        alloc: Global,
+        system: u64,
+        number: u64,
+        inbox: LinkIn<ToSubscriber>,
+        acks: LinkOut<ToBroker>,
+        close_after: Option<u64>,
+    ) -> SubscriberEnd
+        requires first { 0 < number }
+        requires own { acks.number ≡ number }
+        requires silent { acks.sent ≡ [] }
+        requires fresh { inbox.received ≡ [] }
+        requires alone { inbox.senders ≡ 1 }
+        ensures { result ≡ record {
+          system = system;
+          intake = new_intake number inbox acks close_after;
+          fault = None;
+        } }
+    {
+        SubscriberEnd {
+            system,
+            intake: Intake::new(alloc, number, inbox, acks, close_after),
+            fault: None,
+        }
+    }
+
+    /// Receives one message of the broker. A delivery is taken, where the subscriber isn't closed yet and has applied as
+    /// many events as it is to close after it closes, and the delivery is acknowledged, also by one that is closed. At
+    /// the broker's last message the end has finished; from then on nothing more is received. `PeerGone`: a message or an
+    /// acknowledgement was refused by its link. `OutOfMemory`: a delivery wasn't taken. The first fault stays: it is
+    /// answered from then on.
+    pub fn turn<R: Wait>(&mut self, rt: &R, alloc: Global) -> Result<Turn, RunFault>
+        ensures turned { IfOk result (λ turn. HasTurned self.old turn self.new) }
+        ensures fault { IfErr result (λ fault. self.new.fault ≡ Some fault) }
+        ensures kind { self.old.fault ≡ None → IfErr result IsTurnFault }
+        ensures again { (fault : RunFault) → self.old.fault ≡ Some fault
+            → (result ≡ Err fault) × (self.new ≡ self.old) }
+    {
+        match self.fault {
+            Some(fault) => Err(fault),
+            None => match self.intake.turn(rt, alloc) {
+                Ok(turn) => Ok(turn),
+                Err(fault) => {
+                    self.fault = Some(fault);
+                    Err(fault)
+                }
+            },
+        }
+    }
+}
+
+/// Does nothing: each clause holds of whatever deliveries a subscriber takes. It hears them as they come until it closes;
+/// unasked it never closes; and asked to close after a number of events it is closed once it has applied just so many.
+pub fn subscriber_laws()
+    ensures hears { DeliveriesAreHeard }
+    ensures unasked { UnaskedStayOpen }
+    ensures asked { AskedClose }
+{}

@@ -1,0 +1,7 @@
+mod Closes
+mod Gathering
+mod Replied
+mod Subscribed
+mod Zips
+mod Fresh
+mod Counted

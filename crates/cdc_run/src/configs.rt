@@ -1,0 +1,40 @@
+//! What a run is asked for.
+
+ghost use Rattle.std.specs.Prelude.{◌↔◌, IsTrue};
+ghost use Rattle.cdc_run.specs.Configs.{Fits};
+
+use crate::limits::RunLimits;
+use cdc_match::Binding;
+use cdc_types::Limits;
+
+/// What a run is asked for.
+#[derive(Drop)]
+pub struct Config {
+    /// A number that tells one system of ends from another; whoever settles ends of two systems together gives them
+    /// different ones.
+    pub system: u64,
+    /// The bindings of the subscribers, in order.
+    pub bindings: Vec<Binding>,
+    /// How many clients hand in batches.
+    pub clients: u64,
+    /// For how many events the connector's session may wait at a time.
+    pub window: usize,
+    /// How many deliveries of a queue may be without an acknowledgement.
+    pub prefetch: u64,
+}
+
+impl Config {
+    /// Whether a run can be made of it: of 1 to 2 clients, 1 to 2 subscribers, window 1, and prefetch 1 to 64.
+    pub fn fits(&self) -> bool
+        ensures { IsTrue result ↔ Fits self.now }
+    {
+        let subscribers = self.bindings.len();
+        1 <= self.clients
+            && self.clients <= Limits::CLIENTS
+            && 1 <= subscribers
+            && subscribers <= RunLimits::SUBSCRIBERS
+            && self.window == Limits::WINDOW_TODAY
+            && 1 <= self.prefetch
+            && self.prefetch <= Limits::PREFETCH
+    }
+}

@@ -1,0 +1,22 @@
+//! A run in threads: what it is asked for, the links between its ends, one thread for each end, and what all of them come
+//! to at the end.
+#![tactic(auto)]
+
+pub mod configs;
+pub mod gates;
+mod jobs;
+pub mod limits;
+mod outcomes;
+pub mod places;
+pub mod plans;
+mod settling;
+#[cfg(test)]
+mod tests;
+mod wires;
+
+pub use configs::Config;
+pub use gates::{Gate, OpenGate};
+pub use limits::RunLimits;
+pub use places::Place;
+pub use plans::Faults;
+pub use settling::settle_laws;

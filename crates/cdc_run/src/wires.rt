@@ -1,0 +1,138 @@
+//! The links of a run.
+
+ghost use Rattle.std.specs.Prelude.{◌≡◌, ◌+◌, ◌^◌, ◌<◌, IfOk, vec_len};
+ghost use Rattle.cdc_links.specs.Links.{fresh_end};
+ghost use Rattle.cdc_run.specs.Configs.{Fits};
+ghost use Rattle.cdc_run.specs.Wires.{AreOwn, AreWired, IsFresh, fresh_from};
+
+use crate::configs::Config;
+use cdc_links::{LinkIn, LinkOut, Message, link};
+use cdc_traffic::{Reply, ToBroker, ToConnector, ToLedger, ToSubscriber};
+use std::alloc::{AllocError, Global};
+
+/// All ends of a run's links. A list has one for each client or for each subscriber, in the order of their numbers.
+#[derive(Drop)]
+pub(crate) struct Wires {
+    /// What the ledger receives.
+    pub(crate) to_ledger: LinkIn<ToLedger>,
+    /// The connector's polls to the ledger.
+    pub(crate) polls: LinkOut<ToLedger>,
+    /// Each client's requests to the ledger.
+    pub(crate) requests: Vec<LinkOut<ToLedger>>,
+    /// The ledger's replies to each client.
+    pub(crate) replies: Vec<LinkOut<Reply>>,
+    /// What each client receives.
+    pub(crate) answers: Vec<LinkIn<Reply>>,
+    /// What the connector receives.
+    pub(crate) to_connector: LinkIn<ToConnector>,
+    /// The ledger's replies to the connector's polls.
+    pub(crate) poll_replies: LinkOut<ToConnector>,
+    /// The broker's confirms.
+    pub(crate) confirms: LinkOut<ToConnector>,
+    /// What the broker receives.
+    pub(crate) to_broker: LinkIn<ToBroker>,
+    /// The connector's packets.
+    pub(crate) packets: LinkOut<ToBroker>,
+    /// Each subscriber's acknowledgements.
+    pub(crate) acks: Vec<LinkOut<ToBroker>>,
+    /// The broker's deliveries to each subscriber.
+    pub(crate) deliveries: Vec<LinkOut<ToSubscriber>>,
+    /// What each subscriber receives.
+    pub(crate) inboxes: Vec<LinkIn<ToSubscriber>>,
+}
+
+// A link for so many messages on their way, with a first sender and so many others.
+fn shared<M: Message>(
+    alloc: Global,
+    capacity: usize,
+    others: usize,
+) -> Result<(LinkOut<M>, Vec<LinkOut<M>>, LinkIn<M>), AllocError>
+    requires capacity { 0 < capacity }
+    requires others { others < 2 ^ 32 }
+    ensures first { IfOk result (λ ends. ends.0 ≡ fresh_end ends.2.link 0) }
+    ensures others { IfOk result (λ ends. ends.1.items ≡ fresh_from ends.2.link 1 others) }
+    ensures into { IfOk result (λ ends. IsFresh (others + 1) ends.2) }
+{
+    let Ok((mut outs, into)) = link::<M>(alloc, capacity, others + 1) else {
+        return Err(AllocError);
+    };
+    let first = outs.remove(0);
+    Ok((first, outs, into))
+}
+
+// A link for so many messages on their way, with one sender.
+fn single<M: Message>(alloc: Global, capacity: usize) -> Result<(LinkOut<M>, LinkIn<M>), AllocError>
+    requires { 0 < capacity }
+    ensures out { IfOk result (λ ends. ends.0 ≡ fresh_end ends.1.link 0) }
+    ensures into { IfOk result (λ ends. IsFresh 1 ends.1) }
+{
+    let (out, _, into) = shared(alloc, capacity, 0)?;
+    Ok((out, into))
+}
+
+// So many links, each for so many messages on their way and with one sender.
+fn own<M: Message>(
+    alloc: Global,
+    capacity: usize,
+    count: usize,
+) -> Result<(Vec<LinkOut<M>>, Vec<LinkIn<M>>), AllocError>
+    requires { 0 < capacity }
+    ensures own { IfOk result (λ ends. AreOwn ends.0.items ends.1.items) }
+    ensures count { IfOk result (λ ends. vec_len ends.1 ≡ count) }
+{
+    let mut outs = Vec::with_capacity(alloc, count)?;
+    let mut ins = Vec::with_capacity(alloc, count)?;
+    while ins.len() < count {
+        let (out, into) = single(alloc, capacity)?;
+        outs.push_reserved(out);
+        ins.push_reserved(into);
+    }
+    Ok((outs, ins))
+}
+
+/// The links of a run. How many messages a link holds is said of each; no end waits for good on a link that is full of
+/// messages of its own kind alone.
+pub(crate) fn make_wires(alloc: Global, config: &Config) -> Result<Wires, AllocError>
+    requires { Fits config.now }
+    ensures { IfOk result (λ all. AreWired config.now.clients (vec_len config.now.bindings) all) }
+{
+    let clients = config.clients as usize;
+    let subscribers = config.bindings.len();
+    let prefetch = config.prefetch as usize;
+    let in_flight = config.window + 3 + subscribers * prefetch;
+    let (polls, requests, to_ledger) = shared(alloc, clients + 3, clients)?;
+    let (poll_replies, confirms, to_connector) = pair(alloc, config.window + 4)?;
+    let (packets, acks, to_broker) = shared(alloc, in_flight, subscribers)?;
+    let (replies, answers) = own(alloc, 1, clients)?;
+    let (deliveries, inboxes) = own(alloc, prefetch + 1, subscribers)?;
+    Ok(Wires {
+        to_ledger,
+        polls,
+        requests,
+        replies,
+        answers,
+        to_connector,
+        poll_replies,
+        confirms,
+        to_broker,
+        packets,
+        acks,
+        deliveries,
+        inboxes,
+    })
+}
+
+// A link for so many messages on their way, with two senders.
+fn pair<M: Message>(
+    alloc: Global,
+    capacity: usize,
+) -> Result<(LinkOut<M>, LinkOut<M>, LinkIn<M>), AllocError>
+    requires { 0 < capacity }
+    ensures first { IfOk result (λ ends. ends.0 ≡ fresh_end ends.2.link 0) }
+    ensures second { IfOk result (λ ends. ends.1 ≡ fresh_end ends.2.link 1) }
+    ensures into { IfOk result (λ ends. IsFresh 2 ends.2) }
+{
+    let (first, mut others, into) = shared(alloc, capacity, 1)?;
+    let second = others.remove(0);
+    Ok((first, second, into))
+}
