@@ -13,6 +13,7 @@ ghost use Rattle.cdc_saves.specs.Saves.{shown};
 
 mod faults;
 
+use cdc_output::write_text;
 use cdc_progress::{FileStore, Progress, ProgressStore, print};
 use faults::SavesFault;
 use std::alloc::Global;
@@ -59,7 +60,7 @@ fn show<S: ProgressStore, W: Write>(
 fn say<W: Write>(writer: &mut W, text: &str) -> Result<(), SavesFault>
     ensures { OnOk result (Appends (W.contents writer.old) (W.contents writer.new) text.now) }
 {
-    match writer.write_all(text.as_bytes()) {
+    match write_text(writer, text.as_bytes()) {
         Ok(()) => Ok(()),
         Err(_) => Err(SavesFault::NotSaid),
     }
