@@ -1,11 +1,14 @@
 /* Makes one call of the C library fail, or all of them fall short, as a plan says. sweep.py builds it and has it loaded
  * before the C library.
  *
- *   FAULT   KIND:N   the call of this kind that comes as number N, from 1, is refused: growth (memory is asked for),
+ *   FAULT   words, of which the first is KIND:N, if one is:
+ *           KIND:N   the call of this kind that comes as number N, from 1, is refused: growth (memory is asked for),
  *                    open, read, write, sync or rename
+ *           after    what is refused is done first, if it isn't a growth, and answered as refused all the same
+ *           end      in the place of the answer the process ends, with the status 70
  *           short    a read gives one byte, and a write takes one
  *   CALLS   a path: when the process ends, this file gets the number of calls of each kind, a line each
- *   TRACE   a path: this file gets a line for each open to write, write, sync and rename, as it comes
+ *   TRACE   a path: this file gets a line for each open to write, write, sync, rename and removal, as it comes
  *
  * The process's own start is counted too, where the C library asks for memory before main.
  */
@@ -41,7 +44,9 @@ static const char *plan(void) {
     return read_plan;
 }
 
-static int is_short(void) { return strcmp(plan(), "short") == 0; }
+static int says(const char *word) { return strstr(plan(), word) != NULL; }
+
+static int is_short(void) { return says("short"); }
 
 /* Counts a call, and says whether it is the one that fails. */
 static int fails(enum kind kind) {
@@ -86,7 +91,13 @@ __attribute__((destructor)) static void tell(void) {
 
 /* ---- memory */
 
+/* Ends the process where the plan says so. */
+static void end_here(void) {
+    if (says("end")) _exit(70);
+}
+
 static void *no_memory(void) {
+    end_here();
     errno = ENOMEM;
     return NULL;
 }
@@ -113,14 +124,27 @@ int posix_memalign(void **place, size_t alignment, size_t size) {
 /* ---- files */
 
 static int refused(int why) {
+    end_here();
     errno = why;
     return -1;
 }
 
+/* How a call that the plan names is refused: it does nothing, or it is done. */
+enum refusal { NONE, BEFORE, AFTER };
+
+static enum refusal refusal_of(enum kind kind) {
+    if (!fails(kind)) return NONE;
+    return says("after") ? AFTER : BEFORE;
+}
+
+/* The answer of a call that is done: its own, or as if it weren't. */
+static long answer(enum refusal how, long own, int why) { return how == AFTER ? refused(why) : own; }
+
 static int open_at(int folder, const char *path, int flags, mode_t mode) {
     if (flags & (O_WRONLY | O_RDWR)) trace("open", path, "");
-    if (fails(OPEN)) return refused(EACCES);
-    return (int)syscall(SYS_openat, folder, path, flags, mode);
+    enum refusal how = refusal_of(OPEN);
+    if (how == BEFORE) return refused(EACCES);
+    return (int)answer(how, syscall(SYS_openat, folder, path, flags, mode), EACCES);
 }
 
 /* Says the fourth argument of an open, where there is one. */
@@ -154,38 +178,51 @@ int openat64(int folder, const char *path, int flags, ...) {
 }
 
 ssize_t read(int file, void *buffer, size_t size) {
-    if (fails(READ)) return refused(EIO);
+    enum refusal how = refusal_of(READ);
+    if (how == BEFORE) return refused(EIO);
     if (is_short() && size > 1) size = 1;
-    return syscall(SYS_read, file, buffer, size);
+    return answer(how, syscall(SYS_read, file, buffer, size), EIO);
 }
 
 ssize_t write(int file, const void *buffer, size_t size) {
     char path[512];
     trace("write", path_of(file, path, sizeof path), "");
-    if (fails(WRITE)) return refused(ENOSPC);
+    enum refusal how = refusal_of(WRITE);
+    if (how == BEFORE) return refused(ENOSPC);
     if (is_short() && size > 1) size = 1;
-    return syscall(SYS_write, file, buffer, size);
+    return answer(how, syscall(SYS_write, file, buffer, size), ENOSPC);
 }
 
 static int synced(int file, long call) {
     char path[512];
     trace("sync", path_of(file, path, sizeof path), "");
-    if (fails(SYNC)) return refused(EIO);
-    return (int)syscall(call, file);
+    enum refusal how = refusal_of(SYNC);
+    if (how == BEFORE) return refused(EIO);
+    return (int)answer(how, syscall(call, file), EIO);
 }
 
 int fsync(int file) { return synced(file, SYS_fsync); }
 
 int fdatasync(int file) { return synced(file, SYS_fdatasync); }
 
-int rename(const char *from, const char *to) {
+static int renamed(int from_folder, const char *from, int to_folder, const char *to) {
     trace("rename", from, to);
-    if (fails(RENAME)) return refused(EACCES);
-    return (int)syscall(SYS_renameat, AT_FDCWD, from, AT_FDCWD, to);
+    enum refusal how = refusal_of(RENAME);
+    if (how == BEFORE) return refused(EACCES);
+    return (int)answer(how, syscall(SYS_renameat, from_folder, from, to_folder, to), EACCES);
 }
 
+int rename(const char *from, const char *to) { return renamed(AT_FDCWD, from, AT_FDCWD, to); }
+
 int renameat(int from_folder, const char *from, int to_folder, const char *to) {
-    trace("rename", from, to);
-    if (fails(RENAME)) return refused(EACCES);
-    return (int)syscall(SYS_renameat, from_folder, from, to_folder, to);
+    return renamed(from_folder, from, to_folder, to);
 }
+
+static int removed(int folder, const char *path, int flags) {
+    trace("remove", path, "");
+    return (int)syscall(SYS_unlinkat, folder, path, flags);
+}
+
+int unlink(const char *path) { return removed(AT_FDCWD, path, 0); }
+
+int unlinkat(int folder, const char *path, int flags) { return removed(folder, path, flags); }

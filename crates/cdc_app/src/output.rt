@@ -1,15 +1,14 @@
 //! What a command prints, and how it ends.
 
-ghost use Rattle.std.specs.Prelude.{◌≡◌, IfErr, IfOk, OnOk};
-ghost use Rattle.std.specs.Io.KnownBytes.{Appends};
+ghost use Rattle.std.specs.Prelude.{◌≡◌, IfErr, IfOk};
 ghost use Rattle.cdc_app.specs.Outcomes.{IsPrinted, outcome_of};
 ghost use Rattle.cdc_app.specs.Report.{file_fault_line, program_fault_line};
 
 use crate::endings::Ending;
 use crate::faults::ProgramFault;
 use crate::report::push_file_fault;
+use cdc_output::write_text;
 use std::alloc::{AllocError, Global};
-use std::io;
 use std::io::Write;
 
 /// What a command prints, and how it ends.
@@ -56,14 +55,6 @@ pub fn print_text<W: Write>(writer: &mut W, text: &[u8], ending: Ending) -> Endi
         Ok(()) => ending,
         Err(error) => Ending::Failed(ProgramFault::WriteFault(error)),
     }
-}
-
-/// Writes a text, and lets nothing of it wait in a buffer.
-fn write_text<W: Write>(writer: &mut W, text: &[u8]) -> io::Result<()>
-    ensures { OnOk result (Appends (W.contents writer.old) (W.contents writer.new) text.now) }
-{
-    writer.write_all(text)?;
-    writer.flush()
 }
 
 /// Prints the line of a command that gave up.
