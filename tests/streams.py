@@ -96,32 +96,36 @@ def a_read_that_is_interrupted():
 
 
 def crowded_script():
-    """A script with a long report: its accounts come to more than a page."""
+    """A script with a long report: its batches come to more than a page. No account is accepted twice."""
     accounts = b"".join(b"account id=%d ledger=1 code=1\n" % it for it in range(1, 601))
     transfers = b"".join(
         b"transfer id=%d debit_account_id=%d credit_account_id=%d amount=1 ledger=1 code=1\n" % (it, it, it + 1)
         for it in range(1, 600)
     )
-    return SCRIPT + b"accounts 1\n" + accounts + b"transfers 2000\n" + transfers
+    return SCRIPT + b"accounts 1\n" + accounts + b"transfers 2000\n" + transfers + 2 * (b"accounts 9000\n" + accounts)
 
 
 def writes_that_fail():
-    with tempfile.NamedTemporaryFile(suffix=".script") as script:
+    with tempfile.NamedTemporaryFile(suffix=".script") as script, tempfile.NamedTemporaryFile(suffix=".steps") as steps:
         script.write(crowded_script())
         script.flush()
-        for command in ("books", "messages"):
-            whole = run([command, script.name], subprocess.DEVNULL).stdout
+        steps.write(b"batch\n" * 4)
+        steps.flush()
+        for command, *files in (["books", script.name], ["messages", script.name],
+                                ["simulate", script.name, steps.name]):
+            whole = run([command, *files], subprocess.DEVNULL).stdout
             same(f"{command}: the report is longer than the pipe", True, len(whole) > PAGE)
             reader, writer = os.pipe()
             fcntl.fcntl(writer, fcntl.F_SETPIPE_SZ, PAGE)
             os.set_blocking(writer, False)
-            ran = run([command, script.name], subprocess.DEVNULL, writer)
+            ran = run([command, *files], subprocess.DEVNULL, writer)
             os.close(writer)
             with open(reader, "rb") as file:
                 taken = file.read()
             same(f"{command}, a write that fails: status", 1, ran.returncode)
             same(f"{command}, a write that fails: what was written before", whole[:PAGE], taken)
             same(f"{command}, a write that fails: why", True, b"standard output: write_fault: " in ran.stderr)
+            same(f"{command}, a write that fails: nothing else is said", 1, ran.stderr.count(b"\n"))
 
 
 program = os.path.realpath(sys.argv[1] if len(sys.argv) > 1 else f"{HERE}/../crates/cdc_app/out/cdc_app")

@@ -47,7 +47,8 @@ counted p (x ∷ xs) zero parts fits =
     let here : p x ≡ false = parts.1 0 x (omega arith) (omega arith) in
     let rest : length (filter p xs) ≡ 0 =
     counted p xs zero
-    (λ k d low high. absurd (omega arith), λ k d low high. parts.1 (suc k) d (omega arith) (omega arith)) (omega arith) in
+    (λ k d low high. absurd (omega arith), λ k d low high. parts.1 (suc k) d (omega arith) (omega arith))
+    (omega arith) in
     (λ j. length (cond (here j) (x ∷ filter p xs) (filter p xs))) ∙ rest
 counted p (x ∷ xs) (suc i) parts fits =
     let here : p x ≡ true = parts.0 0 x (omega arith) (omega arith) in

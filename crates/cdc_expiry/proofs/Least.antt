@@ -27,12 +27,14 @@ not_greater x = same_both_ways (triple_cmp x x) (triple_cmp_total.antisymm x x)
 less : (x y : Triple) → is_before y.expires_at y.timestamp x ≡ true → is_le (triple_cmp x y) ≡ true
 less x y before =
     let later = nat_cmp x.slot y.slot in
-    elim (nat_lt x.expires_at y.expires_at) as (λ b. (b || ((x.expires_at == y.expires_at) && nat_lt x.timestamp y.timestamp))
+    elim (nat_lt x.expires_at y.expires_at) as (λ b.
+    (b || ((x.expires_at == y.expires_at) && nat_lt x.timestamp y.timestamp))
     ≡ true → is_le (ordering_then (cond b Less (cond (x.expires_at == y.expires_at) Equal Greater))
     (ordering_then (nat_cmp x.timestamp y.timestamp) later)) ≡ true) [
       | true ↦ λ _. refl
       | false ↦ elim (x.expires_at == y.expires_at) as (λ b. (b && nat_lt x.timestamp y.timestamp) ≡ true
-          → is_le (ordering_then (cond b Equal Greater) (ordering_then (nat_cmp x.timestamp y.timestamp) later)) ≡ true) [
+          → is_le (ordering_then (cond b Equal Greater)
+          (ordering_then (nat_cmp x.timestamp y.timestamp) later)) ≡ true) [
             | true ↦ elim (nat_lt x.timestamp y.timestamp) as (λ b. b ≡ true
                 → is_le (ordering_then (cond b Less (cond (x.timestamp == y.timestamp) Equal Greater)) later) ≡ true) [
                   | true ↦ λ _. refl

@@ -169,7 +169,8 @@ map_at f g es place x at others =
     ∙ ap₂ (λ n ys. set ys n (f x)) long (sym parts)
 
 -- each entry has a note
-endings_long : (h : History) (endings : List Ending) → endings ≡ endings_of h.entries → length endings ≡ length h.entries
+endings_long : (h : History) (endings : List Ending) → endings ≡ endings_of h.entries
+    → length endings ≡ length h.entries
 endings_long h endings same = ap length same ∙ length-map h.entries (ending_of h.entries)
 
 -- so there is one at its place, and it is its own

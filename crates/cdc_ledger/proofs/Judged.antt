@@ -109,7 +109,8 @@ module _ (h : History) (id : ℕ) where
       (sym (find-no_place (λ a. a.id == id) (accounts_now h) at) ∙ find-accounts_now h id)
 
   -- an account that is there has a place
-  pub IsSome-place : (place : Option ℕ) → IsSome (opened h id) → place ≡ account_place (accounts_now h) id → IsSome place
+  pub IsSome-place : (place : Option ℕ) → IsSome (opened h id) → place ≡ account_place (accounts_now h) id
+      → IsSome place
   IsSome-place None has at = subst IsSome (unopened-no_place (sym at)) has
   IsSome-place (Some place) has at = refl
 

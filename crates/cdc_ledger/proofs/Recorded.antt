@@ -262,7 +262,8 @@ IsKept-recorded t t' m place can top at accounts log index places added endings 
           else place_of t.transfer_places n) at) id
           ∙ ap (λ (g : History). stored_place g.entries id) (sym same);
       ended = endings ∙ ap (endings_after m.settled m.entry.kind) can.kept.ended
-          ∙ sym (endings_of-pushed h m.entry can.kept.sound can.follows m.settled can.movement.settled can.movement.found)
+          ∙ sym (endings_of-pushed h m.entry can.kept.sound can.follows m.settled can.movement.settled
+          can.movement.found)
           ∙ ap (λ (g : History). endings_of g.entries) (sym same);
       sound = subst IsSound (sym same) (IsSound-pushed h m.entry can.kept.sound can.follows can.later top);
     }

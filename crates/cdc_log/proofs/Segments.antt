@@ -65,7 +65,10 @@ joined-push n (s ∷ segments) zero r e filled at low within =
 joined-push n (s ∷ segments) (suc i) r e filled at low within =
     let rest = joined-push (n - 1024) segments i r e filled.1 (omega arith) low (omega arith) in (
       ap (λ es. s ++ es) rest.0 ∙ sym (append_assoc s (joined segments) (e ∷ [])),
-      (omega (arith, filled.0), subst (λ m. AreFilled m (set segments i (get_or segments i [] ++ e ∷ []))) (omega arith) rest.1),
+      (
+        omega (arith, filled.0),
+        subst (λ m. AreFilled m (set segments i (get_or segments i [] ++ e ∷ []))) (omega arith) rest.1,
+      ),
     )
 
 -- what is read in front of a seam

@@ -1,5 +1,8 @@
 //! Why items of a script weren't accepted: its batches are handed to a ledger once more, and what it answers is told.
 
+ghost use Rattle.std.specs.Prelude.{IfSome, IsOk};
+ghost use Rattle.cdc_script.specs.Scripts.{script_of};
+
 use crate::items::ItemLines;
 use cdc_ledger::{BatchError, Ledger};
 use cdc_script::parse_script;
@@ -7,7 +10,9 @@ use std::alloc::Global;
 
 /// A line for each item of a script that wasn't accepted, and for each batch that was refused. The script is named to a
 /// person by this name. There is none where the script has a fault, or no memory was left.
-pub fn books_lines(alloc: Global, name: &str, script: &[u8]) -> Option<String> {
+pub fn books_lines(alloc: Global, name: &str, script: &[u8]) -> Option<String>
+    ensures { IfSome result (λ text. IsOk (script_of script.now)) }
+{
     let Ok(said) = parse_script(alloc, script) else {
         return None;
     };

@@ -1,6 +1,8 @@
 //! What is told of a simulation, from the bytes of its files.
 
-ghost use Rattle.std.specs.Prelude.{◌≡◌};
+ghost use Rattle.std.specs.Prelude.{◌≡◌, IfSome, IsOk};
+ghost use Rattle.cdc_script.specs.Scripts.{script_of};
+ghost use Rattle.cdc_script.specs.StepFiles.{acts_of};
 
 use crate::items::ItemLines;
 use crate::places::step_line;
@@ -41,6 +43,8 @@ pub fn simulation_told(
     window: usize,
 ) -> Option<Told>
     requires { window ≡ Limits.WINDOW_TODAY }
+    ensures script { IfSome result (λ told. IsOk (script_of script.now)) }
+    ensures steps { IfSome result (λ told. IsOk (acts_of steps.now)) }
 {
     let Ok(said) = parse_script(alloc, script) else {
         return None;

@@ -34,7 +34,8 @@ returns-in_default-account_place c =
     let same = c.accounts-accounts.ensures.accounts in
     first_line-plain h r c.args.timestamp c.requires.shape c.requires.unknown c.requires.plain
     ∙ first_line-no_credit h r c.args.timestamp (get_or xs c.in-Some.debit no_account)
-    (IsOpened-place h r.debit_account_id xs same c.in-Some.debit no_account (sym c.account_place.ensures ∙ c.in-Some.is))
+    (IsOpened-place h r.debit_account_id xs same c.in-Some.debit no_account
+    (sym c.account_place.ensures ∙ c.in-Some.is))
     (unopened-no_place h r.credit_account_id (sym c.account_place-2.ensures ∙ c.in_default-account_place.is))
 
 pub refusal_between-requires-clause-debited : goal.refusal_between-requires-clause-debited
@@ -70,7 +71,8 @@ returns-in-Some-refusal_between c =
     ∙ first_line-between h r n (get_or xs i no_account) (get_or xs j no_account)
     c.accounts-accounts.ensures.sound.past (omega arith)
     (IsOpened-place h r.debit_account_id xs same i no_account (sym c.account_place.ensures ∙ c.in-Some.is))
-    (IsOpened-place h r.credit_account_id xs same j no_account (sym c.account_place-2.ensures ∙ c.in-Some-account_place.is))
+    (IsOpened-place h r.credit_account_id xs same j no_account
+    (sym c.account_place-2.ensures ∙ c.in-Some-account_place.is))
     ∙ sym c.refusal_between.ensures ∙ c.in-Some-refusal_between.is
 
 pub returns : goal.returns

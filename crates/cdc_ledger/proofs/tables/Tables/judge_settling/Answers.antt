@@ -104,7 +104,8 @@ pub bounds-entries-place : goal.bounds-entries-place
 bounds-entries-place c =
     let h = c.args.self.now.history in
     let r = c.args.request.now in
-    let found : IsFoundAt h r.pending_id c.in-Some.place (get_or c.entries-entries.result.now c.in-Some.place no_entry) =
+    let found : IsFoundAt h r.pending_id c.in-Some.place
+    (get_or c.entries-entries.result.now c.in-Some.place no_entry) =
     found_at h c.entries-entries.result.now r.pending_id c.in-Some.place c.entries-entries.ensures.entries
     (sym c.entry_place.ensures ∙ c.in-Some.is) in
     subst (λ (es : List Entry). c.in-Some.place < length es) (sym c.entries-entries.ensures.entries) found.within
