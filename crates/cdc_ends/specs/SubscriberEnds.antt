@@ -3,6 +3,7 @@ use Rattle.std.specs.Prelude.{◌≡◌, ◌⊎◌, ℕ, ◌<◌, ◌&&◌, nat_
 use Rattle.std.specs.List.{filter_map}
 use Rattle.cdc_ends.specs.declared.faults.RunFault.{RunFault}
 use Rattle.cdc_ends.specs.declared.faults.RunFault.TheVariants.{PeerGone, OutOfMemory}
+use Rattle.cdc_ends.specs.declared.subscriber_parts.SubscriberParts.{SubscriberParts}
 use Rattle.cdc_ends.specs.declared.turns.Turn.{Turn}
 use Rattle.cdc_ends.specs.declared.turns.Turn.TheVariants.{More, Finished}
 use Rattle.cdc_laws.specs.Hearing.{HasTaken}
@@ -98,6 +99,10 @@ new_intake number inbox acks close_after = record {
   close_after = close_after;
   finished = false;
 }
+
+-- what it holds besides, once it is taken apart
+abbrev pub parts_of : Intake → SubscriberParts
+parts_of c = record { number = c.number; inbox = c.inbox; acks = c.acks; subscriber = c.subscriber }
 
 -- ---- a turn
 

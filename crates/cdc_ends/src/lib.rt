@@ -9,6 +9,7 @@ mod intakes;
 mod orders;
 mod same;
 mod subscriber_ends;
+pub mod subscriber_parts;
 #[cfg(test)]
 mod tests;
 pub mod turns;
@@ -17,4 +18,5 @@ pub use clients::ClientEnd;
 pub use faults::RunFault;
 pub use orders::order_laws;
 pub use subscriber_ends::{SubscriberEnd, subscriber_laws};
+pub use subscriber_parts::SubscriberParts;
 pub use turns::Turn;

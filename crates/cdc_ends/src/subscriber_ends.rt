@@ -1,10 +1,11 @@
 //! A subscriber's end: it takes what its queue hands out, and acknowledges each delivery.
 
-ghost use Rattle.std.specs.Prelude.{◌≡◌, ◌<◌, Err, IfErr, IfOk, None, Some, []};
-ghost use Rattle.cdc_ends.specs.SubscriberEnds.{AskedClose, DeliveriesAreHeard, HasTurned, IsTurnFault, UnaskedStayOpen, new_intake};
+ghost use Rattle.std.specs.Prelude.{◌≡◌, ◌↔◌, ◌<◌, Err, IfErr, IfOk, IsTrue, None, Some, true, []};
+ghost use Rattle.cdc_ends.specs.SubscriberEnds.{AskedClose, DeliveriesAreHeard, HasTurned, IsSubscriberEnd, IsTurnFault, UnaskedStayOpen, new_intake, parts_of};
 
 use crate::faults::RunFault;
 use crate::intakes::Intake;
+use crate::subscriber_parts::SubscriberParts;
 use crate::turns::Turn;
 use cdc_links::{LinkIn, LinkOut};
 use cdc_traffic::{ToBroker, ToSubscriber};
@@ -84,6 +85,35 @@ impl SubscriberEnd {
                 }
             },
         }
+    }
+
+    /// The number of the system that the end is of.
+    pub fn system(&self) -> u64
+        ensures { result ≡ self.now.system }
+    {
+        self.system
+    }
+
+    /// Whether the end has finished, and has met no fault.
+    pub fn has_finished(&self) -> bool
+        ensures { IsTrue result
+            ↔ ((self.now.fault ≡ None) × (self.now.intake.finished ≡ true)) }
+    {
+        self.fault.is_none() && self.intake.finished()
+    }
+
+    /// Takes an end apart that has met no fault.
+    pub fn into_parts(self) -> SubscriberParts
+        requires { self.fault ≡ None }
+        ensures parts { result ≡ parts_of self.intake }
+        ensures kept { IsSubscriberEnd self.intake }
+    {
+        let Self {
+            system: _,
+            intake,
+            fault: _,
+        } = self;
+        intake.into_parts()
     }
 }
 
