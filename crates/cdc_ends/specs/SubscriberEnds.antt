@@ -1,4 +1,4 @@
--- What a subscriber's end has received of the broker, what its subscriber has heard of that, and what it has acknowledged.
+-- What a subscriber's end has received of the broker, what its subscriber has heard of that, and what was acknowledged.
 use Rattle.std.specs.Prelude.{◌≡◌, ◌⊎◌, ℕ, ◌<◌, ◌&&◌, nat_le, nat_lt, Bool, true, false, Option, Some, None, List, [], ◌∷◌, ◌++◌, fold, length, map, if◌then◌else◌}
 use Rattle.std.specs.List.{filter_map}
 use Rattle.cdc_ends.specs.declared.faults.RunFault.{RunFault}
@@ -158,7 +158,7 @@ abbrev pub UnaskedStayOpen : Type 0
 UnaskedStayOpen = (close_after : Option ℕ) (taken : List Delivery) → is_asked close_after ≡ false
     → (heard_by close_after taken).closed ≡ false
 
--- it is closed just where it has applied so many events, no more, before it has heard the end; else it has applied fewer
+-- it is closed just where it has applied so many events, no more, and hasn't heard the end; else it has applied fewer
 pub record ClosesAfter (n : ℕ) (heard : Heard) : Type 0 where
   pub shut : heard.closed ≡ true → (length (applied_of heard) ≡ n) × (has_ended heard ≡ false)
   pub open_yet : heard.closed ≡ false → length (applied_of heard) < n

@@ -18,8 +18,8 @@ use std::alloc::Global;
 use std::marker::Model;
 use std::sync::Wait;
 
-/// A subscriber, its number, its ends of its links, after how many events it is to close, and whether the broker has told
-/// it to stop.
+/// A subscriber, its number, its ends of its links, after how many events it is to close, and whether the broker has
+/// told it to stop.
 #[derive(Drop)]
 pub(crate) struct Intake {
     number: u64,
