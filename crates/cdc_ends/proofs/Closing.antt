@@ -114,7 +114,8 @@ hears_item : (n : ℕ) (heard : Heard) (item : Item) → 0 < n → heard.closed 
     → ClosesAfter n (closed_if (is_due (Some n) on) on)
 hears_item n heard (OfEvent e) asked open_yet goes_on below on is =
     let count : length (applied_of on) ≤ length (applied_of heard) + 1 =
-    subst (λ (h : Heard). length (applied_of h) ≤ length (applied_of heard) + 1) (sym is) (applied_push heard.items e) in
+    subst (λ (h : Heard). length (applied_of h) ≤ length (applied_of heard) + 1) (sym is)
+    (applied_push heard.items e) in
     let ended : has_ended on ≡ false =
     ap has_ended is ∙ list_any-append is_end heard.items (OfEvent e ∷ []) ∙ ap (λ (b : Bool). b || false) goes_on in
     let shut : on.closed ≡ false = ap (λ (h : Heard). h.closed) is ∙ open_yet in

@@ -1,8 +1,9 @@
--- What a subscriber's end has received of the broker, what its subscriber has heard of that, and what it has acknowledged.
+-- What a subscriber's end has received of the broker, what its subscriber has heard of that, and what was acknowledged.
 use Rattle.std.specs.Prelude.{◌≡◌, ◌⊎◌, ℕ, ◌<◌, ◌&&◌, nat_le, nat_lt, Bool, true, false, Option, Some, None, List, [], ◌∷◌, ◌++◌, fold, length, map, if◌then◌else◌}
 use Rattle.std.specs.List.{filter_map}
 use Rattle.cdc_ends.specs.declared.faults.RunFault.{RunFault}
 use Rattle.cdc_ends.specs.declared.faults.RunFault.TheVariants.{PeerGone, OutOfMemory}
+use Rattle.cdc_ends.specs.declared.subscriber_parts.SubscriberParts.{SubscriberParts}
 use Rattle.cdc_ends.specs.declared.turns.Turn.{Turn}
 use Rattle.cdc_ends.specs.declared.turns.Turn.TheVariants.{More, Finished}
 use Rattle.cdc_laws.specs.Hearing.{HasTaken}
@@ -99,6 +100,10 @@ new_intake number inbox acks close_after = record {
   finished = false;
 }
 
+-- what it holds besides, once it is taken apart
+abbrev pub parts_of : Intake → SubscriberParts
+parts_of c = record { number = c.number; inbox = c.inbox; acks = c.acks; subscriber = c.subscriber }
+
 -- ---- a turn
 
 -- the broker's next message was received
@@ -153,7 +158,7 @@ abbrev pub UnaskedStayOpen : Type 0
 UnaskedStayOpen = (close_after : Option ℕ) (taken : List Delivery) → is_asked close_after ≡ false
     → (heard_by close_after taken).closed ≡ false
 
--- it is closed just where it has applied so many events, no more, before it has heard the end; else it has applied fewer
+-- it is closed just where it has applied so many events, no more, and hasn't heard the end; else it has applied fewer
 pub record ClosesAfter (n : ℕ) (heard : Heard) : Type 0 where
   pub shut : heard.closed ≡ true → (length (applied_of heard) ≡ n) × (has_ended heard ≡ false)
   pub open_yet : heard.closed ≡ false → length (applied_of heard) < n

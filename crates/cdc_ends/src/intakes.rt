@@ -1,13 +1,14 @@
 //! A subscriber over its links.
 
 ghost use Rattle.std.specs.Prelude.{◌≡◌, IfErr, IfOk, length, min};
-ghost use Rattle.cdc_ends.specs.SubscriberEnds.{IsBrought, IsSubscriberEnd, IsTurnFault, IsTurned, heard_after, is_due, new_intake};
+ghost use Rattle.cdc_ends.specs.SubscriberEnds.{IsBrought, IsSubscriberEnd, IsTurnFault, IsTurned, heard_after, is_due, new_intake, parts_of};
 ghost use Rattle.cdc_links.specs.Links.{with_sent};
 ghost use Rattle.cdc_subscriber.specs.Heard.{Heard, applied_of, kept_of};
 ghost use Rattle.cdc_traffic.specs.Following.{FollowsToBroker};
 ghost use Rattle.cdc_types.specs.Widths.{max_64};
 
 use crate::faults::RunFault;
+use crate::subscriber_parts::SubscriberParts;
 use crate::turns::Turn;
 use cdc_links::{LinkIn, LinkOut, Naming};
 use cdc_message::Delivery;
@@ -17,8 +18,8 @@ use std::alloc::Global;
 use std::marker::Model;
 use std::sync::Wait;
 
-/// A subscriber, its number, its ends of its links, after how many events it is to close, and whether the broker has told
-/// it to stop.
+/// A subscriber, its number, its ends of its links, after how many events it is to close, and whether the broker has
+/// told it to stop.
 #[derive(Drop)]
 pub(crate) struct Intake {
     number: u64,
@@ -149,6 +150,33 @@ impl Intake {
                 self.finished = true;
                 Ok(Turn::Finished)
             }
+        }
+    }
+
+    /// Whether the broker has told it to stop.
+    pub(crate) fn finished(&self) -> bool
+        ensures { result ≡ self.now.finished }
+    {
+        self.finished
+    }
+
+    /// What it holds.
+    pub(crate) fn into_parts(self) -> SubscriberParts
+        ensures { result ≡ parts_of self }
+    {
+        let Self {
+            number,
+            inbox,
+            acks,
+            subscriber,
+            close_after: _,
+            finished: _,
+        } = self;
+        SubscriberParts {
+            number,
+            inbox,
+            acks,
+            subscriber,
         }
     }
 }

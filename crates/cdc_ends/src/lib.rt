@@ -12,6 +12,7 @@ mod ledger_ends;
 mod orders;
 mod same;
 mod subscriber_ends;
+pub mod subscriber_parts;
 pub mod turns;
 
 pub use clients::ClientEnd;
@@ -19,4 +20,5 @@ pub use faults::RunFault;
 pub use ledger_ends::LedgerEnd;
 pub use orders::order_laws;
 pub use subscriber_ends::{SubscriberEnd, subscriber_laws};
+pub use subscriber_parts::SubscriberParts;
 pub use turns::Turn;

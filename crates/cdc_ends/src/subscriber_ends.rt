@@ -1,10 +1,11 @@
 //! A subscriber's end: it takes what its queue hands out, and acknowledges each delivery.
 
-ghost use Rattle.std.specs.Prelude.{◌≡◌, ◌<◌, Err, IfErr, IfOk, None, Some, []};
-ghost use Rattle.cdc_ends.specs.SubscriberEnds.{AskedClose, DeliveriesAreHeard, HasTurned, IsTurnFault, UnaskedStayOpen, new_intake};
+ghost use Rattle.std.specs.Prelude.{◌≡◌, ◌↔◌, ◌<◌, Err, IfErr, IfOk, IsTrue, None, Some, true, []};
+ghost use Rattle.cdc_ends.specs.SubscriberEnds.{AskedClose, DeliveriesAreHeard, HasTurned, IsSubscriberEnd, IsTurnFault, UnaskedStayOpen, new_intake, parts_of};
 
 use crate::faults::RunFault;
 use crate::intakes::Intake;
+use crate::subscriber_parts::SubscriberParts;
 use crate::turns::Turn;
 use cdc_links::{LinkIn, LinkOut};
 use cdc_traffic::{ToBroker, ToSubscriber};
@@ -12,9 +13,9 @@ use std::alloc::Global;
 use std::marker::Model;
 use std::sync::Wait;
 
-/// A subscriber's end of a run. A clause sees the number of the system that it is of, the subscriber over its links (its
-/// number, what it has received and acknowledged, what it keeps, after how many events it is to close, and whether it has
-/// finished), and the fault that it met, if it did.
+/// A subscriber's end of a run. A clause sees the number of the system that it is of, the subscriber over its links
+/// (its number, what it has received and acknowledged, what it keeps, after how many events it is to close, and whether
+/// it has finished), and the fault that it met, if it did.
 #[derive(Drop)]
 pub struct SubscriberEnd {
     system: u64,
@@ -62,11 +63,11 @@ impl SubscriberEnd {
         }
     }
 
-    /// Receives one message of the broker. A delivery is taken, where the subscriber isn't closed yet and has applied as
-    /// many events as it is to close after it closes, and the delivery is acknowledged, also by one that is closed. At
-    /// the broker's last message the end has finished; from then on nothing more is received. `PeerGone`: a message or an
-    /// acknowledgement was refused by its link. `OutOfMemory`: a delivery wasn't taken. The first fault stays: it is
-    /// answered from then on.
+    /// Receives one message of the broker. A delivery is taken and then acknowledged, also by a subscriber that is
+    /// closed; one that has applied as many events as it was asked to closes in between. At the broker's last message
+    /// the end has finished, and from then on nothing more is received. `PeerGone`: a link refused to hand out a message
+    /// or to take an acknowledgement. `OutOfMemory`: a delivery wasn't taken. The first fault stays: it is answered from
+    /// then on.
     pub fn turn<R: Wait>(&mut self, rt: &R, alloc: Global) -> Result<Turn, RunFault>
         ensures turned { IfOk result (λ turn. HasTurned self.old turn self.new) }
         ensures fault { IfErr result (λ fault. self.new.fault ≡ Some fault) }
@@ -85,10 +86,40 @@ impl SubscriberEnd {
             },
         }
     }
+
+    /// The number of the system that the end is of.
+    pub fn system(&self) -> u64
+        ensures { result ≡ self.now.system }
+    {
+        self.system
+    }
+
+    /// Whether the end has finished, and has met no fault.
+    pub fn has_finished(&self) -> bool
+        ensures { IsTrue result
+            ↔ ((self.now.fault ≡ None) × (self.now.intake.finished ≡ true)) }
+    {
+        self.fault.is_none() && self.intake.finished()
+    }
+
+    /// Takes an end apart that has met no fault.
+    pub fn into_parts(self) -> SubscriberParts
+        requires { self.fault ≡ None }
+        ensures parts { result ≡ parts_of self.intake }
+        ensures kept { IsSubscriberEnd self.intake }
+    {
+        let Self {
+            system: _,
+            intake,
+            fault: _,
+        } = self;
+        intake.into_parts()
+    }
 }
 
-/// Does nothing: each clause holds of whatever deliveries a subscriber takes. It hears them as they come until it closes;
-/// unasked it never closes; and asked to close after a number of events it is closed once it has applied just so many.
+/// Does nothing: each clause holds of whatever deliveries a subscriber takes. It hears them as they come until it
+/// closes; unasked it never closes; and asked to close after a number of events it is closed once it has applied just so
+/// many.
 pub fn subscriber_laws()
     ensures hears { DeliveriesAreHeard }
     ensures unasked { UnaskedStayOpen }

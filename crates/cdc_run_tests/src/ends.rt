@@ -1,4 +1,4 @@
-//! That an end whose peer is gone says so, and says the same from then on; and that a subscriber's end finds memory, and
+//! That an end whose peer is gone says so, and says the same from then on; and that a subscriber's end finds memory and
 //! acknowledges what it takes.
 
 ghost use Rattle.std.specs.Prelude.{◌≡◌, []};
