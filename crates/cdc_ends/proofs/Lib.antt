@@ -4,3 +4,4 @@ mod Talking
 mod Receipts
 mod Told
 mod Booked
+mod Closed
