@@ -1,8 +1,8 @@
 -- What a finished end of a ledger has come to.
-use Rattle.std.proofs.Common.{◌≡◌, ◌==◌, ℕ, zero, suc, ◌+◌, ◌-◌, ◌<◌, ◌≤◌, Bool, true, false, Option, Some, None, List, [], ◌∷◌, refl, sym, ap, ◌∙◌, subst, length, eq-eqb, arith}
+use Rattle.std.proofs.Common.{◌≡◌, ◌==◌, ℕ, zero, suc, ◌+◌, ◌-◌, ◌<◌, ◌≤◌, Bool, true, false, Option, Some, None, List, [], ◌∷◌, refl, sym, ap, ◌∙◌, length, eq-eqb, arith}
 use Rattle.std.specs.Prelude.{◌&&◌, not, slice_get}
 use Rattle.std.proofs.lemmas.Bool.{eqb-true}
-use Rattle.cdc_ends.specs.LedgerEnds.{AreTold, ClientsAreTold, Desk, FinishedDesksAreClosed, IsDesk, Waits, clients_left, has_to_wait, is_done, is_over, order_of, past_of_inbox}
+use Rattle.cdc_ends.specs.LedgerEnds.{AreTold, ClientsAreTold, FinishedDesksAreClosed, Waits, clients_left, is_done, order_of, past_of_inbox}
 use Rattle.cdc_ends.specs.Orders.{said_to}
 use Rattle.cdc_ends.proofs.Booked.{past_with}
 use Rattle.cdc_ends.proofs.Receipts.{Received, left_some}

@@ -133,17 +133,19 @@ replied_first h kept (to_ledger.Done number) = []
 replied_first h kept (to_ledger.Poll poll) = replies_of h kept
 replied_first h kept to_ledger.Finish = []
 
+-- the poll that is asked then: the later one, or the one that was kept
 abbrev pub asked : Option Poll → ToLedger → Option Poll
 asked kept (to_ledger.Request request) = kept
 asked kept (to_ledger.Done number) = kept
 asked kept (to_ledger.Poll poll) = Some poll
 asked kept to_ledger.Finish = kept
 
--- of the poll that is asked then: it is kept where it has to wait, and replied else
+-- it is kept where it has to wait
 abbrev pub kept_of : History → Option Poll → Option Poll
 kept_of h None = None
 kept_of h (Some poll) = if has_to_wait h poll then Some poll else None
 
+-- and else replied
 abbrev pub replied_of : History → Option Poll → List PollReply
 replied_of h None = []
 replied_of h (Some poll) = if has_to_wait h poll then [] else read_by h poll ∷ []

@@ -1,4 +1,4 @@
-use Rattle.std.proofs.Common.{◌≡◌, true, None, subst, arith, rules}
+use Rattle.std.proofs.Common.{◌≡◌, None, subst, arith, rules}
 use Rattle.cdc_ends.specs.LedgerEnds.{IsDesk, LedgerEndState}
 use Rattle.cdc_ends.proofs.ledger_ends.LedgerEnd.into_parts.Goals as goal
 
