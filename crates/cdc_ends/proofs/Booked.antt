@@ -320,7 +320,9 @@ module _ (d : Desk) (is : IsBooked d) where
   -- once the connector is done
   pub booked_finish : IsBooked (record (with_heard d 0 to_ledger.Finish) { connector_done = true })
   booked_finish =
-      quiet 0 to_ledger.Finish refl (λ n. left_other received 0 to_ledger.Finish n refl) d.connector is.own is.named true
+      let left : (n : ℕ) → clients_left n (with_message received 0 to_ledger.Finish) ≡ clients_left n received =
+      λ n. left_other received 0 to_ledger.Finish n refl in
+      quiet 0 to_ledger.Finish refl left d.connector is.own is.named true
       (sym (done_now received 0 to_ledger.Finish refl)) d.kept
 
 -- ---- the poll that is kept
