@@ -1,3 +1,10 @@
+mod Dealing
 mod Equal
+mod Finishing
+mod Hearing
+mod Lanes
+mod Places
 mod Said
+mod Serving
+mod Subscribers
 mod Talking

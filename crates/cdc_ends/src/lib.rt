@@ -2,14 +2,22 @@
 //! holds if it returns.
 #![tactic(auto)]
 
+mod broker_desks;
+mod broker_ends;
+mod broker_plans;
 mod clients;
+mod consumers;
 mod conversations;
 pub mod faults;
 mod orders;
 mod same;
 #[cfg(test)]
 mod tests;
+pub mod turns;
 
+pub use broker_ends::BrokerEnd;
+pub use broker_plans::BrokerPlan;
 pub use clients::ClientEnd;
 pub use faults::RunFault;
 pub use orders::order_laws;
+pub use turns::Turn;
