@@ -11,24 +11,29 @@ use Rattle.cdc_broker.specs.Broker.{BrokerState, empty_broker, nobody, queue_of}
 use Rattle.cdc_broker.specs.Packets.{items_of}
 use Rattle.cdc_broker.specs.Queues.{QueueState, empty_queue, next_delivery}
 use Rattle.cdc_ends.specs.BrokerDesks.{HasHeard, MayStop}
-use Rattle.cdc_ends.specs.BrokerEnds.{Dealings, Desk, IsBrokerEnd, IsDesk, IsServed, acks_at, as_confirm, dealings, is_over, no_dealings, packets_in}
+use Rattle.cdc_ends.specs.BrokerEnds.{Dealings, Desk, IsBrokerEnd, IsDesk, IsServed, IsWhole, acks_at, as_confirm, dealings, is_over, no_dealings, packets_in}
 use Rattle.cdc_ends.specs.BrokerTurns.{HasTurned, IsEmptyBroker, IsFreshLink, Turns, all_served, first_consumer, first_desk, heard, stopped, stopped_if, with_stop}
 use Rattle.cdc_ends.specs.declared.broker_plans.BrokerPlan.{BrokerPlan}
 use Rattle.cdc_ends.specs.declared.consumers.Consumer.{Consumer}
 use Rattle.cdc_ends.specs.declared.turns.Turn.{Turn}
 use Rattle.cdc_ends.proofs.Hearing.{GoesOn, GoesOn-heard, IsServedTo, IsServedTo-first, IsServedTo-next, served_one}
 use Rattle.cdc_ends.proofs.Places.{HoldsOfAll, HoldsOfAll-consumers, slice_get_made}
-use Rattle.cdc_ends.proofs.Serving.{IsServed-first, IsServed-stop, MayStop-served, whole_queue}
+use Rattle.cdc_ends.proofs.Serving.{IsServed-first, IsServed-stop, MayStop-served, deliveries_in-stop, whole_queue}
 use Rattle.cdc_laws.specs.Arrivals.{taken_of}
 use Rattle.cdc_laws.specs.Brokers.{HasArrived}
 use Rattle.cdc_laws.proofs.Brokers.{HasArrived-nil}
 use Rattle.cdc_links.specs.Links.{Incoming, Outgoing, of_sender}
 use Rattle.cdc_match.specs.Arguments.{Arguments}
+use Rattle.cdc_message.specs.declared.items.Delivery.{Delivery}
 use Rattle.cdc_traffic.specs.Following.{ends_to_broker, has_ended}
 use Rattle.cdc_traffic.specs.declared.messages.ToBroker.{ToBroker}
 use Rattle.cdc_traffic.specs.declared.messages.ToConnector.{ToConnector}
 use Rattle.cdc_traffic.specs.declared.messages.ToSubscriber.{ToSubscriber}
 use Rattle.cdc_traffic.specs.declared.pasts.Past.{Past}
+
+-- nothing and some more
+none_more : (n : ℕ) → 0 + n ≡ n
+none_more n = omega arith
 
 -- both of two tests
 both_of : (a b : Bool) → (a && b) ≡ true → (a ≡ true) × (b ≡ true)
@@ -110,7 +115,16 @@ module _ (d : Desk) (count : ℕ) (so_far : IsServedTo count count d) where
             eqb-true x.unacked 0 (passes_at has_none d.consumers k x both.1 made.1.0) in
             let none : next_delivery (queue_of d.broker (k + 1)) ≡ None =
             eager_all k x made.1.0 (omega (arith, zero_copies, desk.some)) in
-            whole_queue (queue_of d.broker (k + 1)) _ (served_one d desk so_far.goes_on k x made.1.0).handed none;
+            let one : IsServed false d.prefetch (acks_at d k) (queue_of d.broker (k + 1)) x =
+            served_one d desk so_far.goes_on k x made.1.0 in
+            subst (IsWhole (acks_at d k) (queue_of d.broker (k + 1))) made.1.1
+            (record {
+              handed = whole_queue (queue_of d.broker (k + 1)) _ one.handed none;
+              acknowledged = ap (λ (ds : List Delivery). length ds) (deliveries_in-stop x.link.sent)
+                  ∙ one.copies
+                  ∙ ap (λ (n : ℕ). n + acks_at d k) zero_copies
+                  ∙ none_more (acks_at d k);
+            });
       }
 
   pub IsBrokerEnd-stopped : IsBrokerEnd (stopped d)

@@ -1,8 +1,10 @@
+mod Answered
 mod Dealing
 mod Equal
 mod Finishing
 mod Hearing
 mod Lanes
+mod Linked
 mod Places
 mod Said
 mod Serving

@@ -37,7 +37,7 @@ deliveries_in-push sent d =
     filter_map-append (λ (m : ToSubscriber × Unit {0}). delivery_in m.0) sent (as_sent d ∷ [])
 
 -- the last message
-deliveries_in-stop : (sent : List (ToSubscriber × Unit {0})) → deliveries_in (sent ++ (Stop, tt) ∷ []) ≡ deliveries_in sent
+pub deliveries_in-stop : (sent : List (ToSubscriber × Unit {0})) → deliveries_in (sent ++ (Stop, tt) ∷ []) ≡ deliveries_in sent
 deliveries_in-stop sent =
     filter_map-append (λ (m : ToSubscriber × Unit {0}). delivery_in m.0) sent ((Stop, tt) ∷ [])
     ∙ append-nil (deliveries_in sent)

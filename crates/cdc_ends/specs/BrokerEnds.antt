@@ -7,8 +7,9 @@ use Rattle.cdc_broker.specs.Queues.{QueueState, next_delivery}
 use Rattle.cdc_ends.specs.declared.broker_plans.BrokerPlan.{BrokerPlan}
 use Rattle.cdc_ends.specs.declared.consumers.Consumer.{Consumer}
 use Rattle.cdc_ends.specs.declared.faults.RunFault.{RunFault}
-use Rattle.cdc_laws.specs.Arrivals.{taken_of}
+use Rattle.cdc_laws.specs.Arrivals.{AreAmong, taken_of}
 use Rattle.cdc_laws.specs.Brokers.{HasArrived, HasHandedOut}
+use Rattle.cdc_laws.specs.Takings.{session_of}
 use Rattle.cdc_links.specs.Links.{Incoming, Outgoing, of_sender}
 use Rattle.cdc_message.specs.declared.items.Delivery.{Delivery}
 use Rattle.cdc_message.specs.declared.packets.Answer.{Answer}
@@ -179,13 +180,34 @@ pub record IsDesk (d : Desk) : Type 0 where
 abbrev pub is_over : Desk → Bool
 is_over d = d.connector_done && list_all (λ c. c.unacked == 0) d.consumers
 
+-- the end has finished with one of its subscribers: its queue was handed out whole, and of each copy there was an
+-- acknowledgement
+pub record IsWhole (acks : ℕ) (q : QueueState) (c : Consumer) : Type 0 where
+  pub handed : q.handed ≡ length q.items
+  pub acknowledged : length (deliveries_in c.link.sent) ≡ acks
+
 -- between two turns each queue has handed out what it may: so much that `prefetch` copies are without an
--- acknowledgement, or all up to its cursor; and the end has finished where all is over, each queue being handed out
--- whole then
+-- acknowledgement, or all up to its cursor; and the end has finished where all is over, and with each subscriber then
 pub record IsBrokerEnd (d : Desk) : Type 0 where
   pub desk : IsDesk d
   pub eager : (place : ℕ) (c : Consumer) → slice_get d.consumers place ≡ Some c → c.unacked < d.prefetch
       → next_delivery (queue_of d.broker (place + 1)) ≡ None
   pub over : d.finished ≡ is_over d
   pub whole : (place : ℕ) (c : Consumer) → slice_get d.consumers place ≡ Some c → d.finished ≡ true
-      → (queue_of d.broker (place + 1)).handed ≡ length (queue_of d.broker (place + 1)).items
+      → IsWhole (acks_at d place) (queue_of d.broker (place + 1)) c
+
+-- ---- laws
+
+-- what arrives is of what was received
+abbrev pub ArrivedWasReceived : Type 0
+ArrivedWasReceived = (plan : BrokerPlan) (packets : List Packet) → AreAmong (dealings plan packets).arrived packets
+
+-- each packet received is answered once, in their order, and the answer is of its session
+abbrev pub EachPacketIsAnswered : Type 0
+EachPacketIsAnswered = (plan : BrokerPlan) (packets : List Packet)
+    → map (λ c. c.session) (dealings plan packets).confirms ≡ map session_of packets
+
+-- where the plan loses no publish, all that was received arrives
+abbrev pub UnlostArrives : Type 0
+UnlostArrives = (plan : BrokerPlan) (packets : List Packet) → plan.lose_publish.items ≡ []
+    → (dealings plan packets).arrived ≡ packets

@@ -1,11 +1,13 @@
 -- What a turn of the broker's end makes of it: a message is received and answered, and the queues hand out.
-use Rattle.std.specs.Prelude.{◌≡◌, ◌==◌, ◌&&◌, ℕ, zero, suc, ◌+◌, ◌-◌, ◌<◌, max, nat_lt, Bool, true, false, Option, Some, None, List, [], length, map, slice_get, slice_set, if◌then◌else◌}
+use Rattle.std.specs.Prelude.{◌≡◌, ◌==◌, ◌&&◌, ◌⊎◌, ℕ, zero, suc, ◌+◌, ◌-◌, ◌<◌, max, nat_lt, Bool, true, false, Option, Some, None, is_none, List, [], length, map, slice_get, slice_set, if◌then◌else◌}
 use Rattle.std.specs.List.{list_any}
 use Rattle.cdc_broker.specs.Broker.{BrokerState, after_packet, empty_broker, queue_of, takes_packet, with_queue}
 use Rattle.cdc_broker.specs.Queues.{QueueState, acknowledged, is_unknown, next_delivery, rewound_queue, with_delivery}
-use Rattle.cdc_ends.specs.BrokerEnds.{Desk, answer_to, as_confirm, as_sent, confirm_of, counted, is_lost, is_over}
+use Rattle.cdc_ends.specs.BrokerEnds.{BrokerEndState, Desk, answer_to, as_confirm, as_sent, confirm_of, counted, is_lost, is_over}
 use Rattle.cdc_ends.specs.declared.broker_plans.BrokerPlan.{BrokerPlan}
 use Rattle.cdc_ends.specs.declared.consumers.Consumer.{Consumer}
+use Rattle.cdc_ends.specs.declared.faults.RunFault.{RunFault}
+use Rattle.cdc_ends.specs.declared.faults.RunFault.TheVariants.{PeerGone, OutOfMemory}
 use Rattle.cdc_ends.specs.declared.turns.Turn.{Turn}
 use Rattle.cdc_ends.specs.declared.turns.Turn.TheVariants.{More, Finished}
 use Rattle.cdc_links.specs.Links.{Incoming, Outgoing, of_sender, with_received, with_sent}
@@ -207,6 +209,31 @@ pub record HasTurned (old new : Desk) : Type 0 where
   pub due : IsDue entry.1.0 old
   pub after : new ≡ turned entry old
 
+-- it works over the same links, and its broker has the same bindings
+pub record HasSameLinks (old new : Desk) : Type 0 where
+  pub inbox : new.inbox.link ≡ old.inbox.link
+  pub confirms : new.confirms.link ≡ old.confirms.link
+  pub consumers : map (λ c. c.link.link) new.consumers ≡ map (λ c. c.link.link) old.consumers
+  pub bindings : map (λ q. q.binding) new.broker.queues ≡ map (λ q. q.binding) old.broker.queues
+
 abbrev pub Turns : Bool → Desk → Turn → Desk → Type 0
 Turns true old turn new = (turn ≡ Finished) × (new ≡ old)
 Turns false old turn new = HasTurned old new × (turn ≡ answer_of new.finished)
+
+-- a turn fails where a link refuses it, where an acknowledgement isn't due, or for want of memory
+abbrev pub IsTurnFault : RunFault → Type 0
+IsTurnFault fault = (fault ≡ PeerGone) ⊎ (fault ≡ OutOfMemory)
+
+-- ---- what is left in the end
+
+-- the end has finished, and has met no fault
+abbrev pub has_finished : BrokerEndState → Bool
+has_finished end = is_none end.fault && end.desk.finished
+
+-- these are its ends of its links, and its broker
+pub record ArePartsOf (d : Desk) (inbox : Incoming ToBroker (Unit {0})) (confirms : Outgoing ToConnector (Option Past))
+    (consumers : List Consumer) (broker : BrokerState) : Type 0 where
+  pub inbox_is : inbox ≡ d.inbox
+  pub confirms_are : confirms ≡ d.confirms
+  pub consumers_are : consumers ≡ d.consumers
+  pub broker_is : broker ≡ d.broker

@@ -1,10 +1,10 @@
 //! What the broker's end does in a turn.
 
-ghost use Rattle.std.specs.Prelude.{◌≡◌, ◌<◌, ◌≤◌, ◌+◌, All, IfOk, false, length, map};
+ghost use Rattle.std.specs.Prelude.{◌≡◌, ◌<◌, ◌≤◌, ◌+◌, All, IfErr, IfOk, false, length, map};
 ghost use Rattle.cdc_broker.specs.Broker.{takes_packet};
 ghost use Rattle.cdc_ends.specs.BrokerDesks.{HasCome, HasHeard, MayStop, desk_of};
 ghost use Rattle.cdc_ends.specs.BrokerEnds.{IsBrokerEnd, IsDesk, as_confirm, is_over};
-ghost use Rattle.cdc_ends.specs.BrokerTurns.{MayAck, Turns, admitted, all_served, answer_if, first_consumer, first_desk, stopped, with_ack, with_coming, with_served, with_stop};
+ghost use Rattle.cdc_ends.specs.BrokerTurns.{ArePartsOf, IsTurnFault, MayAck, Turns, admitted, all_served, answer_if, first_consumer, first_desk, stopped, with_ack, with_coming, with_served, with_stop};
 ghost use Rattle.cdc_links.specs.Links.{Takes, with_sent};
 ghost use Rattle.cdc_message.specs.declared.packets.Packet.TheVariants.{Connect as ConnectOf, Publish as PublishOf};
 ghost use Rattle.cdc_traffic.specs.Following.{FollowsToBroker, IsConfirm, IsPacket};
@@ -19,6 +19,19 @@ use cdc_message::{Answer, Confirm, Item, Packet};
 use cdc_traffic::{Ack, Past, ToBroker, ToConnector, ToSubscriber};
 use std::alloc::{AllocError, Global};
 use std::sync::Wait;
+
+/// What a broker's end that has finished leaves behind.
+#[derive(Drop)]
+pub struct BrokerParts {
+    /// Its end of the link to the broker.
+    pub inbox: LinkIn<ToBroker>,
+    /// Its end of the link to the connector.
+    pub confirms: LinkOut<ToConnector>,
+    /// Its subscribers, each at the place of its queue.
+    pub consumers: Vec<Consumer>,
+    /// The broker.
+    pub broker: Broker,
+}
 
 /// What the broker's end has at hand.
 #[derive(Drop)]
@@ -63,8 +76,9 @@ fn confirm<R: Wait>(
 ) -> Result<(), RunFault>
     requires own { confirms.old.number ≡ 1 }
     requires is_one { IsConfirm (record { session = session; answer = answer }) }
-    ensures { IfOk result (λ _. confirms.new
+    ensures after { IfOk result (λ _. confirms.new
         ≡ with_sent confirms.old (as_confirm (record { session = session; answer = answer }))) }
+    ensures kind { IfErr result IsTurnFault }
 {
     match confirms.send::<NoPast, R>(rt, ToConnector::Confirm(Confirm { session, answer })) {
         Ok(()) => Ok(()),
@@ -74,7 +88,8 @@ fn confirm<R: Wait>(
 
 // The next number; there is none after the greatest.
 fn one_more(count: u64) -> Result<u64, RunFault>
-    ensures { IfOk result (λ next. next ≡ count + 1) }
+    ensures after { IfOk result (λ next. next ≡ count + 1) }
+    ensures kind { IfErr result IsTurnFault }
 {
     match count.checked_add(1) {
         Some(next) => Ok(next),
@@ -84,7 +99,8 @@ fn one_more(count: u64) -> Result<u64, RunFault>
 
 // Receives the next message.
 fn receive<R: Wait>(inbox: &mut LinkIn<ToBroker>, rt: &R) -> Result<ToBroker, RunFault>
-    ensures { IfOk result (λ message. Takes FollowsToBroker inbox.old message inbox.new) }
+    ensures after { IfOk result (λ message. Takes FollowsToBroker inbox.old message inbox.new) }
+    ensures kind { IfErr result IsTurnFault }
 {
     match inbox.receive(rt) {
         Ok(message) => Ok(message),
@@ -113,7 +129,8 @@ fn first_consumers(
 // Sends each subscriber its last message.
 fn stop_all<R: Wait>(consumers: &mut [Consumer], rt: &R) -> Result<(), RunFault>
     requires { All MayStop consumers.old }
-    ensures { IfOk result (λ _. consumers.new ≡ map with_stop consumers.old) }
+    ensures after { IfOk result (λ _. consumers.new ≡ map with_stop consumers.old) }
+    ensures kind { IfErr result IsTurnFault }
 {
     for i in 0..consumers.len() {
         let consumer = &mut consumers[i];
@@ -169,8 +186,9 @@ impl BrokerDesk {
         tag: u64,
         item: Item,
     ) -> Result<Answer, RunFault>
-        ensures { IfOk result (λ answer.
+        ensures after { IfOk result (λ answer.
             HasCome (PublishOf session tag item) (desk_of self.old) answer (desk_of self.new)) }
+        ensures kind { IfErr result IsTurnFault }
     {
         match self.broker.publish(alloc, session, tag, item)? {
             Taken::Accepted => {
@@ -196,8 +214,9 @@ impl BrokerDesk {
     ) -> Result<(), RunFault>
         requires own { self.old.confirms.number ≡ 1 }
         requires is_one { IsPacket (PublishOf session tag item) }
-        ensures { IfOk result (λ _. desk_of self.new
+        ensures after { IfOk result (λ _. desk_of self.new
             ≡ with_coming (PublishOf session tag item) (desk_of self.old)) }
+        ensures kind { IfErr result IsTurnFault }
     {
         self.publishes = one_more(self.publishes)?;
         let answer = if self.plan.loses_publish(self.publishes) {
@@ -217,7 +236,8 @@ impl BrokerDesk {
     ) -> Result<(), RunFault>
         requires own { self.old.confirms.number ≡ 1 }
         requires is_one { IsPacket packet }
-        ensures { IfOk result (λ _. desk_of self.new ≡ with_coming packet (desk_of self.old)) }
+        ensures after { IfOk result (λ _. desk_of self.new ≡ with_coming packet (desk_of self.old)) }
+        ensures kind { IfErr result IsTurnFault }
     {
         match packet {
             Packet::Connect { session } => {
@@ -238,6 +258,7 @@ impl BrokerDesk {
         requires queues { length self.old.broker.queues ≡ length self.old.consumers.items }
         ensures may { IfOk result (λ _. MayAck ack (desk_of self.old)) }
         ensures after { IfOk result (λ _. desk_of self.new ≡ with_ack ack (desk_of self.old)) }
+        ensures kind { IfErr result IsTurnFault }
     {
         let number = ack.subscriber as usize;
         let consumer = &mut self.consumers[number - 1];
@@ -251,7 +272,8 @@ impl BrokerDesk {
     /// The next message is received, and what it says is done.
     fn hear<R: Wait>(&mut self, rt: &R, alloc: Global) -> Result<(), RunFault>
         requires { IsDesk (desk_of self.old) }
-        ensures { IfOk result (λ _. HasHeard (desk_of self.old) (desk_of self.new)) }
+        ensures after { IfOk result (λ _. HasHeard (desk_of self.old) (desk_of self.new)) }
+        ensures kind { IfErr result IsTurnFault }
     {
         match receive(&mut self.inbox, rt)? {
             ToBroker::Packet(packet) => self.take_packet(rt, alloc, packet),
@@ -268,7 +290,8 @@ impl BrokerDesk {
         requires desk { IsDesk (desk_of self.old) }
         requires goes_on { self.old.finished ≡ false }
         requires inside { place < length self.old.consumers.items }
-        ensures { IfOk result (λ _. desk_of self.new ≡ with_served place (desk_of self.old)) }
+        ensures after { IfOk result (λ _. desk_of self.new ≡ with_served place (desk_of self.old)) }
+        ensures kind { IfErr result IsTurnFault }
     {
         let repeat = self.plan.repeat.as_slice();
         let consumer = &mut self.consumers[place];
@@ -288,8 +311,9 @@ impl BrokerDesk {
     fn serve_all<R: Wait>(&mut self, rt: &R, alloc: Global) -> Result<(), RunFault>
         requires desk { IsDesk (desk_of self.old) }
         requires goes_on { self.old.finished ≡ false }
-        ensures { IfOk result (λ _. desk_of self.new
+        ensures after { IfOk result (λ _. desk_of self.new
             ≡ all_served (length self.old.consumers.items) (desk_of self.old)) }
+        ensures kind { IfErr result IsTurnFault }
     {
         for place in 0..self.consumers.len() {
             self.serve(rt, alloc, place)?;
@@ -313,7 +337,8 @@ impl BrokerDesk {
     fn stop<R: Wait>(&mut self, rt: &R) -> Result<(), RunFault>
         requires desk { IsDesk (desk_of self.old) }
         requires goes_on { self.old.finished ≡ false }
-        ensures { IfOk result (λ _. desk_of self.new ≡ stopped (desk_of self.old)) }
+        ensures after { IfOk result (λ _. desk_of self.new ≡ stopped (desk_of self.old)) }
+        ensures kind { IfErr result IsTurnFault }
     {
         if !self.is_over() {
             return Ok(());
@@ -323,12 +348,38 @@ impl BrokerDesk {
         Ok(())
     }
 
+    /// Its ends of its links, and its broker.
+    pub(crate) fn into_parts(self) -> BrokerParts
+        ensures { ArePartsOf (desk_of self) result.inbox result.confirms result.consumers.items
+            result.broker }
+    {
+        let Self {
+            inbox,
+            confirms,
+            consumers,
+            broker,
+            plan: _,
+            prefetch: _,
+            publishes: _,
+            accepted: _,
+            connector_done: _,
+            finished: _,
+        } = self;
+        BrokerParts {
+            inbox,
+            confirms,
+            consumers,
+            broker,
+        }
+    }
+
     /// One turn: the next message is received, each queue hands out what it may, and where all is over each subscriber
     /// is told so. A further one changes nothing.
     pub(crate) fn turn<R: Wait>(&mut self, rt: &R, alloc: Global) -> Result<Turn, RunFault>
         requires { IsBrokerEnd (desk_of self.old) }
-        ensures { IfOk result (λ turn.
+        ensures after { IfOk result (λ turn.
             Turns self.old.finished (desk_of self.old) turn (desk_of self.new)) }
+        ensures kind { IfErr result IsTurnFault }
     {
         if self.finished {
             return Ok(Turn::Finished);

@@ -1,9 +1,10 @@
 //! The broker's end: it answers packets, and hands out the queues.
 
-ghost use Rattle.std.specs.Prelude.{◌≡◌, ◌<◌, ◌≤◌, ◌+◌, [], All, Err, IfErr, IfOk, None, Some, length, vec_len};
-ghost use Rattle.cdc_ends.specs.BrokerTurns.{IsEmptyBroker, IsFreshLink, Turns, first_desk};
+ghost use Rattle.std.specs.Prelude.{◌≡◌, ◌<◌, ◌≤◌, ◌+◌, [], All, Err, IfErr, IfOk, IfSome, None, Some, is_some, length, vec_len};
+ghost use Rattle.cdc_ends.specs.BrokerEnds.{ArrivedWasReceived, EachPacketIsAnswered, IsBrokerEnd, UnlostArrives};
+ghost use Rattle.cdc_ends.specs.BrokerTurns.{ArePartsOf, HasSameLinks, IsEmptyBroker, IsFreshLink, IsTurnFault, Turns, first_desk, has_finished};
 
-use crate::broker_desks::BrokerDesk;
+use crate::broker_desks::{BrokerDesk, BrokerParts};
 use crate::broker_plans::BrokerPlan;
 use crate::faults::RunFault;
 use crate::turns::Turn;
@@ -77,6 +78,13 @@ impl BrokerEnd {
         })
     }
 
+    /// The number of the system that the end is of.
+    pub fn system(&self) -> u64
+        ensures { result ≡ self.now.system }
+    {
+        self.system
+    }
+
     /// One turn: the next message is received, and what it says is done; each queue hands out what it may; and once the
     /// connector is done and each copy is acknowledged, each subscriber is sent its last message. A further turn changes
     /// nothing. An acknowledgement that isn't due is the fault PeerGone. The first fault stays: it is answered from then
@@ -84,8 +92,11 @@ impl BrokerEnd {
     pub fn turn<R: Wait>(&mut self, rt: &R, alloc: Global) -> Result<Turn, RunFault>
         ensures turns { IfOk result (λ turn.
             Turns self.old.desk.finished self.old.desk turn self.new.desk) }
+        ensures kept { IfOk result (λ _. IsBrokerEnd self.new.desk) }
+        ensures links { IfOk result (λ _. HasSameLinks self.old.desk self.new.desk) }
         ensures rest { IfOk result (λ _. self.new ≡ record self.old { desk = self.new.desk }) }
         ensures fault { IfErr result (λ fault. self.new.fault ≡ Some fault) }
+        ensures kind { self.old.fault ≡ None → IfErr result IsTurnFault }
         ensures again { (fault : RunFault) → self.old.fault ≡ Some fault
             → (result ≡ Err fault) × (self.new ≡ self.old) }
     {
@@ -100,4 +111,32 @@ impl BrokerEnd {
             },
         }
     }
+
+    /// What the end leaves behind: its ends of its links, and the broker; nothing, where it hasn't finished or has met a
+    /// fault.
+    pub fn into_parts(self) -> Option<BrokerParts>
+        ensures some { is_some result ≡ has_finished self }
+        ensures parts { IfSome result (λ parts.
+            ArePartsOf self.desk parts.inbox parts.confirms parts.consumers.items parts.broker) }
+        ensures kept { IfSome result (λ _. IsBrokerEnd self.desk) }
+    {
+        let Self {
+            system: _,
+            desk,
+            fault,
+        } = self;
+        if fault.is_none() && desk.finished {
+            Some(desk.into_parts())
+        } else {
+            None
+        }
+    }
 }
+
+/// Does nothing: each clause holds of whatever packets a broker's end receives, by whatever plan. What arrives of them at
+/// its broker is of these packets, all of them where the plan loses no publish; and each packet is answered once.
+pub fn broker_end_laws()
+    ensures arrived { ArrivedWasReceived }
+    ensures unlost { UnlostArrives }
+    ensures answered { EachPacketIsAnswered }
+{}

@@ -1,10 +1,10 @@
 //! What the broker's end keeps of each subscriber, and how a queue is handed out to it.
 
-ghost use Rattle.std.specs.Prelude.{◌≡◌, ◌<◌, ◌≤◌, ◌-◌, ℕ, IfOk, is_some, length};
+ghost use Rattle.std.specs.Prelude.{◌≡◌, ◌<◌, ◌≤◌, ◌-◌, ℕ, IfErr, IfOk, is_some, length};
 ghost use Rattle.cdc_broker.specs.Broker.{queue_of};
 ghost use Rattle.cdc_broker.specs.Queues.{next_delivery};
 ghost use Rattle.cdc_ends.specs.BrokerEnds.{as_sent};
-ghost use Rattle.cdc_ends.specs.BrokerTurns.{handed_out, lane_of, with_copy, with_next, with_one_fewer, with_stop};
+ghost use Rattle.cdc_ends.specs.BrokerTurns.{IsTurnFault, handed_out, lane_of, with_copy, with_next, with_one_fewer, with_stop};
 ghost use Rattle.cdc_ends.specs.BrokerDesks.{HasBecome, MayHandOut};
 ghost use Rattle.cdc_traffic.specs.Following.{FollowsToSubscriber};
 ghost use Rattle.cdc_traffic.specs.declared.messages.ToSubscriber.TheVariants.{Stop};
@@ -20,13 +20,13 @@ use std::sync::Wait;
 
 /// A subscriber as the broker's end keeps it.
 #[derive(Drop)]
-pub(crate) struct Consumer {
+pub struct Consumer {
     /// The end of the link to it.
-    pub(crate) link: LinkOut<ToSubscriber>,
+    pub link: LinkOut<ToSubscriber>,
     /// How many of the copies that it was sent aren't acknowledged.
-    pub(crate) unacked: u64,
+    pub unacked: u64,
     /// The greatest position that it was sent.
-    pub(crate) handed: u64,
+    pub handed: u64,
 }
 
 // The name of what names nothing.
@@ -42,7 +42,8 @@ impl Consumer {
         requires few { self.old.unacked < 64 }
         requires follows { FollowsToSubscriber self.old.link.number self.old.link.sent
             (as_sent delivery) }
-        ensures { IfOk result (λ _. self.new ≡ with_copy delivery self.old) }
+        ensures after { IfOk result (λ _. self.new ≡ with_copy delivery self.old) }
+        ensures kind { IfErr result IsTurnFault }
     {
         self.handed = self.handed.max(delivery.position);
         match self
@@ -60,7 +61,8 @@ impl Consumer {
     /// Sends the last message.
     pub(crate) fn send_stop<R: Wait>(&mut self, rt: &R) -> Result<(), RunFault>
         requires { FollowsToSubscriber self.old.link.number self.old.link.sent (Stop, tt) }
-        ensures { IfOk result (λ _. self.new ≡ with_stop self.old) }
+        ensures after { IfOk result (λ _. self.new ≡ with_stop self.old) }
+        ensures kind { IfErr result IsTurnFault }
     {
         match self.link.send::<Nothing, R>(rt, ToSubscriber::Stop) {
             Ok(()) => Ok(()),
@@ -89,6 +91,7 @@ fn hand_next<R: Wait>(
         (with_next repeat.now number (next_delivery (queue_of broker.old number))
         (lane_of broker.old number consumer.old))
         broker.old broker.new consumer.new) }
+    ensures kind { IfErr result IsTurnFault }
 {
     let Some(delivery) = broker.next_for(alloc, number)? else {
         return Ok(false);
@@ -116,10 +119,11 @@ pub(crate) fn hand_out<R: Wait>(
     requires last { number ≤ length broker.old.queues }
     requires few { prefetch ≤ 64 }
     requires may { MayHandOut (lane_of broker.old number consumer.old) }
-    ensures { IfOk result (λ _. HasBecome number
+    ensures after { IfOk result (λ _. HasBecome number
         (handed_out repeat.now number (prefetch - consumer.old.unacked)
         (lane_of broker.old number consumer.old))
         broker.old broker.new consumer.new) }
+    ensures kind { IfErr result IsTurnFault }
 {
     while consumer.unacked < prefetch {
         if !hand_next(rt, alloc, broker, consumer, repeat, number)? {

@@ -15,9 +15,11 @@ mod same;
 mod tests;
 pub mod turns;
 
-pub use broker_ends::BrokerEnd;
+pub use broker_desks::BrokerParts;
+pub use broker_ends::{BrokerEnd, broker_end_laws};
 pub use broker_plans::BrokerPlan;
 pub use clients::ClientEnd;
+pub use consumers::Consumer;
 pub use faults::RunFault;
 pub use orders::order_laws;
 pub use turns::Turn;

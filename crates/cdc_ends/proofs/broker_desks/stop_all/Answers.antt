@@ -11,6 +11,6 @@ loop-i-preserved g c =
     let one = c.index-consumers-i in
     let inside : at.i < length old = omega (arith, at.invariant.1) in (
       stopped_more old at.consumers at.i one.result inside at.invariant.0 one.is c.send_stop.new.self
-          (c.in_ok-send_stop.ensures ∙ ap with_stop (sym one.is)),
+          (c.in_ok-send_stop.ensures.after ∙ ap with_stop (sym one.is)),
       length-set at.consumers at.i c.send_stop.new.self ∙ at.invariant.1,
     )

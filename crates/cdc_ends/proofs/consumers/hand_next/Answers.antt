@@ -14,4 +14,4 @@ returns-then-is_repeated-clause-becomes g c =
     (sym c.is_repeated.ensures ∙ c.if-is_repeated.true) in
     has_handed c.args.repeat.now number old c.next_for.new.self c.rewind.new.self c.args.consumer.now
     c.send_copy.new.self d true inside (sym c.in_ok-delivery.ensures.answer ∙ c.in-Some.is) c.in_ok-delivery.ensures.ok
-    c.in_ok-send_copy.ensures goes c.rewind.ensures.state
+    c.in_ok-send_copy.ensures.after goes c.rewind.ensures.state

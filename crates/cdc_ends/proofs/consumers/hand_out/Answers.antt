@@ -10,8 +10,8 @@ loop-consumer-init g c =
     hands_first c.args.repeat.now c.args.number c.args.prefetch c.args.broker.now c.args.consumer.now inside
     c.requires.may
 
-pub returns-then-not-branch : goal.returns-then-not-branch
-returns-then-not-branch g c =
+pub returns-then-not-branch-clause-after : goal.returns-then-not-branch-clause-after
+returns-then-not-branch-clause-after g c =
     let at = c.loop-consumer in
     let isnt : is_some (next_delivery (queue_of at.broker c.args.number)) ≡ false = search rules in
     hands_none c.args.repeat.now c.args.number c.args.prefetch c.args.broker.now c.args.consumer.now at.broker at.consumer

@@ -12,7 +12,7 @@ loop-place-preserved g c =
     let count : ℕ = length c.args.self.now.consumers.items in
     let inside : at.place < count = omega arith in
     let one : suc at.place ≡ at.place + 1 = omega arith in
-    let after : desk_of c.serve.new.self ≡ with_served at.place (desk_of at.self) = c.in_ok-serve.ensures in (
+    let after : desk_of c.serve.new.self ≡ with_served at.place (desk_of at.self) = c.in_ok-serve.ensures.after in (
       after
           ∙ ap (with_served at.place) at.invariant.0
           ∙ ap (λ (n : ℕ). all_served n first) one,
