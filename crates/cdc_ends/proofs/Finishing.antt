@@ -12,7 +12,7 @@ use Rattle.cdc_broker.specs.Packets.{items_of}
 use Rattle.cdc_broker.specs.Queues.{QueueState, empty_queue, next_delivery}
 use Rattle.cdc_ends.specs.BrokerDesks.{HasHeard, MayStop}
 use Rattle.cdc_ends.specs.BrokerEnds.{Dealings, Desk, IsBrokerEnd, IsDesk, IsServed, IsWhole, acks_at, as_confirm, dealings, is_over, no_dealings, packets_in}
-use Rattle.cdc_ends.specs.BrokerTurns.{HasTurned, IsEmptyBroker, IsFreshLink, Turns, all_served, first_consumer, first_desk, heard, stopped, stopped_if, with_stop}
+use Rattle.cdc_ends.specs.BrokerTurns.{HasTurned, IsFreshLink, Turns, all_served, first_consumer, first_desk, heard, stopped, stopped_if, with_stop}
 use Rattle.cdc_ends.specs.declared.broker_plans.BrokerPlan.{BrokerPlan}
 use Rattle.cdc_ends.specs.declared.consumers.Consumer.{Consumer}
 use Rattle.cdc_ends.specs.declared.turns.Turn.{Turn}
@@ -192,41 +192,36 @@ empty_at bindings k = (
     is (Some binding) = refl
 
 pub IsBrokerEnd-first : (inbox : Incoming ToBroker (Unit {0})) (confirms : Outgoing ToConnector (Option Past))
-    (links : List (Outgoing ToSubscriber (Unit {0}))) (broker : BrokerState) (plan : BrokerPlan) (prefetch : ℕ)
+    (links : List (Outgoing ToSubscriber (Unit {0}))) (bindings : List Arguments) (plan : BrokerPlan) (prefetch : ℕ)
     → inbox.received ≡ [] → inbox.senders ≡ length links + 1 → confirms.number ≡ 1 → confirms.sent ≡ []
-    → All IsFreshLink links → IsEmptyBroker broker → length broker.queues ≡ length links → 0 < prefetch → prefetch ≤ 64
-    → IsBrokerEnd (first_desk inbox confirms links broker plan prefetch)
-IsBrokerEnd-first inbox confirms links broker plan prefetch fresh senders own silent fresh_links empty many some few =
+    → All IsFreshLink links → length bindings ≡ length links → 0 < prefetch → prefetch ≤ 64
+    → IsBrokerEnd (first_desk inbox confirms links (empty_broker bindings) plan prefetch)
+IsBrokerEnd-first inbox confirms links bindings plan prefetch fresh senders own silent fresh_links many some few =
     record {
       desk = record {
         senders = senders ∙ ap (λ (n : ℕ). n + 1) (sym (length-map links first_consumer));
         own = own;
-        queues = many ∙ sym (length-map links first_consumer);
+        queues = length-map bindings empty_queue ∙ many ∙ sym (length-map links first_consumer);
         some = some;
         few = few;
-        arrived = subst (λ (made : Dealings). HasArrived broker made.arrived made.confirms) (sym none)
-            (subst (λ (b : BrokerState). HasArrived b [] []) (sym empty) (HasArrived-nil bindings));
+        arrived = subst (λ (made : Dealings). HasArrived (empty_broker bindings) made.arrived made.confirms) (sym none)
+            (HasArrived-nil bindings);
         confirmed = silent ∙ ap (λ (made : Dealings). map as_confirm made.confirms) (sym none);
         publishes = ap (λ (made : Dealings). made.publishes) (sym none);
         accepted = ap (λ (made : Dealings). length (items_of (taken_of made.arrived))) (sym none);
         connector = ap (λ (l : List (ℕ × (ToBroker × Unit {0}))). has_ended ends_to_broker (of_sender 0 l)) (sym fresh);
         served = served;
       };
-      eager = λ k c found few.
-          subst (λ (b : BrokerState). next_delivery (queue_of b (k + 1)) ≡ None) (sym empty)
-          (ap next_delivery (empty_at bindings k).1);
+      eager = λ k c found few. ap next_delivery (empty_at bindings k).1;
       over = refl;
       whole = λ k c found done. cc;
     }
   where
-    bindings : List Arguments
-    bindings = map (λ (q : QueueState). q.binding) broker.queues
-
     none : dealings plan (packets_in (of_sender 0 inbox.received)) ≡ no_dealings
     none = ap (λ (l : List (ℕ × (ToBroker × Unit {0}))). dealings plan (packets_in (of_sender 0 l))) fresh
 
     served : (k : ℕ) (c : Consumer) → slice_get (map first_consumer links) k ≡ Some c
-        → IsServed false prefetch (length (of_sender (k + 1) inbox.received)) (queue_of broker (k + 1)) c
+        → IsServed false prefetch (length (of_sender (k + 1) inbox.received)) (queue_of (empty_broker bindings) (k + 1)) c
     served k c found =
         let made = slice_get_made first_consumer links k c found in
         let link : Outgoing ToSubscriber (Unit {0}) = made.0 in
@@ -235,8 +230,7 @@ IsBrokerEnd-first inbox confirms links broker plan prefetch fresh senders own si
         let is : IsFreshLink link =
         subst IsFreshLink (get_or_from_slice_get links k link link made.1.0) (fresh_links k link inside) in
         subst (λ (l : List (ℕ × (ToBroker × Unit {0}))).
-        IsServed false prefetch (length (of_sender (k + 1) l)) (queue_of broker (k + 1)) c) (sym fresh)
-        (subst (λ (b : BrokerState). IsServed false prefetch 0 (queue_of b (k + 1)) c) (sym empty)
+        IsServed false prefetch (length (of_sender (k + 1) l)) (queue_of (empty_broker bindings) (k + 1)) c) (sym fresh)
         (subst (λ (q : QueueState). IsServed false prefetch 0 q c) (sym at.1)
         (subst (IsServed false prefetch 0 (empty_queue at.0)) made.1.1
-        (IsServed-first prefetch at.0 link is.0 is.1))))
+        (IsServed-first prefetch at.0 link is.0 is.1)))

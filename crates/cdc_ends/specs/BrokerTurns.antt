@@ -46,10 +46,6 @@ first_desk inbox confirms links broker plan prefetch = record {
   finished = false;
 }
 
--- a broker that nothing has come to, with whatever bindings
-abbrev pub IsEmptyBroker : BrokerState → Type 0
-IsEmptyBroker b = b ≡ empty_broker (map (λ q. q.binding) b.queues)
-
 -- an end of the broker's, number 0, of a link on which nothing was sent
 abbrev pub IsFreshLink : Outgoing ToSubscriber (Unit {0}) → Type 0
 IsFreshLink link = (link.number ≡ 0) × (link.sent ≡ [])

@@ -1,7 +1,7 @@
 //! What the broker's end does in a turn.
 
 ghost use Rattle.std.specs.Prelude.{◌≡◌, ◌<◌, ◌≤◌, ◌+◌, All, IfErr, IfOk, false, length, map};
-ghost use Rattle.cdc_broker.specs.Broker.{takes_packet};
+ghost use Rattle.cdc_broker.specs.Broker.{empty_broker, takes_packet};
 ghost use Rattle.cdc_ends.specs.BrokerDesks.{HasCome, HasHeard, MayStop, desk_of};
 ghost use Rattle.cdc_ends.specs.BrokerEnds.{IsBrokerEnd, IsDesk, as_confirm, is_over};
 ghost use Rattle.cdc_ends.specs.BrokerTurns.{ArePartsOf, IsTurnFault, MayAck, Turns, admitted, all_served, answer_if, first_consumer, first_desk, stopped, with_ack, with_coming, with_served, with_stop};
@@ -15,6 +15,7 @@ use crate::faults::RunFault;
 use crate::turns::Turn;
 use cdc_broker::{Broker, Taken};
 use cdc_links::{LinkIn, LinkOut, Naming};
+use cdc_match::Binding;
 use cdc_message::{Answer, Confirm, Item, Packet};
 use cdc_traffic::{Ack, Past, ToBroker, ToConnector, ToSubscriber};
 use std::alloc::{AllocError, Global};
@@ -146,18 +147,18 @@ impl BrokerDesk {
         inbox: LinkIn<ToBroker>,
         confirms: LinkOut<ToConnector>,
         links: Vec<LinkOut<ToSubscriber>>,
-        broker: Broker,
+        bindings: Vec<Binding>,
         prefetch: u64,
         plan: BrokerPlan,
     ) -> Result<BrokerDesk, AllocError>
         ensures { IfOk result (λ desk. desk_of desk
-            ≡ first_desk inbox confirms links.items broker plan prefetch) }
+            ≡ first_desk inbox confirms links.items (empty_broker bindings.items) plan prefetch) }
     {
         Ok(BrokerDesk {
             inbox,
             confirms,
             consumers: first_consumers(alloc, links)?,
-            broker,
+            broker: Broker::new(alloc, bindings)?,
             plan,
             prefetch,
             publishes: 0,

@@ -1,15 +1,16 @@
 //! The broker's end: it answers packets, and hands out the queues.
 
 ghost use Rattle.std.specs.Prelude.{◌≡◌, ◌<◌, ◌≤◌, ◌+◌, [], All, Err, IfErr, IfOk, IfSome, None, Some, is_some, length, vec_len};
+ghost use Rattle.cdc_broker.specs.Broker.{empty_broker};
 ghost use Rattle.cdc_ends.specs.BrokerEnds.{ArrivedWasReceived, EachPacketIsAnswered, IsBrokerEnd, UnlostArrives};
-ghost use Rattle.cdc_ends.specs.BrokerTurns.{ArePartsOf, HasSameLinks, IsEmptyBroker, IsFreshLink, IsTurnFault, Turns, first_desk, has_finished};
+ghost use Rattle.cdc_ends.specs.BrokerTurns.{ArePartsOf, HasSameLinks, IsFreshLink, IsTurnFault, Turns, first_desk, has_finished};
 
 use crate::broker_desks::{BrokerDesk, BrokerParts};
 use crate::broker_plans::BrokerPlan;
 use crate::faults::RunFault;
 use crate::turns::Turn;
-use cdc_broker::Broker;
 use cdc_links::{LinkIn, LinkOut};
+use cdc_match::Binding;
 use cdc_traffic::{ToBroker, ToConnector, ToSubscriber};
 use std::alloc::{AllocError, Global};
 use std::marker::Model;
@@ -44,15 +45,15 @@ impl Model for BrokerEnd {
 }
 
 impl BrokerEnd {
-    /// The end of a broker to which nothing has come yet, with a link to the subscriber of each queue, by place. An
-    /// error is want of memory for the list of them.
+    /// The end of a broker to which nothing has come yet, with a queue for each binding, and a link to the subscriber of
+    /// each queue, by place. An error is want of memory.
     pub fn new(
         alloc: Global,
         system: u64,
         inbox: LinkIn<ToBroker>,
         confirms: LinkOut<ToConnector>,
         links: Vec<LinkOut<ToSubscriber>>,
-        broker: Broker,
+        bindings: Vec<Binding>,
         prefetch: u64,
         plan: BrokerPlan,
     ) -> Result<BrokerEnd, AllocError>
@@ -61,19 +62,19 @@ impl BrokerEnd {
         requires own { confirms.number ≡ 1 }
         requires silent { confirms.sent ≡ [] }
         requires fresh_links { All IsFreshLink links.items }
-        requires empty { IsEmptyBroker broker }
-        requires queues { length broker.queues ≡ vec_len links }
+        requires queues { vec_len bindings ≡ vec_len links }
         requires some { 0 < prefetch }
         requires few { prefetch ≤ 64 }
         ensures { IfOk result (λ end. end ≡ record {
           system = system;
-          desk = first_desk inbox confirms links.items broker plan prefetch;
+          desk = first_desk inbox confirms links.items (empty_broker bindings.items) plan
+            prefetch;
           fault = None;
         }) }
     {
         Ok(BrokerEnd {
             system,
-            desk: BrokerDesk::new(alloc, inbox, confirms, links, broker, prefetch, plan)?,
+            desk: BrokerDesk::new(alloc, inbox, confirms, links, bindings, prefetch, plan)?,
             fault: None,
         })
     }
