@@ -1,5 +1,7 @@
 //! That an end whose peer is gone says so, and says the same from then on.
 
+mod brokers;
+
 ghost use Rattle.std.specs.Prelude.{◌≡◌};
 
 use crate::{ClientEnd, RunFault};
