@@ -1,9 +1,9 @@
 -- What the broker's end makes of packets: what arrives of them, and that each is answered once.
-use Rattle.std.proofs.Common.{◌≡◌, ◌⊎◌, ℕ, ◌+◌, Bool, true, false, List, [], ◌∷◌, ◌++◌, refl, sym, ap, ap₂, ◌∙◌, subst, map, inl, inr, arith}
+use Rattle.std.proofs.Common.{◌≡◌, ◌⊎◌, ℕ, ◌+◌, Bool, true, false, List, [], ◌∷◌, ◌++◌, refl, sym, ap, ◌∙◌, subst, map, inl, inr, arith}
 use Rattle.std.specs.Prelude.{Contains, fold}
 use Rattle.std.proofs.lemmas.List.{append_assoc, append-nil, map-append}
 use Rattle.std.proofs.lemmas.List.Elements.{Contains-append_right, Contains-push_cases}
-use Rattle.cdc_ends.specs.BrokerEnds.{ArrivedWasReceived, Dealings, EachPacketIsAnswered, UnlostArrives, answer_after, confirm_of, dealings, is_listed, is_lost, no_dealings, with_packet}
+use Rattle.cdc_ends.specs.BrokerEnds.{ArrivedWasReceived, Dealings, EachPacketIsAnswered, UnlostArrives, answer_after, confirm_of, is_listed, is_lost, no_dealings, with_packet}
 use Rattle.cdc_ends.specs.declared.broker_plans.BrokerPlan.{BrokerPlan}
 use Rattle.cdc_laws.specs.Arrivals.{taken_of}
 use Rattle.cdc_laws.specs.Takings.{session_of}

@@ -7,7 +7,7 @@ use Rattle.std.proofs.lemmas.Bool.{cases_Bool, eqb-true}
 use Rattle.std.proofs.lemmas.List.{length-map}
 use Rattle.std.proofs.lemmas.List.Folds.{list_all-map}
 use Rattle.std.proofs.lemmas.Option.{get_or_from_slice_get, slice_get-get_or, slice_get-map, slice_get_within}
-use Rattle.cdc_broker.specs.Broker.{BrokerState, empty_broker, nobody, queue_of}
+use Rattle.cdc_broker.specs.Broker.{empty_broker, nobody, queue_of}
 use Rattle.cdc_broker.specs.Packets.{items_of}
 use Rattle.cdc_broker.specs.Queues.{QueueState, empty_queue, next_delivery}
 use Rattle.cdc_ends.specs.BrokerDesks.{HasHeard, MayStop}

@@ -1,12 +1,12 @@
 -- A turn of the broker's end leaves its links and its broker's bindings as they are.
-use Rattle.std.proofs.Common.{◌≡◌, ℕ, zero, suc, ◌+◌, ◌-◌, Bool, true, false, Option, Some, None, List, [], ◌∷◌, refl, sym, ap, ap₂, ◌∙◌, subst, length, map, get_or}
-use Rattle.std.specs.Prelude.{slice_get, slice_set}
+use Rattle.std.proofs.Common.{◌≡◌, ℕ, zero, suc, ◌+◌, ◌-◌, Bool, true, false, Option, Some, None, List, [], ◌∷◌, refl, sym, ap, ap₂, ◌∙◌, subst, length, map}
+use Rattle.std.specs.Prelude.{slice_get}
 use Rattle.std.proofs.Math.Seq.{map-set_same}
 use Rattle.std.proofs.lemmas.Option.{get_or_from_slice_get, unwrap_or-slice_get}
-use Rattle.cdc_broker.specs.Broker.{BrokerState, after_packet, nobody, queue_of, takes_packet, with_queue}
+use Rattle.cdc_broker.specs.Broker.{BrokerState, after_packet, nobody, queue_of, takes_packet}
 use Rattle.cdc_broker.specs.Queues.{QueueState, acknowledged, empty_queue, item_for, next_delivery, queued, with_item}
 use Rattle.cdc_ends.specs.BrokerEnds.{Desk, is_lost, is_over}
-use Rattle.cdc_ends.specs.BrokerTurns.{HasSameLinks, HasTurned, Lane, Turns, acked_if, all_served, coming_if, handed_out, heard, lane_of, served_if, stopped, stopped_if, turned, with_counted, with_lane, with_next, with_one_fewer, with_served, with_stop}
+use Rattle.cdc_ends.specs.BrokerTurns.{HasSameLinks, HasTurned, Lane, Turns, acked_if, all_served, coming_if, handed_out, heard, lane_of, served_if, stopped, stopped_if, with_counted, with_lane, with_next, with_one_fewer, with_served, with_stop}
 use Rattle.cdc_ends.specs.declared.consumers.Consumer.{Consumer}
 use Rattle.cdc_ends.specs.declared.turns.Turn.{Turn}
 use Rattle.cdc_ends.proofs.Serving.{same_handed_out}

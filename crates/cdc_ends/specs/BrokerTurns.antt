@@ -1,7 +1,7 @@
 -- What a turn of the broker's end makes of it: a message is received and answered, and the queues hand out.
 use Rattle.std.specs.Prelude.{◌≡◌, ◌==◌, ◌&&◌, ◌⊎◌, ℕ, zero, suc, ◌+◌, ◌-◌, ◌<◌, max, nat_lt, Bool, true, false, Option, Some, None, is_none, List, [], length, map, slice_get, slice_set, if◌then◌else◌}
 use Rattle.std.specs.List.{list_any}
-use Rattle.cdc_broker.specs.Broker.{BrokerState, after_packet, empty_broker, queue_of, takes_packet, with_queue}
+use Rattle.cdc_broker.specs.Broker.{BrokerState, after_packet, queue_of, takes_packet, with_queue}
 use Rattle.cdc_broker.specs.Queues.{QueueState, acknowledged, is_unknown, next_delivery, rewound_queue, with_delivery}
 use Rattle.cdc_ends.specs.BrokerEnds.{BrokerEndState, Desk, answer_to, as_confirm, as_sent, confirm_of, counted, is_lost, is_over}
 use Rattle.cdc_ends.specs.declared.broker_plans.BrokerPlan.{BrokerPlan}

@@ -68,7 +68,7 @@ impl BrokerEnd {
         ensures { IfOk result (λ end. end ≡ record {
           system = system;
           desk = first_desk inbox confirms links.items (empty_broker bindings.items) plan
-            prefetch;
+              prefetch;
           fault = None;
         }) }
     {

@@ -63,10 +63,7 @@ fn publish_and_finish<R: Wait>(
 }
 
 // The subscriber acknowledges its first delivery.
-fn acknowledge<R: Wait>(
-    rt: &R,
-    mut acks: LinkOut<ToBroker>,
-) -> Result<(), SendRefused<ToBroker>>
+fn acknowledge<R: Wait>(rt: &R, mut acks: LinkOut<ToBroker>) -> Result<(), SendRefused<ToBroker>>
     requires first { acks.number ≡ 1 }
     requires silent { acks.sent ≡ [] }
 {

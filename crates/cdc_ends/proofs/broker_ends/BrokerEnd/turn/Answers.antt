@@ -1,4 +1,4 @@
-use Rattle.std.proofs.Common.{◌≡◌, None, subst, rules}
+use Rattle.std.proofs.Common.{subst}
 use Rattle.cdc_ends.specs.BrokerDesks.{desk_of}
 use Rattle.cdc_ends.specs.BrokerEnds.{BrokerEndState}
 use Rattle.cdc_ends.specs.BrokerTurns.{HasSameLinks}
