@@ -178,7 +178,8 @@ empty_at : (bindings : List Arguments) (k : ℕ)
     → (binding : Arguments) × (queue_of (empty_broker bindings) (k + 1) ≡ empty_queue binding)
 empty_at bindings k = (
   found_binding (slice_get bindings (k + 1 - 1)),
-  ap (λ (found : Option QueueState). unwrap_or found (empty_queue nobody)) (slice_get-map empty_queue bindings (k + 1 - 1))
+  ap (λ (found : Option QueueState). unwrap_or found (empty_queue nobody))
+      (slice_get-map empty_queue bindings (k + 1 - 1))
       ∙ is (slice_get bindings (k + 1 - 1)),
 )
   where
@@ -221,7 +222,8 @@ IsBrokerEnd-first inbox confirms links bindings plan prefetch fresh senders own 
     none = ap (λ (l : List (ℕ × (ToBroker × Unit {0}))). dealings plan (packets_in (of_sender 0 l))) fresh
 
     served : (k : ℕ) (c : Consumer) → slice_get (map first_consumer links) k ≡ Some c
-        → IsServed false prefetch (length (of_sender (k + 1) inbox.received)) (queue_of (empty_broker bindings) (k + 1)) c
+        → IsServed false prefetch (length (of_sender (k + 1) inbox.received))
+        (queue_of (empty_broker bindings) (k + 1)) c
     served k c found =
         let made = slice_get_made first_consumer links k c found in
         let link : Outgoing ToSubscriber (Unit {0}) = made.0 in

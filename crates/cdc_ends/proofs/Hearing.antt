@@ -50,8 +50,8 @@ IsDesk-lane d place lane is inside same one =
       queues = queues ∙ is.queues ∙ sym many;
       some = is.some;
       few = is.few;
-      arrived = HasArrived-queue d.broker (dealings_of d).arrived (dealings_of d).confirms (place + 1) lane.queue queued'
-          is.arrived same;
+      arrived = HasArrived-queue d.broker (dealings_of d).arrived (dealings_of d).confirms (place + 1) lane.queue
+          queued' is.arrived same;
       confirmed = is.confirmed;
       publishes = is.publishes;
       accepted = is.accepted;
@@ -182,7 +182,8 @@ module _ (d : Desk) (is : IsDesk d) (name : Unit {0}) where
   sent_finish : of_sender 0 (d.inbox.received ++ finish ∷ []) ≡ of_sender 0 d.inbox.received ++ finish.1 ∷ []
   sent_finish = of_sender-snoc_own finish d.inbox.received
 
-  packets_finish : packets_in (of_sender 0 (d.inbox.received ++ finish ∷ [])) ≡ packets_in (of_sender 0 d.inbox.received)
+  packets_finish : packets_in (of_sender 0 (d.inbox.received ++ finish ∷ []))
+      ≡ packets_in (of_sender 0 d.inbox.received)
   packets_finish =
       ap packets_in sent_finish
       ∙ packets_in-push (of_sender 0 d.inbox.received) finish.1
@@ -312,8 +313,9 @@ module _ (d : Desk) (is : IsDesk d) (name : Unit {0}) where
 
     pub IsDesk-packet : IsDesk (with_coming packet (after_entry d entry_of))
     IsDesk-packet =
-        let came : HasDealt d.plan (dealings_of (after_entry d entry_of)) (with_coming packet (after_entry d entry_of)) =
-        subst (λ (x : Dealings). HasDealt d.plan x (with_coming packet (after_entry d entry_of))) (sym made_packet)
+        let new : Desk = with_coming packet (after_entry d entry_of) in
+        let came : HasDealt d.plan (dealings_of (after_entry d entry_of)) new =
+        subst (λ (x : Dealings). HasDealt d.plan x new) (sym made_packet)
         (HasDealt-packet (dealings_of d) (after_entry d entry_of) before packet) in
         from_dealt (is_lost d.plan d.publishes packet) (takes_packet d.broker packet) came
 
@@ -353,7 +355,8 @@ module _ (d : Desk) (is : IsDesk d) (name : Unit {0}) where
       known =
           subst (λ (n : ℕ). is_unknown (queue_of d.broker n) ack.position ≡ false) (own ∙ sym at) due.0
 
-      acked_one : IsServed d.finished d.prefetch (acks_at (after_entry d ack_entry) place) acked_queue (with_one_fewer c)
+      acked_one : IsServed d.finished d.prefetch (acks_at (after_entry d ack_entry) place) acked_queue
+          (with_one_fewer c)
       acked_one =
           subst (λ (n : ℕ). IsServed d.finished d.prefetch n acked_queue (with_one_fewer c)) (sym one_ack)
           (subst (λ (b : Bool). IsServed b d.prefetch (acks_at d place + 1) acked_queue (with_one_fewer c)) (sym goes)
@@ -423,15 +426,15 @@ came_consumers d packet = go (is_lost d.plan d.publishes packet) (takes_packet d
     go false true = refl
     go false false = refl
 
-acked_finished : (d : Desk) (place position : ℕ) (found : Option Consumer)
-    → (acked_if place position found d).finished ≡ d.finished
-acked_finished d place position None = refl
-acked_finished d place position (Some c) = refl
+acked_finished : (d : Desk) (k position : ℕ) (found : Option Consumer)
+    → (acked_if k position found d).finished ≡ d.finished
+acked_finished d k position None = refl
+acked_finished d k position (Some c) = refl
 
-acked_many : (d : Desk) (place position : ℕ) (found : Option Consumer)
-    → length (acked_if place position found d).consumers ≡ length d.consumers
-acked_many d place position None = refl
-acked_many d place position (Some c) = length-set d.consumers place (with_one_fewer c)
+acked_many : (d : Desk) (k position : ℕ) (found : Option Consumer)
+    → length (acked_if k position found d).consumers ≡ length d.consumers
+acked_many d k position None = refl
+acked_many d k position (Some c) = length-set d.consumers k (with_one_fewer c)
 
 heard_goes_on : (d : Desk) → IsDesk d → d.finished ≡ false → (j : ℕ) (message : ToBroker) (name : Unit {0})
     → j < d.inbox.senders → MaySendBroker j message → IsDue message d

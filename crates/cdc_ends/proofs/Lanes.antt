@@ -54,18 +54,23 @@ pub has_handed : (repeats : List (ℕ × ℕ)) (number : ℕ) (old b new : Broke
     → b ≡ with_queue number (with_delivery (next_delivery (queue_of old number)) (queue_of old number)) old
     → c' ≡ with_copy d c → goes_back repeats number c d ≡ goes
     → new ≡ (if goes then with_queue number (rewound_queue (queue_of b number)) b else b)
-    → HasBecome number (with_next repeats number (next_delivery (queue_of old number)) (lane_of old number c)) old new c'
+    → HasBecome number (with_next repeats number (next_delivery (queue_of old number)) (lane_of old number c)) old new
+    c'
 has_handed repeats number old b new c c' d goes inside next delivered copied is after =
     subst (λ (found : Option Delivery). HasBecome number (with_next repeats number found (lane_of old number c)) old new
     c') (sym next)
-    (record { broker = went goes after ∙ ap (λ (g : Bool). with_queue number (back_if g q) old) (sym is); consumer = copied })
+    (record {
+      broker = went goes after ∙ ap (λ (g : Bool). with_queue number (back_if g q) old) (sym is);
+      consumer = copied;
+    })
   where
     q : QueueState
     q = with_delivery (Some d) (queue_of old number)
 
     here : b ≡ with_queue number q old
     here =
-        delivered ∙ ap (λ (found : Option Delivery). with_queue number (with_delivery found (queue_of old number)) old) next
+        delivered
+        ∙ ap (λ (found : Option Delivery). with_queue number (with_delivery found (queue_of old number)) old) next
 
     queue_is : queue_of b number ≡ q
     queue_is = ap (λ (x : BrokerState). queue_of x number) here ∙ queue_of-with old number q inside
@@ -143,11 +148,12 @@ module _ (repeats : List (ℕ × ℕ)) (number prefetch : ℕ) (first : BrokerSt
       (record { broker = so_far.broker; consumer = refl })
 
   module _ (new : BrokerState) (after : Consumer)
-      (became : HasBecome number (with_next repeats number (next_delivery (queue_of b number)) (lane_of b number c)) b new
-      after) where
+      (became : HasBecome number (with_next repeats number (next_delivery (queue_of b number)) (lane_of b number c)) b
+      new after) where
     -- there was nothing to hand out
     pub hands_none : is_some (next_delivery (queue_of b number)) ≡ false
-        → HasBecome number (handed_out repeats number (prefetch - one.unacked) (lane_of first number one)) first new after
+        → HasBecome number (handed_out repeats number (prefetch - one.unacked) (lane_of first number one)) first new
+        after
     hands_none isnt =
         let none : next_delivery (queue_of b number) ≡ None = nothing (next_delivery (queue_of b number)) isnt in
         let same : with_next repeats number (next_delivery (queue_of b number)) (lane_of b number c)
@@ -184,7 +190,7 @@ module _ (repeats : List (ℕ × ℕ)) (number prefetch : ℕ) (first : BrokerSt
             ∙ queue_of-with b number next.queue so_far.inside) became.consumer in
             let copies : after.unacked ≡ c.unacked + 1 =
             ap (λ (x : Consumer). x.unacked) became.consumer
-            ∙ ap (λ (found : Option Delivery). (with_next repeats number found (lane_of b number c)).consumer.unacked) is in
+            ∙ ap (λ (o : Option Delivery). (with_next repeats number o (lane_of b number c)).consumer.unacked) is in
             let fewer : prefetch - c.unacked ≡ suc (prefetch - after.unacked) = omega (arith, copies) in
             let many : length new.queues ≡ length b.queues =
             ap (λ (x : BrokerState). length x.queues) became.broker ∙ queues-with b number next.queue in

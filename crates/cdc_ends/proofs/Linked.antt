@@ -80,7 +80,8 @@ all_same (suc n) d =
     (served_same (all_served n d) n (slice_get (all_served n d).consumers n) refl)
 
 -- a queue that grows
-queued_bound : (item : Item) (queues : List QueueState) → map binding_in (map (queued item) queues) ≡ map binding_in queues
+queued_bound : (item : Item) (queues : List QueueState)
+    → map binding_in (map (queued item) queues) ≡ map binding_in queues
 queued_bound item [] = refl
 queued_bound item (q ∷ queues) =
     ap₂ (λ (x : Arguments) (xs : List Arguments). x ∷ xs) (same (item_for q.binding item)) (queued_bound item queues)

@@ -37,7 +37,8 @@ deliveries_in-push sent d =
     filter_map-append (λ (m : ToSubscriber × Unit {0}). delivery_in m.0) sent (as_sent d ∷ [])
 
 -- the last message
-pub deliveries_in-stop : (sent : List (ToSubscriber × Unit {0})) → deliveries_in (sent ++ (Stop, tt) ∷ []) ≡ deliveries_in sent
+pub deliveries_in-stop : (sent : List (ToSubscriber × Unit {0}))
+    → deliveries_in (sent ++ (Stop, tt) ∷ []) ≡ deliveries_in sent
 deliveries_in-stop sent =
     filter_map-append (λ (m : ToSubscriber × Unit {0}). delivery_in m.0) sent ((Stop, tt) ∷ [])
     ∙ append-nil (deliveries_in sent)
@@ -57,7 +58,8 @@ goes_on sent is =
 -- ---- one queue
 
 -- a queue that goes back, or not
-HasHandedOut-back : (b : Bool) (q : QueueState) (out : List Delivery) → HasHandedOut q out → HasHandedOut (back_if b q) out
+HasHandedOut-back : (b : Bool) (q : QueueState) (out : List Delivery) → HasHandedOut q out
+    → HasHandedOut (back_if b q) out
 HasHandedOut-back true q out has = HasHandedOut-rewound q out has
 HasHandedOut-back false q out has = has
 

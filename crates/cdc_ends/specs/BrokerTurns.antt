@@ -99,7 +99,11 @@ goes_back repeats number c d =
 
 -- a subscriber that was sent one more copy
 abbrev pub with_copy : Delivery → Consumer → Consumer
-with_copy d c = record { link = with_sent c.link (as_sent d); unacked = c.unacked + 1; handed = max c.handed d.position }
+with_copy d c = record {
+  link = with_sent c.link (as_sent d);
+  unacked = c.unacked + 1;
+  handed = max c.handed d.position;
+}
 
 abbrev pub back_if : Bool → QueueState → QueueState
 back_if goes q = if goes then rewound_queue q else q

@@ -237,7 +237,8 @@ impl BrokerDesk {
     ) -> Result<(), RunFault>
         requires own { self.old.confirms.number ≡ 1 }
         requires is_one { IsPacket packet }
-        ensures after { IfOk result (λ _. desk_of self.new ≡ with_coming packet (desk_of self.old)) }
+        ensures after { IfOk result (λ _.
+            desk_of self.new ≡ with_coming packet (desk_of self.old)) }
         ensures kind { IfErr result IsTurnFault }
     {
         match packet {

@@ -45,8 +45,8 @@ impl Model for BrokerEnd {
 }
 
 impl BrokerEnd {
-    /// The end of a broker to which nothing has come yet, with a queue for each binding, and a link to the subscriber of
-    /// each queue, by place. An error is want of memory.
+    /// The end of a broker to which nothing has come yet, with a queue for each binding, and a link to the subscriber
+    /// of each queue, by place. An error is want of memory.
     pub fn new(
         alloc: Global,
         system: u64,
@@ -87,9 +87,9 @@ impl BrokerEnd {
     }
 
     /// One turn: the next message is received, and what it says is done; each queue hands out what it may; and once the
-    /// connector is done and each copy is acknowledged, each subscriber is sent its last message. A further turn changes
-    /// nothing. An acknowledgement that isn't due is the fault PeerGone. The first fault stays: it is answered from then
-    /// on.
+    /// connector is done and each copy is acknowledged, each subscriber is sent its last message. A further turn
+    /// changes nothing. `PeerGone`: a message was refused by its link, or an acknowledgement isn't due. `OutOfMemory`:
+    /// a publish wasn't taken, or a delivery not handed out. The first fault stays: it is answered from then on.
     pub fn turn<R: Wait>(&mut self, rt: &R, alloc: Global) -> Result<Turn, RunFault>
         ensures turns { IfOk result (λ turn.
             Turns self.old.desk.finished self.old.desk turn self.new.desk) }
@@ -113,8 +113,8 @@ impl BrokerEnd {
         }
     }
 
-    /// What the end leaves behind: its ends of its links, and the broker; nothing, where it hasn't finished or has met a
-    /// fault.
+    /// What the end leaves behind: its ends of its links, and the broker; nothing, where it hasn't finished or has met
+    /// a fault.
     pub fn into_parts(self) -> Option<BrokerParts>
         ensures some { is_some result ≡ has_finished self }
         ensures parts { IfSome result (λ parts.
@@ -134,8 +134,8 @@ impl BrokerEnd {
     }
 }
 
-/// Does nothing: each clause holds of whatever packets a broker's end receives, by whatever plan. What arrives of them at
-/// its broker is of these packets, all of them where the plan loses no publish; and each packet is answered once.
+/// Does nothing: each clause holds of whatever packets a broker's end receives, by whatever plan. What arrives of them
+/// at its broker is of these packets, all of them where the plan loses no publish; and each packet is answered once.
 pub fn broker_end_laws()
     ensures arrived { ArrivedWasReceived }
     ensures unlost { UnlostArrives }

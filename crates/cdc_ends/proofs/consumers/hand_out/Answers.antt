@@ -14,13 +14,13 @@ pub returns-then-not-branch-clause-after : goal.returns-then-not-branch-clause-a
 returns-then-not-branch-clause-after g c =
     let at = c.loop-consumer in
     let isnt : is_some (next_delivery (queue_of at.broker c.args.number)) ≡ false = search rules in
-    hands_none c.args.repeat.now c.args.number c.args.prefetch c.args.broker.now c.args.consumer.now at.broker at.consumer
-    at.invariant c.hand_next.new.broker c.hand_next.new.consumer c.in_ok-hand_next.ensures.becomes isnt
+    hands_none c.args.repeat.now c.args.number c.args.prefetch c.args.broker.now c.args.consumer.now at.broker
+    at.consumer at.invariant c.hand_next.new.broker c.hand_next.new.consumer c.in_ok-hand_next.ensures.becomes isnt
 
 pub loop-consumer-preserved : goal.loop-consumer-preserved
 loop-consumer-preserved g c =
     let at = c.loop-consumer in
     let is : is_some (next_delivery (queue_of at.broker c.args.number)) ≡ true = search rules in
-    hands_more c.args.repeat.now c.args.number c.args.prefetch c.args.broker.now c.args.consumer.now at.broker at.consumer
-    at.invariant c.hand_next.new.broker c.hand_next.new.consumer c.in_ok-hand_next.ensures.becomes is
+    hands_more c.args.repeat.now c.args.number c.args.prefetch c.args.broker.now c.args.consumer.now at.broker
+    at.consumer at.invariant c.hand_next.new.broker c.hand_next.new.consumer c.in_ok-hand_next.ensures.becomes is
     c.loop-consumer-test.true
