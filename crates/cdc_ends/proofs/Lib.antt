@@ -1,7 +1,16 @@
 mod Closing
+mod Answered
+mod Dealing
 mod Equal
+mod Finishing
+mod Hearing
+mod Lanes
+mod Linked
+mod Places
 mod Said
 mod Taking
+mod Serving
+mod Subscribers
 mod Talking
 mod Receipts
 mod Told

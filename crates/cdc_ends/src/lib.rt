@@ -2,7 +2,11 @@
 //! holds if it returns.
 #![tactic(auto)]
 
+mod broker_desks;
+mod broker_ends;
+mod broker_plans;
 mod clients;
+mod consumers;
 mod conversations;
 mod desks;
 pub mod faults;
@@ -15,8 +19,12 @@ mod subscriber_ends;
 pub mod subscriber_parts;
 pub mod turns;
 
+pub use broker_desks::BrokerParts;
+pub use broker_ends::{BrokerEnd, broker_end_laws};
+pub use broker_plans::BrokerPlan;
 pub use clients::ClientEnd;
 pub use desks::LedgerParts;
+pub use consumers::Consumer;
 pub use faults::RunFault;
 pub use ledger_ends::{LedgerEnd, ledger_end_laws};
 pub use orders::order_laws;
