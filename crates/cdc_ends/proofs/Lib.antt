@@ -1,3 +1,10 @@
+mod ConnectorHearing
+mod ConnectorParts
+mod ConnectorRounds
+mod ConnectorSessions
+mod ConnectorSteps
+mod ConnectorTurns
 mod Equal
+mod Offering
 mod Said
 mod Talking

@@ -3,13 +3,18 @@
 #![tactic(auto)]
 
 mod clients;
+mod connector_ends;
 mod conversations;
 pub mod faults;
 mod orders;
+mod publishing;
 mod same;
 #[cfg(test)]
 mod tests;
+mod turns;
 
 pub use clients::ClientEnd;
+pub use connector_ends::ConnectorEnd;
 pub use faults::RunFault;
 pub use orders::order_laws;
+pub use turns::Turn;
