@@ -8,7 +8,7 @@ use Rattle.std.proofs.lemmas.List.Sums.{fold-append}
 use Rattle.std.proofs.lemmas.Option.{none-some, same_Some}
 use Rattle.cdc_ends.specs.ConnectorEnds.{AreUnanswered, IsPublishing, Publishing, SessionStands, confirms_in, connector_of, packets_in, poll_for, start_of}
 use Rattle.cdc_ends.specs.ConnectorMoves.{wanted_by}
-use Rattle.cdc_ends.proofs.ConnectorParts.{confirms-more}
+use Rattle.cdc_ends.proofs.ConnectorMessages.{confirms-more}
 use Rattle.cdc_ends.proofs.ConnectorSteps.{kept_of, takes_none}
 use Rattle.cdc_ends.proofs.Offering.{IsReply-read}
 use Rattle.cdc_laws.specs.Connectors.{ConnectorState, KeepsTo}
@@ -68,7 +68,8 @@ reply_of : (old new : Incoming ToConnector (Option Past)) (reply : PollReply) (j
 reply_of old new reply j None follows after = absurd follows.may
 reply_of old new reply zero (Some past) follows after =
     let entry : ℕ × (ToConnector × Option Past) = (0, (to_connector.PollReply reply, Some past)) in
-    let received : new.received ≡ old.received ++ entry ∷ [] = ap (λ (i : Incoming ToConnector (Option Past)). i.received) after in
+    let received : new.received ≡ old.received ++ entry ∷ [] =
+    ap (λ (i : Incoming ToConnector (Option Past)). i.received) after in
     record {
       past = past;
       read = follows.may.1;
@@ -98,7 +99,8 @@ confirm_of old new confirm j (Some past) follows after = absurd follows.may
 confirm_of old new confirm zero None follows after = absurd (omega (arith, follows.may.0))
 confirm_of old new confirm (suc zero) None follows after =
     let entry : ℕ × (ToConnector × Option Past) = (1, (to_connector.Confirm confirm, None)) in
-    let received : new.received ≡ old.received ++ entry ∷ [] = ap (λ (i : Incoming ToConnector (Option Past)). i.received) after in
+    let received : new.received ≡ old.received ++ entry ∷ [] =
+    ap (λ (i : Incoming ToConnector (Option Past)). i.received) after in
     record {
       readings = ap (λ (l : List (ℕ × (ToConnector × Option Past))). readings_of (of_sender 0 l)) received
           ∙ ap (λ (l : ToConnectors). readings_of l) (of_sender-snoc_other 0 entry old.received (λ e. cc));
@@ -263,7 +265,8 @@ module _ (c : Publishing) (course : Course) (is : IsPublishing c (Some course))
 -- ---- a confirm
 
 -- an answer leaves a session its number and what it was offered
-pub number_kept : (course : Course) (session : ℕ) (answer : Answer) → (after_answer course session answer).number ≡ course.number
+pub number_kept : (course : Course) (session : ℕ) (answer : Answer)
+    → (after_answer course session answer).number ≡ course.number
 number_kept course session (Confirmed tag) = go (takes_confirm course session tag)
   where
     go : (b : Bool) → (if b then record course { confirmed = course.confirmed ++ tag ∷ [] } else course).number
@@ -335,7 +338,8 @@ module _ (c : Publishing) (course : Course) (is : IsPublishing c (Some course))
           number = subst (λ n. 0 < n) (sym number) is.runs.number;
           held = is.runs.held ∙ sym number;
           told = λ event there. is.runs.told event
-              (subst (λ (es : List Event). Contains es event) (offered_kept course confirm.session confirm.answer) there);
+              (subst (λ (es : List Event). Contains es event)
+              (offered_kept course confirm.session confirm.answer) there);
         };
         first = is.first;
         poll = λ poll there.

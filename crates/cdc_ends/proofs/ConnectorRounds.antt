@@ -1,8 +1,9 @@
 -- A whole turn of a connector.
-use Rattle.std.proofs.Common.{◌≡◌, ◌==◌, ℕ, ◌+◌, ◌≤◌, Bool, true, false, List, [], inl, inr, refl, sym, ap, ap₂, ◌∙◌, subst, length, arith}
+use Rattle.std.proofs.Common.{◌≡◌, ◌==◌, ℕ, ◌+◌, ◌≤◌, Bool, true, false, true≢false, List, [], inl, inr, refl, sym, ap, ap₂, ◌∙◌, subst, length, map, ◌++◌, arith}
 use Rattle.std.specs.Prelude.{◌&&◌, Option, Some, None, is_some, if◌then◌else◌}
+use Rattle.std.proofs.lemmas.Bool.{and_parts, eqb-true}
 use Rattle.std.proofs.lemmas.Option.{none-some}
-use Rattle.cdc_ends.specs.ConnectorEnds.{HasFollowed, HasSent, IsAtRest, IsConnectorEnd, IsOfSame, IsPublishing, IsTurnIf, IsWorkingTurn, Publishing, RisesBy, SessionStands, broken_by, confirms_in, ended_by, first_work, packets_in, planned_up_to, poll_for, start_of}
+use Rattle.cdc_ends.specs.ConnectorEnds.{FinishedConnectorsAreDone, HasFollowed, HasSent, IsAtRest, IsConnectorEnd, IsDone, IsOfSame, IsPublishing, IsTurnIf, IsWorkingTurn, Publishing, RisesBy, SessionStands, broken_by, confirms_in, ended_by, finish_if, first_work, packets_in, planned_up_to, poll_for, polls_in, start_of}
 use Rattle.cdc_ends.specs.ConnectorMoves.{IsAdvanced, IsAnswerTaken, IsBegun, IsBegunOrReceived, IsBrokenOff, IsConfirmTaken, IsFollowed, IsHeard, IsReplyTaken, IsSending}
 use Rattle.cdc_ends.proofs.ConnectorHearing.{IsPublishing-answered, IsPublishing-offered, IsPublishing-saved, IsPublishing-unused, confirm_came, number_kept, reply_came}
 use Rattle.cdc_ends.proofs.ConnectorSteps.{GoesOn-begun, IsPublishing-begun, finished-begun}
@@ -19,9 +20,11 @@ use Rattle.cdc_publisher.specs.Courses.{Course, after_answer, confirmed_timestam
 use Rattle.cdc_publisher.specs.Kept.{Kept}
 use Rattle.cdc_traffic.specs.Following.{FollowsToConnector}
 use Rattle.cdc_traffic.specs.declared.messages.ToBroker.{ToBroker}
+use Rattle.cdc_traffic.specs.declared.messages.ToBroker.TheVariants as to_broker
 use Rattle.cdc_traffic.specs.declared.messages.ToConnector.{ToConnector}
 use Rattle.cdc_traffic.specs.declared.messages.ToConnector.TheVariants as to_connector
 use Rattle.cdc_traffic.specs.declared.messages.ToLedger.{ToLedger}
+use Rattle.cdc_traffic.specs.declared.messages.ToLedger.TheVariants as to_ledger
 use Rattle.cdc_traffic.specs.declared.pasts.Past.{Past}
 use Rattle.cdc_traffic.specs.declared.polls.PollReply.{PollReply}
 use Rattle.cdc_types.specs.declared.bounds.TheConstants.Limits.{WINDOW_TODAY}
@@ -392,7 +395,8 @@ begins inbox polls packets held honest window restarts fresh two to_ledger asked
             (subst (λ (l : List (ToBroker × Unit {0})). HasSent [] l 0 false) (sym published)
             (record { asked = refl; sent = refl; counted = refl }));
         answers = record {
-          exact = ap (λ (cs : List Confirm). 0 + length cs) no_confirms ∙ sym (ap (λ (ps : List Packet). length ps) no_packets);
+          exact = ap (λ (cs : List Confirm). 0 + length cs) no_confirms
+              ∙ sym (ap (λ (ps : List Packet). length ps) no_packets);
           room = zero_first (window + 1);
         };
         stands = tt;
@@ -414,3 +418,25 @@ begins inbox polls packets held honest window restarts fresh two to_ledger asked
   where
     zero_first : (n : ℕ) → 0 ≤ n
     zero_first n = omega arith
+
+-- ---- it is done
+
+-- a connector that has finished isn't silent, so its session runs
+pub finished_done : FinishedConnectorsAreDone
+finished_done c end finished = go end.course end.publishing end.rest
+  where
+    go : (course : Option Course) → IsPublishing c course → IsAtRest c course → IsDone c
+    go None is rest = absurd (true≢false (sym finished ∙ rest.working))
+    go (Some course) is rest =
+        let both = and_parts (is_done course) (c.unanswered == 0) (sym rest.finished ∙ finished) in
+        let none : c.unanswered ≡ 0 = eqb-true c.unanswered 0 both.1 in
+        record {
+          course = course;
+          done = both.0;
+          answered = omega (arith, none, is.answers.exact);
+          asked = is.said.asked ∙ ap (λ b. map to_ledger.Poll (polls_in c.polls.sent) ++ finish_if to_ledger.Finish b)
+              finished;
+          sent = is.said.sent
+              ∙ ap (λ b. map to_broker.Packet (packets_in c.packets.sent) ++ finish_if to_broker.Finish b) finished;
+          keeps = is.keeps;
+        }

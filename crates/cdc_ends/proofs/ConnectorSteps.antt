@@ -8,7 +8,7 @@ use Rattle.std.proofs.lemmas.Option.{cond_some, none-some}
 use Rattle.std.proofs.Math.Bool.{and-false}
 use Rattle.cdc_ends.specs.ConnectorEnds.{AreUnanswered, HasSent, IsPublishing, Publishing, SessionStands, confirms_in, connector_of, packets_in, poll_for, start_of}
 use Rattle.cdc_ends.specs.ConnectorMoves.{GoesOn, IsBegun, finished_if, publish_count, with_poll}
-use Rattle.cdc_ends.proofs.ConnectorParts.{HasSent-finished, HasSent-packet, HasSent-poll, IsPacket-next, packets-finished, packets-more, to_broker_goes_on, to_ledger_goes_on}
+use Rattle.cdc_ends.proofs.ConnectorMessages.{HasSent-finished, HasSent-packet, HasSent-poll, IsPacket-next, packets-finished, packets-more, to_broker_goes_on, to_ledger_goes_on}
 use Rattle.cdc_laws.specs.Connectors.{ConnectorState, KeepsTo}
 use Rattle.cdc_laws.proofs.Connectors.{KeepsTo-sent, KeepsTo-start, begun_parts}
 use Rattle.cdc_laws.proofs.Places.{none_there}
@@ -134,7 +134,8 @@ module _ (kept : Kept) (wanted : Wanted) (wants : poll_of kept ≡ Some wanted) 
       ]
 
   -- so no confirm counts
-  pub takes_none : (course : Course) (session tag : ℕ) → StandsFor kept course → takes_confirm course session tag ≡ false
+  pub takes_none : (course : Course) (session tag : ℕ) → StandsFor kept course
+      → takes_confirm course session tag ≡ false
   takes_none course session tag stands =
       sym (takes_is kept course session tag stands)
       ∙ ap (λ w. (session == kept.number) && is_waiting w tag) (none_so kept.unconfirmed wanting.1)
@@ -161,9 +162,10 @@ poll_kept course o asked poll packet stands sends wants =
     }) (wants_at course n)) same
     ∙ wants
   where
-    asked_for : (o : Option Wanted)
-        → option_map (λ (w : Wanted). record { session = course.number; number = asked; after = w.after; limit = w.limit }) o
-        ≡ Some poll → (w : Wanted) × (o ≡ Some w)
+    as_poll : Wanted → Poll
+    as_poll w = record { session = course.number; number = asked; after = w.after; limit = w.limit }
+
+    asked_for : (o : Option Wanted) → option_map as_poll o ≡ Some poll → (w : Wanted) × (o ≡ Some w)
     asked_for None is = absurd (none-some poll is)
     asked_for (Some w) is = (w, refl)
 

@@ -1,5 +1,5 @@
 mod ConnectorHearing
-mod ConnectorParts
+mod ConnectorMessages
 mod ConnectorRounds
 mod ConnectorSessions
 mod ConnectorSteps

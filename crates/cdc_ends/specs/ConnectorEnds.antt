@@ -1,5 +1,5 @@
 -- What a connector's end has sent to the ledger and to the broker, and what it has received of them.
-use Rattle.std.specs.Prelude.{◌≡◌, ◌==◌, ◌⊎◌, ℕ, zero, suc, ◌+◌, ◌<◌, ◌≤◌, ◌&&◌, Bool, true, false, Option, Some, None, List, [], ◌∷◌, ◌++◌, Contains, length, map, unwrap_or, if◌then◌else◌}
+use Rattle.std.specs.Prelude.{◌≡◌, ◌==◌, ◌⊎◌, ℕ, zero, suc, ◌+◌, ◌<◌, ◌≤◌, ◌&&◌, Bool, is_none, true, false, Option, Some, None, List, [], ◌∷◌, ◌++◌, Contains, length, map, unwrap_or, if◌then◌else◌}
 use Rattle.std.specs.List.{filter, filter_map, list_any}
 use Rattle.std.specs.Option.{option_map}
 use Rattle.cdc_ends.specs.declared.faults.RunFault.{RunFault}
@@ -34,8 +34,8 @@ use Rattle.cdc_types.specs.declared.events.Event.{Event}
 -- what a connector works with: its inbox; its ends of the links to the ledger and to the broker; the timestamp that its
 -- first session began after, once one has; what its store holds, and whether it is honest; what its session keeps, if
 -- one runs; how many polls that one has sent, and the one that is open; how many packets are without an answer, and for
--- how many events a session waits; after which publish packets it restarts, and how many it has sent; and whether it has
--- finished
+-- how many events a session waits; after which publish packets it restarts, and how many it has sent; and whether it
+-- has finished
 pub record Publishing : Type 0 where
   pub inbox : Incoming ToConnector (Option Past)
   pub polls : Outgoing ToLedger (Unit {0})
@@ -209,9 +209,9 @@ pub record IsPublishing (c : Publishing) (course : Option Course) : Type 0 where
   pub keeps : start_of c.first c.held ≡ 0
       → KeepsToReadings (readings_of (of_sender 0 c.inbox.received)) (connector_of c course)
 
--- between two turns nothing is left to send. Before the first one nothing was sent or received; after it a session runs:
+-- between two turns nothing is left to send. Before the first one nothing was sent or received. After it a session runs:
 -- what it wants was asked for; it has no packet to send, or there is no room for one; and the connector has finished
--- just where the end mark of its session was confirmed and every packet has its answer
+-- just where the end mark of its session was confirmed and every packet has its confirm
 pub record HasFollowed (c : Publishing) (course : Course) : Type 0 where
   pub asked : c.poll ≡ poll_for (Some course) c.asked
   pub sent : (next_packet course ≡ None) ⊎ (c.unanswered ≡ c.window + 1)
@@ -235,8 +235,8 @@ pub record IsConnectorEnd (c : Publishing) : Type 0 where
 
 -- ---- a turn
 
--- whichever turn it is, these stay: which links its ends are of, the timestamp that its store held as the run began, its
--- window and its plan of restarts
+-- whichever turn it is, these stay: which links its ends are of, the timestamp that its store held as the run began,
+-- its window and its plan of restarts
 pub record IsOfSame (old new : Publishing) : Type 0 where
   pub polls : new.polls.link ≡ old.polls.link
   pub packets : new.packets.link ≡ old.packets.link
@@ -274,6 +274,38 @@ IsTurn old new = IsTurnIf old.finished old new
 -- what a turn answers
 abbrev pub turn_if : Bool → Turn
 turn_if finished = if finished then Finished else More
+
+-- ---- its end
+
+-- its end has finished, and has met no fault
+abbrev pub has_finished : ConnectorEndState → Bool
+has_finished end = is_none end.fault && end.work.finished
+
+-- what is left of a connector then: its ends of its links, and what its store holds
+pub record ArePartsOf (c : Publishing) (inbox : Incoming ToConnector (Option Past))
+    (polls : Outgoing ToLedger (Unit {0})) (packets : Outgoing ToBroker (Unit {0})) (saved : Option Saved)
+    : Type 0 where
+  pub received : inbox ≡ c.inbox
+  pub asked : polls ≡ c.polls
+  pub sent : packets ≡ c.packets
+  pub holds : saved ≡ c.held
+
+-- a connector that has finished: its last session is done, each of its packets has its confirm, and behind its polls and
+-- its packets stand its last messages; and it keeps to every history of which the replies that it has received are
+-- readings, where its store held the timestamp 0 as the run began
+pub record IsDone (c : Publishing) : Type 0 where
+  pub course : Course
+  pub done : is_done course ≡ true
+  pub answered : length (confirms_in (of_sender 1 c.inbox.received)) ≡ length (packets_in c.packets.sent)
+  pub asked : map (λ m. m.0) c.polls.sent
+      ≡ map to_ledger.Poll (polls_in c.polls.sent) ++ to_ledger.Finish ∷ []
+  pub sent : map (λ m. m.0) c.packets.sent
+      ≡ map to_broker.Packet (packets_in c.packets.sent) ++ to_broker.Finish ∷ []
+  pub keeps : start_of c.first c.held ≡ 0
+      → KeepsToReadings (readings_of (of_sender 0 c.inbox.received)) (connector_of c (Some course))
+
+abbrev pub FinishedConnectorsAreDone : Type 0
+FinishedConnectorsAreDone = (c : Publishing) → IsConnectorEnd c → c.finished ≡ true → IsDone c
 
 -- ---- its first state
 

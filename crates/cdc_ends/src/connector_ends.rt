@@ -1,11 +1,11 @@
 //! A connector's end: it asks the ledger for events, and publishes them to the broker, session after session.
 
-ghost use Rattle.std.specs.Prelude.{◌≡◌, Err, IfErr, IfOk, None, Some, [], true};
-ghost use Rattle.cdc_ends.specs.ConnectorEnds.{IsTurn, first_work, turn_if};
+ghost use Rattle.std.specs.Prelude.{◌≡◌, Err, IfErr, IfOk, IfSome, None, Some, [], is_some, true};
+ghost use Rattle.cdc_ends.specs.ConnectorEnds.{ArePartsOf, FinishedConnectorsAreDone, IsConnectorEnd, IsTurn, first_work, has_finished, turn_if};
 ghost use Rattle.cdc_types.specs.declared.bounds.TheConstants.Limits as limits;
 
 use crate::faults::RunFault;
-use crate::publishing::Publishing;
+use crate::publishing::{ConnectorParts, Publishing};
 use crate::turns::Turn;
 use cdc_links::{LinkIn, LinkOut};
 use cdc_progress::ProgressStore;
@@ -37,8 +37,8 @@ impl<S: ProgressStore> Model for ConnectorEnd<S> {
 
 impl<S: ProgressStore> ConnectorEnd<S> {
     /// The end of a connector that has said nothing yet, over an honest store. A session waits for `window` events at a
-    /// time. The connector restarts after its publish packets of the numbers in `restart_after`, which are counted from 1
-    /// over the whole run: it drops its session and starts the next.
+    /// time. The connector restarts after its publish packets of the numbers in `restart_after`, which are counted from
+    /// 1 over the whole run: it drops its session and starts the next.
     pub fn new(
         system: u64,
         inbox: LinkIn<ToConnector>,
@@ -74,6 +74,7 @@ impl<S: ProgressStore> ConnectorEnd<S> {
     /// connector has finished, a turn changes nothing. The first fault stays: it is answered from then on.
     pub fn turn<R: Wait>(&mut self, rt: &R, alloc: Global) -> Result<Turn, RunFault>
         ensures turns { IfOk result (λ _. IsTurn self.old.work self.new.work) }
+        ensures kept { IfOk result (λ _. IsConnectorEnd self.new.work) }
         ensures answer { IfOk result (λ turn. turn ≡ turn_if self.new.work.finished) }
         ensures rest { IfOk result (λ _. self.new ≡ record self.old { work = self.new.work }) }
         ensures fault { IfErr result (λ fault. self.new.fault ≡ Some fault) }
@@ -91,4 +92,39 @@ impl<S: ProgressStore> ConnectorEnd<S> {
             },
         }
     }
+
+    /// The number of the system that the end is of.
+    pub fn system(&self) -> u64
+        ensures { result ≡ self.now.system }
+    {
+        self.system
+    }
 }
+
+impl<S: ProgressStore + Drop> ConnectorEnd<S> {
+    /// What the end leaves behind: its ends of its links, and its store; nothing, where it hasn't finished or has met a
+    /// fault.
+    pub fn into_parts(self) -> Option<ConnectorParts<S>>
+        ensures some { is_some result ≡ has_finished self }
+        ensures parts { IfSome result (λ parts.
+            ArePartsOf self.work parts.inbox parts.polls parts.packets (S.held parts.store)) }
+        ensures kept { IfSome result (λ _. IsConnectorEnd self.work) }
+    {
+        let Self {
+            system: _,
+            work,
+            fault,
+        } = self;
+        if fault.is_none() && work.is_over() {
+            Some(work.into_parts())
+        } else {
+            None
+        }
+    }
+}
+
+/// Does nothing: the clause holds of whatever a connector's end keeps. Once it has finished, its last session is done,
+/// and each of its packets has its confirm.
+pub fn connector_end_laws()
+    ensures finished { FinishedConnectorsAreDone }
+{}

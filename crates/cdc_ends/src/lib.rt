@@ -14,7 +14,8 @@ mod tests;
 mod turns;
 
 pub use clients::ClientEnd;
-pub use connector_ends::ConnectorEnd;
+pub use connector_ends::{ConnectorEnd, connector_end_laws};
 pub use faults::RunFault;
 pub use orders::order_laws;
+pub use publishing::ConnectorParts;
 pub use turns::Turn;

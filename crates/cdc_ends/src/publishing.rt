@@ -2,7 +2,7 @@
 
 ghost use Rattle.std.specs.Prelude.{◌≡◌, ◌≤◌, ◌==◌, ◌&&◌, ◌↔◌, ◌+◌, IfOk, IfSome, IsTrue, Some, None, [], false, true, not, unwrap_or};
 ghost use Rattle.std.specs.List.{list_any};
-ghost use Rattle.cdc_ends.specs.ConnectorEnds.{IsConnectorEnd, IsPublishing, IsTurn, SessionStands, first_work, turn_if};
+ghost use Rattle.cdc_ends.specs.ConnectorEnds.{ArePartsOf, IsConnectorEnd, IsPublishing, IsTurn, SessionStands, first_work, turn_if};
 ghost use Rattle.cdc_ends.specs.ConnectorMoves.{AreSent, IsAdvanced, IsAnswerTaken, IsBegun, IsConfirmTaken, IsFollowed, IsHeard, IsPacketSent, IsReplyTaken, IsSending, IsSentNext, asked_if, finished_if, publish_count, wanted_by};
 ghost use Rattle.cdc_links.specs.Links.{Takes, with_sent};
 ghost use Rattle.cdc_message.specs.declared.packets.Answer.TheVariants.{Confirmed, Broken};
@@ -63,6 +63,18 @@ impl<S: ProgressStore> Model for Publishing<S> {
       published = c.published;
       finished = c.finished;
     } };
+}
+
+/// What an end that has finished leaves behind.
+pub struct ConnectorParts<S: ProgressStore> {
+    /// Its end of the link to the connector.
+    pub inbox: LinkIn<ToConnector>,
+    /// Its end of the link to the ledger.
+    pub polls: LinkOut<ToLedger>,
+    /// Its end of the link to the broker.
+    pub packets: LinkOut<ToBroker>,
+    /// The store.
+    pub store: S,
 }
 
 // The name of what names nothing.
@@ -193,6 +205,40 @@ impl<S: ProgressStore> Publishing<S> {
             published: 0,
             finished: false,
         }
+    }
+
+    /// Takes the links and the store apart.
+    pub(crate) fn into_parts(self) -> ConnectorParts<S>
+        ensures { ArePartsOf self result.inbox result.polls result.packets (S.held result.store) }
+    {
+        let Self {
+            inbox,
+            polls,
+            packets,
+            store,
+            first: _,
+            session: _,
+            asked: _,
+            poll: _,
+            unanswered: _,
+            window: _,
+            restart_after: _,
+            published: _,
+            finished: _,
+        } = self;
+        ConnectorParts {
+            inbox,
+            polls,
+            packets,
+            store,
+        }
+    }
+
+    /// Whether the connector has finished.
+    pub(crate) fn is_over(&self) -> bool
+        ensures { result ≡ self.now.finished }
+    {
+        self.finished
     }
 
     /// Starts the next session in the place of the one that runs, if one does.
