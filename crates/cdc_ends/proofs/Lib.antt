@@ -7,6 +7,13 @@ mod Hearing
 mod Lanes
 mod Linked
 mod Places
+mod ConnectorHearing
+mod ConnectorMessages
+mod ConnectorRounds
+mod ConnectorSessions
+mod ConnectorSteps
+mod ConnectorTurns
+mod Offering
 mod Said
 mod Taking
 mod Serving

@@ -2,6 +2,10 @@
 use Rattle.std.specs.Prelude.{ℕ, List, codes}
 use Rattle.cdc_ends.specs.declared.faults.RunFault.{RunFault}
 use Rattle.cdc_ends.specs.declared.faults.RunFault.TheVariants.{PeerGone, OutOfMemory, Store, SessionsExhausted, NotOneSystem}
+use Rattle.cdc_progress.specs.declared.errors.StoreError.{StoreError}
+use Rattle.cdc_progress.specs.declared.errors.StoreError.TheVariants as store
+use Rattle.cdc_publisher.specs.declared.errors.StartError.{StartError}
+use Rattle.cdc_publisher.specs.declared.errors.StartError.TheVariants as start
 
 -- the fault's number
 abbrev pub run_fault_number : RunFault → ℕ
@@ -18,3 +22,16 @@ run_fault_name OutOfMemory = codes "out_of_memory"
 run_fault_name (Store why) = codes "store"
 run_fault_name SessionsExhausted = codes "sessions_exhausted"
 run_fault_name NotOneSystem = codes "not_one_system"
+
+-- the fault of an end whose store doesn't do its work
+abbrev pub store_fault : StoreError → RunFault
+store_fault store.ReadFault = Store store.ReadFault
+store_fault store.WriteFault = Store store.WriteFault
+store_fault store.BadRecord = Store store.BadRecord
+store_fault store.OutOfMemory = OutOfMemory
+
+-- the fault of an end whose session doesn't start
+abbrev pub start_fault : StartError → RunFault
+start_fault (start.Store why) = Store why
+start_fault start.SessionsExhausted = SessionsExhausted
+start_fault start.OutOfMemory = OutOfMemory

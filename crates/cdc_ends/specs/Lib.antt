@@ -7,3 +7,5 @@ pub mod Orders
 pub mod SubscriberEnds
 pub mod LedgerEnds
 pub mod LedgerSteps
+pub mod ConnectorEnds
+pub mod ConnectorMoves

@@ -4,6 +4,7 @@ ghost use Rattle.std.specs.Prelude.{◌≡◌};
 ghost use Rattle.cdc_ends.specs.Faults.{run_fault_name, run_fault_number};
 
 use cdc_progress::StoreError;
+use cdc_publisher::StartError;
 use std::alloc::AllocError;
 use thiserror::Error;
 
@@ -63,5 +64,34 @@ impl From<AllocError> for RunFault {
 
     fn from(_error: AllocError) -> RunFault {
         RunFault::OutOfMemory
+    }
+}
+
+impl From<StoreError> for RunFault {
+    ghost use Rattle.std.specs.Prelude.{◌≡◌};
+    ghost use Rattle.cdc_ends.specs.Faults.{store_fault};
+
+    ghost from_gives = { λ error e. e ≡ store_fault error };
+
+    fn from(error: StoreError) -> RunFault {
+        match error {
+            StoreError::OutOfMemory => RunFault::OutOfMemory,
+            _ => RunFault::Store(error),
+        }
+    }
+}
+
+impl From<StartError> for RunFault {
+    ghost use Rattle.std.specs.Prelude.{◌≡◌};
+    ghost use Rattle.cdc_ends.specs.Faults.{start_fault};
+
+    ghost from_gives = { λ error e. e ≡ start_fault error };
+
+    fn from(error: StartError) -> RunFault {
+        match error {
+            StartError::Store(why) => RunFault::Store(why),
+            StartError::SessionsExhausted => RunFault::SessionsExhausted,
+            StartError::OutOfMemory => RunFault::OutOfMemory,
+        }
     }
 }

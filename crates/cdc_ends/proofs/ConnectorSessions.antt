@@ -1,0 +1,50 @@
+-- How a session of a connector starts.
+use Rattle.std.proofs.Common.{◌≡◌, ℕ, Bool, true, Option, Some, None, sym, ap, ◌∙◌, subst}
+use Rattle.std.specs.Prelude.{unwrap_or}
+use Rattle.cdc_ends.specs.ConnectorEnds.{Publishing, SessionStands}
+use Rattle.cdc_ends.specs.ConnectorMoves.{IsBegun}
+use Rattle.cdc_progress.specs.Records.{Saved}
+use Rattle.cdc_publisher.specs.Courses.{Course, begun, new_course}
+use Rattle.cdc_publisher.specs.Kept.{Kept}
+use Rattle.cdc_publisher.specs.Starts.{HasStarted}
+
+-- what is told of what stands within a connector is told of the connector
+pub begun_entry : (inside now new : Publishing) → inside ≡ now → IsBegun inside new → IsBegun now new
+begun_entry inside now new same begun = subst (λ (c : Publishing). IsBegun c new) same begun
+
+-- a session has started over an honest store: the next number is held
+pub begun_so : (old : Publishing) (kept : Kept) (held : Option Saved) (honest : Bool) (base failed failed' : ℕ)
+    → old.honest ≡ true
+    → HasStarted (record {
+      honest = old.honest;
+      before = old.held;
+      after = held;
+      failed_before = failed;
+      failed_after = failed';
+    }) old.window kept
+    → honest ≡ old.honest
+    → ((course : Course) → SessionStands (Some kept) (Some course) → base ≡ unwrap_or old.first course.base)
+    → IsBegun old (record old {
+      first = Some base;
+      held = held;
+      honest = honest;
+      session = Some kept;
+      asked = 0;
+      poll = None;
+    })
+begun_so old kept held honest base failed failed' gives has same is_base =
+    let begins : begun old.held ≡ Some has.saved = ap begun (sym (has.given gives)) ∙ has.begins in
+    let based : base ≡ unwrap_or old.first has.saved.timestamp = is_base (new_course has.saved old.window) has.stands in
+    record {
+      saved = has.saved;
+      begins = begins;
+      stands = has.stands;
+      after = λ i. record old {
+        first = Some (based i);
+        held = has.held i;
+        honest = same i;
+        session = Some kept;
+        asked = 0;
+        poll = None;
+      };
+    }

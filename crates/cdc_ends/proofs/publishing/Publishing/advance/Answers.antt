@@ -1,0 +1,30 @@
+use Rattle.std.proofs.Common.{◌≡◌, false, true, sym, ap, ◌∙◌}
+use Rattle.std.specs.Prelude.{is_some}
+use Rattle.cdc_ends.specs.ConnectorEnds.{Publishing}
+use Rattle.cdc_ends.specs.ConnectorMoves.{IsAdvanced, IsHeard}
+use Rattle.cdc_ends.proofs.ConnectorRounds.{first_so, received_so, running}
+use Rattle.cdc_ends.proofs.ConnectorTurns.{if_ok_then}
+use Rattle.cdc_ends.proofs.publishing.Publishing.advance.Goals as goal
+
+pub hear-requires : goal.hear-requires
+hear-requires g c =
+    let up : is_some c.args.self.now.session ≡ true =
+    ap (λ (w : Publishing). is_some w.session) (sym c.self.view_is) ∙ sym c.is_some.ensures ∙ c.if-is_some.true in
+    running c.args.self.now c.requires.rest c.requires.working up
+
+pub returns-then-is_some : goal.returns-then-is_some
+returns-then-is_some g c =
+    let now = c.args.self.now in
+    let up : is_some now.session ≡ true =
+    ap (λ (w : Publishing). is_some w.session) (sym c.self.view_is) ∙ sym c.is_some.ensures ∙ c.if-is_some.true in
+    let sends = running now c.requires.rest c.requires.working up in
+    if_ok_then c.hear.result (λ moved. IsHeard now sends.course moved c.hear.new.self)
+    (λ moved. IsAdvanced now moved c.hear.new.self)
+    (λ moved is. received_so now c.requires.rest c.requires.working up moved c.hear.new.self is)
+    (c.hear.ensures sends.course sends.publishing)
+
+pub returns : goal.returns
+returns g c =
+    let down : is_some c.args.self.now.session ≡ false =
+    ap (λ (w : Publishing). is_some w.session) (sym c.self.view_is) ∙ sym c.is_some.ensures ∙ c.if-is_some.false in
+    first_so c.args.self.now c.requires.rest c.requires.working c.begin.new.self down c.in_ok-begin.ensures

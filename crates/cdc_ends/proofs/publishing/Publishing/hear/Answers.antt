@@ -1,0 +1,51 @@
+use Rattle.std.proofs.Common.{Some, sym, ap, ◌∙◌, subst, Option}
+use Rattle.cdc_ends.specs.ConnectorEnds.{Publishing, SessionStands}
+use Rattle.cdc_ends.specs.ConnectorMoves.{IsConfirmTaken, IsReplyTaken, wanted_by}
+use Rattle.cdc_links.specs.Links.{Takes}
+use Rattle.cdc_publisher.specs.Kept.{Kept}
+use Rattle.cdc_publisher.specs.Offers.{IsOffered}
+use Rattle.cdc_traffic.specs.Following.{FollowsToConnector}
+use Rattle.cdc_traffic.specs.declared.messages.ToConnector.TheVariants as to_connector
+use Rattle.cdc_ends.proofs.ConnectorHearing.{offered_lawful, reply_came}
+use Rattle.cdc_ends.proofs.ConnectorRounds.{heard_confirm, heard_reply, took}
+use Rattle.cdc_ends.proofs.publishing.Publishing.hear.Goals as goal
+
+pub take_reply-requires : goal.take_reply-requires
+take_reply-requires g c =
+    let now = c.args.self.now in
+    let reply = c.in-PollReply.reply in
+    let takes : Takes FollowsToConnector now.inbox (to_connector.PollReply reply) c.receive.new.inbox =
+    took c.self.inside.inbox now.inbox c.receive.new.inbox c.in_ok-reply.field-0 (to_connector.PollReply reply)
+    (ap (λ (w : Publishing). w.inbox) c.self.view_is) c.in-PollReply.is c.in_ok-reply.ensures in
+    λ asked.
+    subst (λ (s : Option Kept). IsOffered (wanted_by s) reply.events)
+    (ap (λ (w : Publishing). w.session) (sym c.self.view_is))
+    (offered_lawful now c.requires.course c.requires.publishing c.receive.new.inbox reply
+    (reply_came now.inbox c.receive.new.inbox reply takes)
+    (ap (λ (w : Publishing). w.poll) (sym c.self.view_is) ∙ asked))
+
+pub returns-in-PollReply : goal.returns-in-PollReply
+returns-in-PollReply g c = λ course is.
+    let now = c.args.self.now in
+    let reply = c.in-PollReply.reply in
+    let inbox = c.receive.new.inbox in
+    let takes : Takes FollowsToConnector now.inbox (to_connector.PollReply reply) inbox =
+    took c.self.inside.inbox now.inbox inbox c.in_ok-reply.field-0 (to_connector.PollReply reply)
+    (ap (λ (w : Publishing). w.inbox) c.self.view_is) c.in-PollReply.is c.in_ok-reply.ensures in
+    heard_reply now course is inbox reply takes c.take_reply.result c.take_reply.new.self
+    (subst (λ (w : Publishing). IsReplyTaken w reply c.take_reply.result c.take_reply.new.self)
+    (ap (λ (w : Publishing). record w { inbox = inbox }) c.self.view_is) c.take_reply.ensures)
+
+pub returns-in_ok-take_confirm-in-Confirm : goal.returns-in_ok-take_confirm-in-Confirm
+returns-in_ok-take_confirm-in-Confirm g c = λ course is.
+    let now = c.args.self.now in
+    let confirm = c.in-Confirm.confirm in
+    let inbox = c.receive.new.inbox in
+    let takes : Takes FollowsToConnector now.inbox (to_connector.Confirm confirm) inbox =
+    took c.self.inside.inbox now.inbox inbox c.in_ok-reply.field-0 (to_connector.Confirm confirm)
+    (ap (λ (w : Publishing). w.inbox) c.self.view_is) c.in-Confirm.is c.in_ok-reply.ensures in
+    heard_confirm now course is inbox confirm takes c.take_confirm.new.self
+    (subst (λ (w : Publishing). IsConfirmTaken w course confirm c.take_confirm.new.self)
+    (ap (λ (w : Publishing). record w { inbox = inbox }) c.self.view_is)
+    (c.in_ok-take_confirm-in-Confirm.ensures course
+    (subst (λ (w : Publishing). SessionStands w.session (Some course)) (sym c.self.view_is) is.stands)))

@@ -1,0 +1,24 @@
+use Rattle.std.proofs.Common.{◌≡◌, Some, sym, ap, ◌∙◌, subst}
+use Rattle.cdc_ends.specs.ConnectorEnds.{Publishing}
+use Rattle.cdc_links.specs.Links.{Outgoing}
+use Rattle.cdc_publisher.specs.Courses.{next_packet}
+use Rattle.cdc_publisher.specs.Stands.{StandsFor}
+use Rattle.cdc_traffic.specs.Following.{FollowsToBroker}
+use Rattle.cdc_traffic.specs.declared.messages.ToBroker.{ToBroker}
+use Rattle.cdc_traffic.specs.declared.messages.ToBroker.TheVariants as to_broker
+use Rattle.cdc_ends.proofs.ConnectorSteps.{may_publish, stands_of}
+use Rattle.cdc_ends.proofs.publishing.Publishing.send_packet.Goals as goal
+
+pub publish-requires : goal.publish-requires
+publish-requires g c =
+    let sending = c.requires.sending in
+    let now = c.args.self.now in
+    let stands : StandsFor c.in-Some.session sending.course =
+    stands_of now.session c.in-Some.session sending.course
+    (ap (λ (w : Publishing). w.session) (sym c.self.view_is) ∙ c.in-Some.is) sending.publishing.stands in
+    let next : next_packet sending.course ≡ Some c.in-Some-2.packet =
+    sym (c.in_ok-packet.ensures.packet sending.course stands) ∙ c.in-Some-2.is in
+    subst
+    (λ (p : Outgoing ToBroker (Unit {0})). FollowsToBroker p.number p.sent (to_broker.Packet c.in-Some-2.packet, tt))
+    (ap (λ (w : Publishing). w.packets) (sym c.self.view_is))
+    (may_publish now sending.course sending.publishing sending.working c.in-Some-2.packet next)

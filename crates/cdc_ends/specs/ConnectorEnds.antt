@@ -1,0 +1,330 @@
+-- What a connector's end has sent to the ledger and to the broker, and what it has received of them.
+use Rattle.std.specs.Prelude.{◌≡◌, ◌==◌, ◌⊎◌, ℕ, zero, suc, ◌+◌, ◌<◌, ◌≤◌, ◌&&◌, Bool, is_none, true, false, Option, Some, None, List, [], ◌∷◌, ◌++◌, Contains, length, map, unwrap_or, if◌then◌else◌}
+use Rattle.std.specs.List.{filter, filter_map, list_any}
+use Rattle.std.specs.Option.{option_map}
+use Rattle.cdc_ends.specs.declared.faults.RunFault.{RunFault}
+use Rattle.cdc_ends.specs.declared.turns.Turn.{Turn}
+use Rattle.cdc_ends.specs.declared.turns.Turn.TheVariants.{More, Finished}
+use Rattle.cdc_laws.specs.Connectors.{ConnectorState, held_number, held_timestamp}
+use Rattle.cdc_laws.specs.Readings.{KeepsToReadings}
+use Rattle.cdc_links.specs.Links.{Incoming, Outgoing, Takes, of_sender}
+use Rattle.cdc_message.specs.declared.items.Item.TheVariants.{Event as OfEvent}
+use Rattle.cdc_message.specs.declared.packets.Answer.{Answer}
+use Rattle.cdc_message.specs.declared.packets.Answer.TheVariants.{Connected, Confirmed, Ignored, Broken}
+use Rattle.cdc_message.specs.declared.packets.Confirm.{Confirm}
+use Rattle.cdc_message.specs.declared.packets.Packet.{Packet}
+use Rattle.cdc_message.specs.declared.packets.Packet.TheVariants.{Connect, Publish}
+use Rattle.cdc_progress.specs.Records.{Saved}
+use Rattle.cdc_publisher.specs.Courses.{Course, is_done, next_packet, next_poll}
+use Rattle.cdc_publisher.specs.Kept.{Kept}
+use Rattle.cdc_publisher.specs.Stands.{StandsFor}
+use Rattle.cdc_traffic.specs.Following.{FollowsToConnector, IsTold}
+use Rattle.cdc_traffic.specs.Laws.{readings_of}
+use Rattle.cdc_traffic.specs.declared.messages.ToBroker.{ToBroker}
+use Rattle.cdc_traffic.specs.declared.messages.ToBroker.TheVariants as to_broker
+use Rattle.cdc_traffic.specs.declared.messages.ToConnector.{ToConnector}
+use Rattle.cdc_traffic.specs.declared.messages.ToConnector.TheVariants as to_connector
+use Rattle.cdc_traffic.specs.declared.messages.ToLedger.{ToLedger}
+use Rattle.cdc_traffic.specs.declared.messages.ToLedger.TheVariants as to_ledger
+use Rattle.cdc_traffic.specs.declared.pasts.Past.{Past}
+use Rattle.cdc_traffic.specs.declared.polls.Poll.{Poll}
+use Rattle.cdc_types.specs.declared.bounds.TheConstants.Limits.{WINDOW_TODAY}
+use Rattle.cdc_types.specs.declared.events.Event.{Event}
+
+-- what a connector works with: its inbox; its ends of the links to the ledger and to the broker; the timestamp that its
+-- first session began after, once one has; what its store holds, and whether it is honest; what its session keeps, if
+-- one runs; how many polls that one has sent, and the one that is open; how many packets are without an answer, and for
+-- how many events a session waits; after which publish packets it restarts, and how many it has sent; and whether it
+-- has finished
+pub record Publishing : Type 0 where
+  pub inbox : Incoming ToConnector (Option Past)
+  pub polls : Outgoing ToLedger (Unit {0})
+  pub packets : Outgoing ToBroker (Unit {0})
+  pub first : Option ℕ
+  pub held : Option Saved
+  pub honest : Bool
+  pub session : Option Kept
+  pub asked : ℕ
+  pub poll : Option Poll
+  pub unanswered : ℕ
+  pub window : ℕ
+  pub restarts : List ℕ
+  pub published : ℕ
+  pub finished : Bool
+
+-- a connector's end: the number of the system that it is of, what it works with, and the fault that it met
+pub record ConnectorEndState : Type 0 where
+  pub system : ℕ
+  pub work : Publishing
+  pub fault : Option RunFault
+
+-- ---- what stands in its messages
+
+-- the packets among messages to the broker, in order
+abbrev pub packet_in : ToBroker → Option Packet
+packet_in (to_broker.Packet packet) = Some packet
+packet_in to_broker.Finish = None
+packet_in (to_broker.Ack ack) = None
+
+abbrev pub packets_in : {N : Type 0} → List (ToBroker × N) → List Packet
+packets_in sent = filter_map (λ each. packet_in each.0) sent
+
+-- the polls among messages to the ledger, in order
+abbrev pub poll_in : ToLedger → Option Poll
+poll_in (to_ledger.Request request) = None
+poll_in (to_ledger.Done client) = None
+poll_in (to_ledger.Poll poll) = Some poll
+poll_in to_ledger.Finish = None
+
+abbrev pub polls_in : {N : Type 0} → List (ToLedger × N) → List Poll
+polls_in sent = filter_map (λ each. poll_in each.0) sent
+
+-- the confirms among messages to the connector, in order
+abbrev pub confirm_in : ToConnector → Option Confirm
+confirm_in (to_connector.PollReply reply) = None
+confirm_in (to_connector.Confirm confirm) = Some confirm
+
+abbrev pub confirms_in : {N : Type 0} → List (ToConnector × N) → List Confirm
+confirms_in sent = filter_map (λ each. confirm_in each.0) sent
+
+-- a packet publishes an item
+abbrev pub is_publish : Packet → Bool
+is_publish (Connect session) = false
+is_publish (Publish session tag item) = true
+
+-- the last message, once the connector has finished
+abbrev pub finish_if : {M : Type 0} → M → Bool → List M
+finish_if finish finished = if finished then finish ∷ [] else []
+
+-- ---- its restarts
+
+-- how many of the first so many publish packets the plan names
+abbrev pub planned_up_to : List ℕ → ℕ → ℕ
+planned_up_to plan zero = 0
+planned_up_to plan (suc n) = planned_up_to plan n + (if list_any (λ other. other == suc n) plan then 1 else 0)
+
+-- the number of the session that is held rises by one after each publish packet that the plan names, and by so much
+-- besides
+abbrev pub RisesBy : ℕ → Publishing → Publishing → Type 0
+RisesBy n old new =
+    held_number new.held + planned_up_to old.restarts old.published
+    ≡ held_number old.held + planned_up_to new.restarts new.published + n
+
+-- how many sessions a message ends: one, where it says that a packet of the session that is held was lost
+abbrev pub broken_by : Bool → Answer → ℕ
+broken_by own Broken = if own then 1 else 0
+broken_by own Connected = 0
+broken_by own (Confirmed tag) = 0
+broken_by own Ignored = 0
+
+abbrev pub ended_by : ℕ → ToConnector → ℕ
+ended_by number (to_connector.PollReply reply) = 0
+ended_by number (to_connector.Confirm confirm) = broken_by (confirm.session == number) confirm.answer
+
+-- a message is a reply to another poll than the open one
+abbrev pub IsUnasked : Option Poll → ToConnector → Type 0
+IsUnasked asked (to_connector.PollReply reply) = asked ≡ Some reply.poll → ⊥
+IsUnasked asked (to_connector.Confirm confirm) = ⊥
+
+-- ---- its session
+
+-- the timestamp that the store held as the run began, where this is held now: it is the base of the run's first session
+abbrev pub start_of : Option ℕ → Option Saved → ℕ
+start_of first held = unwrap_or first (held_timestamp held)
+
+-- the base of the first session is known once a session runs, and not before
+abbrev pub IsFirstIn : Option ℕ → Option Course → Type 0
+IsFirstIn first None = first ≡ None
+IsFirstIn first (Some course) = (moment : ℕ) × (first ≡ Some moment)
+
+-- what is kept of a session stands for this course: both are there, or neither
+abbrev pub SessionStands : Option Kept → Option Course → Type 0
+SessionStands None None = Unit {0}
+SessionStands None (Some course) = ⊥
+SessionStands (Some kept) None = ⊥
+SessionStands (Some kept) (Some course) = StandsFor kept course
+
+-- a session has a number from 1 up, which is the one that is held, and each event that it was offered is one of a
+-- history that batches and a close make
+pub record IsRunning (saved : Option Saved) (course : Course) : Type 0 where
+  pub number : 0 < course.number
+  pub held : held_number saved ≡ course.number
+  pub told : (event : Event) → Contains course.offered event → IsTold (OfEvent event)
+
+-- the same of a session that runs, if one does
+abbrev pub IsRunningIn : Option Saved → Option Course → Type 0
+IsRunningIn held None = Unit {0}
+IsRunningIn held (Some course) = IsRunning held course
+
+-- what a session wants, as its poll of this number
+abbrev pub poll_for : Option Course → ℕ → Option Poll
+poll_for None number = None
+poll_for (Some course) number = option_map
+    (λ wanted. record { session = course.number; number = number; after = wanted.after; limit = wanted.limit })
+    (next_poll course)
+
+-- ---- what a connector's end keeps
+
+-- the numbers of its ends and of those who send to it, its window, and that its store is honest
+pub record IsWired (senders to_ledger to_broker window : ℕ) (honest : Bool) : Type 0 where
+  pub two : senders ≡ 2
+  pub polls : to_ledger ≡ 0
+  pub packets : to_broker ≡ 0
+  pub one : window ≡ WINDOW_TODAY
+  pub gives_back : honest ≡ true
+
+-- it has sent polls to the ledger and packets to the broker, so many publish packets among them, and then, once it has
+-- finished, that it is done
+pub record HasSent (polls : List (ToLedger × Unit {0})) (packets : List (ToBroker × Unit {0})) (published : ℕ)
+    (finished : Bool) : Type 0 where
+  pub asked : map (λ m. m.0) polls ≡ map to_ledger.Poll (polls_in polls) ++ finish_if to_ledger.Finish finished
+  pub sent : map (λ m. m.0) packets ≡ map to_broker.Packet (packets_in packets) ++ finish_if to_broker.Finish finished
+  pub counted : published ≡ length (filter is_publish (packets_in packets))
+
+-- of its packets so many have no confirm yet, at most one more than events that a session waits for
+pub record AreUnanswered (sent received unanswered window : ℕ) : Type 0 where
+  pub exact : unanswered + received ≡ sent
+  pub room : unanswered ≤ window + 1
+
+-- the connector that it stands for, where its session is of this course
+abbrev pub connector_of : Publishing → Option Course → ConnectorState
+connector_of c course = record {
+  held = c.held;
+  session = course;
+  sent = packets_in c.packets.sent;
+  confirms = confirms_in (of_sender 1 c.inbox.received);
+}
+
+-- at each moment: where its store held the timestamp 0 as the run began, it keeps to every history of which the replies
+-- to polls that it has received are readings; and an open poll is the latest of its session, for what that wants
+pub record IsPublishing (c : Publishing) (course : Option Course) : Type 0 where
+  pub wired : IsWired c.inbox.senders c.polls.number c.packets.number c.window c.honest
+  pub said : HasSent c.polls.sent c.packets.sent c.published c.finished
+  pub answers : AreUnanswered (length (packets_in c.packets.sent))
+      (length (confirms_in (of_sender 1 c.inbox.received))) c.unanswered c.window
+  pub stands : SessionStands c.session course
+  pub runs : IsRunningIn c.held course
+  pub first : IsFirstIn c.first course
+  pub poll : (poll : Poll) → c.poll ≡ Some poll → poll_for course c.asked ≡ Some poll
+  pub keeps : start_of c.first c.held ≡ 0
+      → KeepsToReadings (readings_of (of_sender 0 c.inbox.received)) (connector_of c course)
+
+-- between two turns nothing is left to send. Before the first one nothing was sent or received. After it a session runs:
+-- what it wants was asked for; it has no packet to send, or there is no room for one; and the connector has finished
+-- just where the end mark of its session was confirmed and every packet has its confirm
+pub record HasFollowed (c : Publishing) (course : Course) : Type 0 where
+  pub asked : c.poll ≡ poll_for (Some course) c.asked
+  pub sent : (next_packet course ≡ None) ⊎ (c.unanswered ≡ c.window + 1)
+  pub finished : c.finished ≡ (is_done course && (c.unanswered == 0))
+
+pub record IsSilent (c : Publishing) : Type 0 where
+  pub received : c.inbox.received ≡ []
+  pub polls : c.polls.sent ≡ []
+  pub packets : c.packets.sent ≡ []
+  pub working : c.finished ≡ false
+
+abbrev pub IsAtRest : Publishing → Option Course → Type 0
+IsAtRest c None = IsSilent c
+IsAtRest c (Some course) = HasFollowed c course
+
+-- so between two turns, for some course of its session
+pub record IsConnectorEnd (c : Publishing) : Type 0 where
+  pub course : Option Course
+  pub publishing : IsPublishing c course
+  pub rest : IsAtRest c course
+
+-- ---- a turn
+
+-- whichever turn it is, these stay: which links its ends are of, the timestamp that its store held as the run began,
+-- its window and its plan of restarts
+pub record IsOfSame (old new : Publishing) : Type 0 where
+  pub polls : new.polls.link ≡ old.polls.link
+  pub packets : new.packets.link ≡ old.packets.link
+  pub start : start_of new.first new.held ≡ start_of old.first old.held
+  pub window : new.window ≡ old.window
+  pub restarts : new.restarts ≡ old.restarts
+
+-- the first turn receives nothing, and begins one session besides those that the plan has
+pub record IsFirstTurn (old new : Publishing) : Type 0 where
+  pub inbox : new.inbox ≡ old.inbox
+  pub sessions : RisesBy 1 old new
+  pub same : IsOfSame old new
+
+-- a later one receives a message. It begins a session besides those that the plan has where the message says that a
+-- packet of the session that is held was lost; and a reply to another poll than the open one changes nothing else
+pub record IsLaterTurn (old new : Publishing) : Type 0 where
+  pub message : ToConnector
+  pub takes : Takes FollowsToConnector old.inbox message new.inbox
+  pub sessions : RisesBy (ended_by (held_number old.held) message) old new
+  pub unasked : IsUnasked old.poll message → new ≡ record old { inbox = new.inbox }
+  pub same : IsOfSame old new
+
+-- once it has finished nothing changes; a turn in which no session runs is the first
+abbrev pub IsWorkingTurn : Option Kept → Publishing → Publishing → Type 0
+IsWorkingTurn None old new = IsFirstTurn old new
+IsWorkingTurn (Some kept) old new = IsLaterTurn old new
+
+abbrev pub IsTurnIf : Bool → Publishing → Publishing → Type 0
+IsTurnIf true old new = new ≡ old
+IsTurnIf false old new = IsWorkingTurn old.session old new
+
+abbrev pub IsTurn : Publishing → Publishing → Type 0
+IsTurn old new = IsTurnIf old.finished old new
+
+-- what a turn answers
+abbrev pub turn_if : Bool → Turn
+turn_if finished = if finished then Finished else More
+
+-- ---- its end
+
+-- its end has finished, and has met no fault
+abbrev pub has_finished : ConnectorEndState → Bool
+has_finished end = is_none end.fault && end.work.finished
+
+-- what is left of a connector then: its ends of its links, and what its store holds
+pub record ArePartsOf (c : Publishing) (inbox : Incoming ToConnector (Option Past))
+    (polls : Outgoing ToLedger (Unit {0})) (packets : Outgoing ToBroker (Unit {0})) (saved : Option Saved)
+    : Type 0 where
+  pub received : inbox ≡ c.inbox
+  pub asked : polls ≡ c.polls
+  pub sent : packets ≡ c.packets
+  pub holds : saved ≡ c.held
+
+-- a connector that has finished: its last session is done, each of its packets has its confirm, and behind its polls and
+-- its packets stand its last messages; and it keeps to every history of which the replies that it has received are
+-- readings, where its store held the timestamp 0 as the run began
+pub record IsDone (c : Publishing) : Type 0 where
+  pub course : Course
+  pub done : is_done course ≡ true
+  pub answered : length (confirms_in (of_sender 1 c.inbox.received)) ≡ length (packets_in c.packets.sent)
+  pub asked : map (λ m. m.0) c.polls.sent
+      ≡ map to_ledger.Poll (polls_in c.polls.sent) ++ to_ledger.Finish ∷ []
+  pub sent : map (λ m. m.0) c.packets.sent
+      ≡ map to_broker.Packet (packets_in c.packets.sent) ++ to_broker.Finish ∷ []
+  pub keeps : start_of c.first c.held ≡ 0
+      → KeepsToReadings (readings_of (of_sender 0 c.inbox.received)) (connector_of c (Some course))
+
+abbrev pub FinishedConnectorsAreDone : Type 0
+FinishedConnectorsAreDone = (c : Publishing) → IsConnectorEnd c → c.finished ≡ true → IsDone c
+
+-- ---- its first state
+
+-- nothing was said yet, over a store that holds this
+abbrev pub first_work : Incoming ToConnector (Option Past) → Outgoing ToLedger (Unit {0})
+    → Outgoing ToBroker (Unit {0}) → Option Saved → Bool → ℕ → List ℕ → Publishing
+first_work inbox polls packets held honest window restarts = record {
+  inbox = inbox;
+  polls = polls;
+  packets = packets;
+  first = None;
+  held = held;
+  honest = honest;
+  session = None;
+  asked = 0;
+  poll = None;
+  unanswered = 0;
+  window = window;
+  restarts = restarts;
+  published = 0;
+  finished = false;
+}

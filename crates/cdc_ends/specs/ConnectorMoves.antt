@@ -1,0 +1,193 @@
+-- What the parts of a connector's turn do. Private contracts and proofs alone cite this file.
+use Rattle.std.specs.Prelude.{◌≡◌, ◌==◌, ◌⊎◌, ℕ, ◌+◌, Bool, true, false, Option, Some, None, cond, unwrap_or, if◌then◌else◌}
+use Rattle.cdc_ends.specs.ConnectorEnds.{HasFollowed, IsFirstTurn, IsOfSame, IsPublishing, IsUnasked, Publishing, RisesBy, SessionStands, ended_by, is_publish, poll_for, start_of}
+use Rattle.cdc_laws.specs.Connectors.{held_number}
+use Rattle.cdc_links.specs.Links.{Takes, with_sent as with_message}
+use Rattle.cdc_message.specs.declared.packets.Answer.{Answer}
+use Rattle.cdc_message.specs.declared.packets.Answer.TheVariants.{Connected, Confirmed, Ignored, Broken}
+use Rattle.cdc_message.specs.declared.packets.Confirm.{Confirm}
+use Rattle.cdc_message.specs.declared.packets.Packet.{Packet}
+use Rattle.cdc_progress.specs.Records.{Saved}
+use Rattle.cdc_publisher.specs.Courses.{Course, after_answer, begun, confirmed_timestamp, new_course, next_packet, progress_of, with_offer, with_sent}
+use Rattle.cdc_publisher.specs.Kept.{Kept}
+use Rattle.cdc_publisher.specs.Kept.{poll_of}
+use Rattle.cdc_publisher.specs.declared.session.Poll.{Poll as Wanted}
+use Rattle.cdc_traffic.specs.Following.{FollowsToConnector}
+use Rattle.cdc_traffic.specs.declared.messages.ToBroker.TheVariants as to_broker
+use Rattle.cdc_traffic.specs.declared.messages.ToConnector.{ToConnector}
+use Rattle.cdc_traffic.specs.declared.messages.ToLedger.TheVariants as to_ledger
+use Rattle.cdc_traffic.specs.declared.polls.Poll.{Poll}
+use Rattle.cdc_traffic.specs.declared.polls.PollReply.{PollReply}
+
+-- a session runs, for some course, and the connector hasn't finished
+pub record IsSending (c : Publishing) : Type 0 where
+  pub course : Course
+  pub publishing : IsPublishing c (Some course)
+  pub working : c.finished ≡ false
+
+-- nothing but its session, its store and what it has sent is another one
+pub record GoesOn (old new : Publishing) : Type 0 where
+  pub inbox : new.inbox ≡ old.inbox
+  pub polls : new.polls.link ≡ old.polls.link
+  pub packets : new.packets.link ≡ old.packets.link
+  pub start : start_of new.first new.held ≡ start_of old.first old.held
+  pub window : new.window ≡ old.window
+  pub restarts : new.restarts ≡ old.restarts
+
+-- the next session has started, under a number that is held now
+pub record IsBegun (old new : Publishing) : Type 0 where
+  pub saved : Saved
+  pub begins : begun old.held ≡ Some saved
+  pub stands : SessionStands new.session (Some (new_course saved old.window))
+  pub after : new ≡ record old {
+    first = Some (unwrap_or old.first saved.timestamp);
+    held = Some saved;
+    session = new.session;
+    asked = 0;
+    poll = None;
+  }
+
+-- ---- what is sent
+
+-- how many publish packets this one is
+abbrev pub publish_count : Packet → ℕ
+publish_count packet = cond (is_publish packet) 1 0
+
+-- a session has sent its next packet, if there is one
+abbrev pub IsPacketSent : Publishing → Course → Option Packet → Bool → Publishing → Type 0
+IsPacketSent old course None sent new =
+    (sent ≡ false) × SessionStands new.session (Some course) × (new ≡ record old { session = new.session })
+IsPacketSent old course (Some packet) sent new =
+    (sent ≡ true)
+    × SessionStands new.session (Some (with_sent (Some packet) course))
+    × (new ≡ record old {
+      session = new.session;
+      packets = with_message old.packets (to_broker.Packet packet, tt);
+      unanswered = old.unanswered + 1;
+      published = old.published + publish_count packet;
+    })
+
+-- a packet was sent, if there was one, and the connector has restarted where it is to
+pub record IsSentNext (old : Publishing) (sent : Bool) (new : Publishing) : Type 0 where
+  pub sends : IsSending new
+  pub none : sent ≡ false → next_packet sends.course ≡ None
+  pub one : sent ≡ true → new.unanswered ≡ old.unanswered + 1
+  pub goes_on : GoesOn old new
+  pub sessions : RisesBy 0 old new
+
+-- packets were sent as long as there was one, and room for it
+pub record AreSent (old new : Publishing) : Type 0 where
+  pub sends : IsSending new
+  pub all : (next_packet sends.course ≡ None) ⊎ (new.unanswered ≡ new.window + 1)
+  pub goes_on : GoesOn old new
+  pub sessions : RisesBy 0 old new
+
+-- with this poll more, which is open then
+abbrev pub with_poll : Option Poll → Publishing → Publishing
+with_poll None c = c
+with_poll (Some poll) c = record c {
+  polls = with_message c.polls (to_ledger.Poll poll, tt);
+  asked = c.asked + 1;
+  poll = Some poll;
+}
+
+-- with the poll for what its session of this course wants, where none is open
+abbrev pub asked_if : Option Poll → Course → Publishing → Publishing
+asked_if (Some poll) course c = c
+asked_if None course c = with_poll (poll_for (Some course) (c.asked + 1)) c
+
+-- finished, where it is so
+abbrev pub finished_if : Bool → Publishing → Publishing
+finished_if done c =
+    if done then record c {
+      polls = with_message c.polls (to_ledger.Finish, tt);
+      packets = with_message c.packets (to_broker.Finish, tt);
+      finished = true;
+    } else c
+
+-- all that follows was sent
+pub record IsFollowed (old new : Publishing) : Type 0 where
+  pub course : Course
+  pub publishing : IsPublishing new (Some course)
+  pub followed : HasFollowed new course
+  pub goes_on : GoesOn old new
+  pub sessions : RisesBy 0 old new
+
+-- ---- what is received
+
+-- the events that a session wants, if one runs
+abbrev pub wanted_by : Option Kept → Option Wanted
+wanted_by None = None
+wanted_by (Some kept) = poll_of kept
+
+-- a reply to the open poll was offered to the session, or it is to another one, and nothing has changed
+abbrev pub IsReplyTaken : Publishing → PollReply → Bool → Publishing → Type 0
+IsReplyTaken old reply true new =
+    (old.poll ≡ Some reply.poll)
+    × ((course : Course) → SessionStands old.session (Some course)
+    → SessionStands new.session (Some (with_offer reply.events reply.complete course)))
+    × (new ≡ record old { session = new.session; poll = None })
+IsReplyTaken old reply false new = (old.poll ≡ Some reply.poll → ⊥) × (new ≡ old)
+
+-- what is held after a confirm: how far the session has come then, where that is another moment than before
+abbrev pub held_after : Option Saved → Course → Course → Option Saved
+held_after held before after =
+    if confirmed_timestamp after == confirmed_timestamp before then held else Some (progress_of after)
+
+-- the next session has started, where the packet was the session's that runs
+abbrev pub IsBrokenOff : Bool → Publishing → Publishing → Type 0
+IsBrokenOff true old new = IsBegun old new
+IsBrokenOff false old new = new ≡ old
+
+-- a session takes the broker's answer to a packet of the session of this number
+abbrev pub IsAnswerTaken : Publishing → Course → ℕ → Answer → Publishing → Type 0
+IsAnswerTaken old course session (Confirmed tag) new =
+    SessionStands new.session (Some (after_answer course session (Confirmed tag)))
+    × (new ≡ record old {
+      held = held_after old.held course (after_answer course session (Confirmed tag));
+      session = new.session;
+    })
+IsAnswerTaken old course session Connected new = new ≡ old
+IsAnswerTaken old course session Ignored new = new ≡ old
+IsAnswerTaken old course session Broken new =
+    IsBrokenOff (session == course.number) old new
+
+-- a confirm was taken: one packet fewer is without an answer, and the session takes it
+pub record IsConfirmTaken (old : Publishing) (course : Course) (confirm : Confirm) (new : Publishing) : Type 0 where
+  pub unanswered : ℕ
+  pub less : old.unanswered ≡ unanswered + 1
+  pub taken : IsAnswerTaken (record old { unanswered = unanswered }) course confirm.session confirm.answer new
+
+-- a message was received and taken; where nothing came of it nothing else has changed
+pub record IsHeard (old : Publishing) (course : Course) (moved : Bool) (new : Publishing) : Type 0 where
+  pub message : ToConnector
+  pub takes : Takes FollowsToConnector old.inbox message new.inbox
+  pub next : Course
+  pub publishing : IsPublishing new (Some next)
+  pub working : new.finished ≡ old.finished
+  pub sessions : RisesBy (ended_by (held_number old.held) message) old new
+  pub same : IsOfSame old new
+  pub unasked : IsUnasked old.poll message → moved ≡ false
+  pub still : moved ≡ false → (next ≡ course) × (new ≡ record old { inbox = new.inbox })
+
+-- of a turn that goes on from a session, before anything follows: a message was received
+pub record IsReceived (old : Publishing) (moved : Bool) (new : Publishing) : Type 0 where
+  pub message : ToConnector
+  pub takes : Takes FollowsToConnector old.inbox message new.inbox
+  pub sessions : RisesBy (ended_by (held_number old.held) message) old new
+  pub same : IsOfSame old new
+  pub unasked : IsUnasked old.poll message → moved ≡ false
+  pub still : moved ≡ false → new ≡ record old { inbox = new.inbox }
+
+-- the first session has begun, or a message was received
+abbrev pub IsBegunOrReceived : Option Kept → Publishing → Bool → Publishing → Type 0
+IsBegunOrReceived None old moved new = IsFirstTurn old new
+IsBegunOrReceived (Some kept) old moved new = IsReceived old moved new
+
+-- so a session runs, and where nothing may follow everything is as it was between two turns
+pub record IsAdvanced (old : Publishing) (moved : Bool) (new : Publishing) : Type 0 where
+  pub next : Course
+  pub publishing : IsPublishing new (Some next)
+  pub working : new.finished ≡ false
+  pub moves : IsBegunOrReceived old.session old moved new
+  pub still : moved ≡ false → HasFollowed new next

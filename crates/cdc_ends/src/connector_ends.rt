@@ -1,0 +1,130 @@
+//! A connector's end: it asks the ledger for events, and publishes them to the broker, session after session.
+
+ghost use Rattle.std.specs.Prelude.{◌≡◌, Err, IfErr, IfOk, IfSome, None, Some, [], is_some, true};
+ghost use Rattle.cdc_ends.specs.ConnectorEnds.{ArePartsOf, FinishedConnectorsAreDone, IsConnectorEnd, IsTurn, first_work, has_finished, turn_if};
+ghost use Rattle.cdc_types.specs.declared.bounds.TheConstants.Limits as limits;
+
+use crate::faults::RunFault;
+use crate::publishing::{ConnectorParts, Publishing};
+use crate::turns::Turn;
+use cdc_links::{LinkIn, LinkOut};
+use cdc_progress::ProgressStore;
+use cdc_traffic::{ToBroker, ToConnector, ToLedger};
+use std::alloc::Global;
+use std::marker::Model;
+use std::sync::Wait;
+
+/// A connector's end of a run. A clause sees the number of the system that it is of; what it works with (what it has
+/// sent to the ledger and to the broker, and received of them, what its store holds, and what its session keeps); and
+/// the fault that it met, if it did.
+#[derive(Drop)]
+pub struct ConnectorEnd<S: ProgressStore> {
+    system: u64,
+    work: Publishing<S>,
+    fault: Option<RunFault>,
+}
+
+impl<S: ProgressStore> Model for ConnectorEnd<S> {
+    ghost use Rattle.std.specs.Prelude.{◌≡◌, None};
+    ghost use Rattle.cdc_ends.specs.ConnectorEnds.{ConnectorEndState, IsConnectorEnd};
+
+    ghost Value = { ConnectorEndState };
+
+    ghost view = { λ end. record { system = end.system; work = end.work; fault = end.fault } };
+
+    ghost invariant = { λ end. end.fault ≡ None → IsConnectorEnd end.work };
+}
+
+impl<S: ProgressStore> ConnectorEnd<S> {
+    /// The end of a connector that has said nothing yet, over an honest store. A session waits for `window` events at a
+    /// time. The connector restarts after its publish packets of the numbers in `restart_after`, which are counted from
+    /// 1 over the whole run: it drops its session and starts the next.
+    pub fn new(
+        system: u64,
+        inbox: LinkIn<ToConnector>,
+        polls: LinkOut<ToLedger>,
+        packets: LinkOut<ToBroker>,
+        store: S,
+        window: usize,
+        restart_after: Vec<u64>,
+    ) -> ConnectorEnd<S>
+        requires fresh { inbox.received ≡ [] }
+        requires two { inbox.senders ≡ 2 }
+        requires to_ledger { polls.number ≡ 0 }
+        requires asked { polls.sent ≡ [] }
+        requires to_broker { packets.number ≡ 0 }
+        requires published { packets.sent ≡ [] }
+        requires honest { S.is_honest store ≡ true }
+        requires window { window ≡ limits.WINDOW_TODAY }
+        ensures { result ≡ record {
+          system = system;
+          work = first_work inbox polls packets (S.held store) (S.is_honest store) window
+              restart_after.items;
+          fault = None;
+        } }
+    {
+        ConnectorEnd {
+            system,
+            work: Publishing::new(inbox, polls, packets, store, window, restart_after),
+            fault: None,
+        }
+    }
+
+    /// One turn: the first starts a session, each later one receives a message, and all that follows is sent. Once the
+    /// connector has finished, a turn changes nothing. The first fault stays: it is answered from then on.
+    pub fn turn<R: Wait>(&mut self, rt: &R, alloc: Global) -> Result<Turn, RunFault>
+        ensures turns { IfOk result (λ _. IsTurn self.old.work self.new.work) }
+        ensures kept { IfOk result (λ _. IsConnectorEnd self.new.work) }
+        ensures answer { IfOk result (λ turn. turn ≡ turn_if self.new.work.finished) }
+        ensures rest { IfOk result (λ _. self.new ≡ record self.old { work = self.new.work }) }
+        ensures fault { IfErr result (λ fault. self.new.fault ≡ Some fault) }
+        ensures again { (fault : RunFault) → self.old.fault ≡ Some fault
+            → (result ≡ Err fault) × (self.new ≡ self.old) }
+    {
+        match self.fault {
+            Some(fault) => Err(fault),
+            None => match self.work.turn(rt, alloc) {
+                Ok(turn) => Ok(turn),
+                Err(fault) => {
+                    self.fault = Some(fault);
+                    Err(fault)
+                }
+            },
+        }
+    }
+
+    /// The number of the system that the end is of.
+    pub fn system(&self) -> u64
+        ensures { result ≡ self.now.system }
+    {
+        self.system
+    }
+}
+
+impl<S: ProgressStore + Drop> ConnectorEnd<S> {
+    /// What the end leaves behind: its ends of its links, and its store; nothing, where it hasn't finished or has met a
+    /// fault.
+    pub fn into_parts(self) -> Option<ConnectorParts<S>>
+        ensures some { is_some result ≡ has_finished self }
+        ensures parts { IfSome result (λ parts.
+            ArePartsOf self.work parts.inbox parts.polls parts.packets (S.held parts.store)) }
+        ensures kept { IfSome result (λ _. IsConnectorEnd self.work) }
+    {
+        let Self {
+            system: _,
+            work,
+            fault,
+        } = self;
+        if fault.is_none() && work.is_over() {
+            Some(work.into_parts())
+        } else {
+            None
+        }
+    }
+}
+
+/// Does nothing: the clause holds of whatever a connector's end keeps. Once it has finished, its last session is done,
+/// and each of its packets has its confirm.
+pub fn connector_end_laws()
+    ensures finished { FinishedConnectorsAreDone }
+{}

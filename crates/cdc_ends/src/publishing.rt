@@ -1,0 +1,474 @@
+//! What a connector works with: its session and its store, what it asks the ledger for, and what it publishes.
+
+ghost use Rattle.std.specs.Prelude.{◌≡◌, ◌≤◌, ◌==◌, ◌&&◌, ◌↔◌, ◌+◌, IfOk, IfSome, IsTrue, Some, None, [], false, true, not, unwrap_or};
+ghost use Rattle.std.specs.List.{list_any};
+ghost use Rattle.cdc_ends.specs.ConnectorEnds.{ArePartsOf, IsConnectorEnd, IsPublishing, IsTurn, SessionStands, first_work, turn_if};
+ghost use Rattle.cdc_ends.specs.ConnectorMoves.{AreSent, IsAdvanced, IsAnswerTaken, IsBegun, IsConfirmTaken, IsFollowed, IsHeard, IsPacketSent, IsReplyTaken, IsSending, IsSentNext, asked_if, finished_if, publish_count, wanted_by};
+ghost use Rattle.cdc_links.specs.Links.{Takes, with_sent};
+ghost use Rattle.cdc_message.specs.declared.packets.Answer.TheVariants.{Confirmed, Broken};
+ghost use Rattle.cdc_publisher.specs.Courses.{Course, is_done, next_packet};
+ghost use Rattle.cdc_publisher.specs.Offers.{IsOffered};
+ghost use Rattle.cdc_traffic.specs.Following.{FollowsToBroker, FollowsToConnector, FollowsToLedger};
+ghost use Rattle.cdc_types.specs.declared.bounds.TheConstants.Limits as limits;
+
+use crate::faults::RunFault;
+use crate::turns::Turn;
+use cdc_links::{LinkIn, LinkOut, Naming};
+use cdc_message::{Answer, Confirm, Packet};
+use cdc_progress::ProgressStore;
+use cdc_publisher::Session;
+use cdc_traffic::{Poll, PollReply, ToBroker, ToConnector, ToLedger};
+use std::alloc::Global;
+use std::marker::Model;
+use std::sync::Wait;
+
+/// A connector's ends of its links, its store, its session, if one runs, with how many polls that has sent and the one
+/// that is open; how many packets are without an answer; after which publish packets it restarts, and how many it has
+/// sent; and whether it has finished.
+#[derive(Drop)]
+pub(crate) struct Publishing<S: ProgressStore> {
+    inbox: LinkIn<ToConnector>,
+    polls: LinkOut<ToLedger>,
+    packets: LinkOut<ToBroker>,
+    store: S,
+    first: Option<u64>,
+    session: Option<Session>,
+    asked: u64,
+    poll: Option<Poll>,
+    unanswered: usize,
+    window: usize,
+    restart_after: Vec<u64>,
+    published: u64,
+    finished: bool,
+}
+
+impl<S: ProgressStore> Model for Publishing<S> {
+    ghost use Rattle.cdc_ends.specs.ConnectorEnds.{Publishing};
+
+    ghost Value = { Publishing };
+
+    ghost view = { λ c. record {
+      inbox = c.inbox;
+      polls = c.polls;
+      packets = c.packets;
+      first = c.first;
+      held = S.held c.store;
+      honest = S.is_honest c.store;
+      session = c.session;
+      asked = c.asked;
+      poll = c.poll;
+      unanswered = c.unanswered;
+      window = c.window;
+      restarts = c.restart_after.items;
+      published = c.published;
+      finished = c.finished;
+    } };
+}
+
+/// What an end that has finished leaves behind.
+pub struct ConnectorParts<S: ProgressStore> {
+    /// Its end of the link to the connector.
+    pub inbox: LinkIn<ToConnector>,
+    /// Its end of the link to the ledger.
+    pub polls: LinkOut<ToLedger>,
+    /// Its end of the link to the broker.
+    pub packets: LinkOut<ToBroker>,
+    /// The store.
+    pub store: S,
+}
+
+// The name of what names nothing.
+struct Nothing;
+
+impl Naming<()> for Nothing {
+    ghost name = { tt };
+}
+
+// Sends the ledger a message.
+fn say<R: Wait>(polls: &mut LinkOut<ToLedger>, rt: &R, message: ToLedger) -> Result<(), RunFault>
+    requires { FollowsToLedger polls.old.number polls.old.sent (message, tt) }
+    ensures { IfOk result (λ _. polls.new ≡ with_sent polls.old (message, tt)) }
+{
+    match polls.send::<Nothing, R>(rt, message) {
+        Ok(()) => Ok(()),
+        Err(_) => Err(RunFault::PeerGone),
+    }
+}
+
+// Sends the broker a message.
+fn publish<R: Wait>(
+    packets: &mut LinkOut<ToBroker>,
+    rt: &R,
+    message: ToBroker,
+) -> Result<(), RunFault>
+    requires { FollowsToBroker packets.old.number packets.old.sent (message, tt) }
+    ensures { IfOk result (λ _. packets.new ≡ with_sent packets.old (message, tt)) }
+{
+    match packets.send::<Nothing, R>(rt, message) {
+        Ok(()) => Ok(()),
+        Err(_) => Err(RunFault::PeerGone),
+    }
+}
+
+// Receives the next message, of the ledger or of the broker.
+fn receive<R: Wait>(inbox: &mut LinkIn<ToConnector>, rt: &R) -> Result<ToConnector, RunFault>
+    ensures { IfOk result (λ message. Takes FollowsToConnector inbox.old message inbox.new) }
+{
+    match inbox.receive(rt) {
+        Ok(message) => Ok(message),
+        Err(_) => Err(RunFault::PeerGone),
+    }
+}
+
+// How many publish packets were sent with this packet; none where they can't be counted.
+fn count_publish(published: u64, packet: &Packet) -> Option<u64>
+    ensures { IfSome result (λ count. count ≡ published + publish_count packet.now) }
+{
+    match packet {
+        Packet::Connect { .. } => Some(published),
+        Packet::Publish { .. } => published.checked_add(1),
+    }
+}
+
+// Whether one publish packet more was sent, and the plan has a restart after it.
+fn is_due(plan: &[u64], before: u64, published: u64) -> bool
+    ensures { result
+        ≡ (not (published == before) && list_any (λ number. number == published) plan.now) }
+{
+    published != before && plan.contains(&published)
+}
+
+// The timestamp that the run's first session begins after: this one's, where none was before it.
+fn first_base(first: Option<u64>, session: &Session) -> u64
+    ensures { (course : Course) → SessionStands (Some session.now) (Some course)
+        → result ≡ unwrap_or first course.base }
+{
+    match first {
+        Some(first) => first,
+        None => session.base(),
+    }
+}
+
+// Whether the poll is the open one.
+fn is_open(asked: Option<Poll>, poll: Poll) -> bool
+    ensures { IsTrue result ↔ (asked ≡ Some poll) }
+{
+    match asked {
+        Some(asked) => asked == poll,
+        None => false,
+    }
+}
+
+// Whether the session that runs has this number.
+fn is_own(session: &Option<Session>, number: u64) -> bool
+    ensures { (course : Course) → SessionStands session.now (Some course)
+        → result ≡ (number == course.number) }
+{
+    match session {
+        Some(session) => number == session.number(),
+        None => false,
+    }
+}
+
+// What the end answers to a turn.
+fn turn_of(finished: bool) -> Turn
+    ensures { result ≡ turn_if finished }
+{
+    if finished { Turn::Finished } else { Turn::More }
+}
+
+impl<S: ProgressStore> Publishing<S> {
+    /// Nothing was said yet.
+    pub(crate) fn new(
+        inbox: LinkIn<ToConnector>,
+        polls: LinkOut<ToLedger>,
+        packets: LinkOut<ToBroker>,
+        store: S,
+        window: usize,
+        restart_after: Vec<u64>,
+    ) -> Publishing<S>
+        ensures { result ≡ first_work inbox polls packets (S.held store) (S.is_honest store)
+            window restart_after.items }
+    {
+        Publishing {
+            inbox,
+            polls,
+            packets,
+            store,
+            first: None,
+            session: None,
+            asked: 0,
+            poll: None,
+            unanswered: 0,
+            window,
+            restart_after,
+            published: 0,
+            finished: false,
+        }
+    }
+
+    /// Takes the links and the store apart.
+    pub(crate) fn into_parts(self) -> ConnectorParts<S>
+        ensures { ArePartsOf self result.inbox result.polls result.packets (S.held result.store) }
+    {
+        let Self {
+            inbox,
+            polls,
+            packets,
+            store,
+            first: _,
+            session: _,
+            asked: _,
+            poll: _,
+            unanswered: _,
+            window: _,
+            restart_after: _,
+            published: _,
+            finished: _,
+        } = self;
+        ConnectorParts {
+            inbox,
+            polls,
+            packets,
+            store,
+        }
+    }
+
+    /// Whether the connector has finished.
+    pub(crate) fn is_over(&self) -> bool
+        ensures { result ≡ self.now.finished }
+    {
+        self.finished
+    }
+
+    /// Starts the next session in the place of the one that runs, if one does.
+    fn begin(&mut self, alloc: Global) -> Result<(), RunFault>
+        requires window { self.old.window ≡ limits.WINDOW_TODAY }
+        requires honest { self.old.honest ≡ true }
+        ensures { IfOk result (λ _. IsBegun self.old self.new) }
+    {
+        let session = Session::start(alloc, &mut self.store, self.window)?;
+        self.first = Some(first_base(self.first, &session));
+        self.session = Some(session);
+        self.asked = 0;
+        self.poll = None;
+        Ok(())
+    }
+
+    /// Sends the session's next packet, if there is one, and says whether there was.
+    fn send_packet<R: Wait>(&mut self, rt: &R, alloc: Global) -> Result<bool, RunFault>
+        requires sending { IsSending self.old }
+        requires room { self.old.unanswered ≤ self.old.window }
+        ensures { (course : Course) → IsPublishing self.old (Some course)
+            → IfOk result (λ sent. IsPacketSent self.old course (next_packet course) sent self.new) }
+    {
+        let Some(session) = &mut self.session else {
+            return Ok(false);
+        };
+        let Some(packet) = session.next_packet(alloc)? else {
+            return Ok(false);
+        };
+        let Some(published) = count_publish(self.published, &packet) else {
+            return Err(RunFault::PeerGone);
+        };
+        publish(&mut self.packets, rt, ToBroker::Packet(packet))?;
+        self.unanswered += 1;
+        self.published = published;
+        Ok(true)
+    }
+
+    /// Sends the next packet, if there is one, and restarts where it is to after that; says whether there was one.
+    fn send_next<R: Wait>(&mut self, rt: &R, alloc: Global) -> Result<bool, RunFault>
+        requires sending { IsSending self.old }
+        requires room { self.old.unanswered ≤ self.old.window }
+        ensures { IfOk result (λ sent. IsSentNext self.old sent self.new) }
+    {
+        let before = self.published;
+        if !self.send_packet(rt, alloc)? {
+            return Ok(false);
+        }
+        if is_due(&self.restart_after, before, self.published) {
+            self.begin(alloc)?;
+        }
+        Ok(true)
+    }
+
+    /// Sends packets as long as there is one, and room for it.
+    fn send_packets<R: Wait>(&mut self, rt: &R, alloc: Global) -> Result<(), RunFault>
+        requires { IsSending self.old }
+        ensures { IfOk result (λ _. AreSent self.old self.new) }
+    {
+        while self.unanswered <= self.window {
+            if !self.send_next(rt, alloc)? {
+                return Ok(());
+            }
+        }
+        Ok(())
+    }
+
+    /// Asks for what the session wants, where no poll is open.
+    fn ask<R: Wait>(&mut self, rt: &R) -> Result<(), RunFault>
+        requires { IsSending self.old }
+        ensures { (course : Course) → IsPublishing self.old (Some course)
+            → IfOk result (λ _. self.new ≡ asked_if self.old.poll course self.old) }
+    {
+        if self.poll.is_some() {
+            return Ok(());
+        }
+        let Some(session) = &self.session else {
+            return Ok(());
+        };
+        let Some(wanted) = session.wants() else {
+            return Ok(());
+        };
+        let Some(number) = self.asked.checked_add(1) else {
+            return Err(RunFault::PeerGone);
+        };
+        let poll = Poll {
+            session: session.number(),
+            number,
+            after: wanted.after,
+            limit: wanted.limit,
+        };
+        say(&mut self.polls, rt, ToLedger::Poll(poll))?;
+        self.asked = number;
+        self.poll = Some(poll);
+        Ok(())
+    }
+
+    /// Says that the connector has finished, where its session is done and every packet has its answer.
+    fn finish<R: Wait>(&mut self, rt: &R) -> Result<(), RunFault>
+        requires { IsSending self.old }
+        ensures { (course : Course) → IsPublishing self.old (Some course)
+            → IfOk result (λ _. self.new
+            ≡ finished_if (is_done course && (self.old.unanswered == 0)) self.old) }
+    {
+        let Some(session) = &self.session else {
+            return Ok(());
+        };
+        if !session.done() || self.unanswered != 0 {
+            return Ok(());
+        }
+        say(&mut self.polls, rt, ToLedger::Finish)?;
+        publish(&mut self.packets, rt, ToBroker::Finish)?;
+        self.finished = true;
+        Ok(())
+    }
+
+    /// Sends all that follows: packets, then what the session asks for, and at last that the connector has finished.
+    fn follow<R: Wait>(&mut self, rt: &R, alloc: Global) -> Result<(), RunFault>
+        requires { IsSending self.old }
+        ensures { IfOk result (λ _. IsFollowed self.old self.new) }
+    {
+        self.send_packets(rt, alloc)?;
+        self.ask(rt)?;
+        self.finish(rt)
+    }
+
+    /// Takes a reply to the open poll; one to another poll changes nothing. Says whether it was to the open one.
+    fn take_reply(&mut self, reply: &PollReply) -> bool
+        requires { self.old.poll ≡ Some reply.now.poll
+            → IsOffered (wanted_by self.old.session) reply.now.events }
+        ensures { IsReplyTaken self.old reply.now result self.new }
+    {
+        if !is_open(self.poll, reply.poll) {
+            return false;
+        }
+        self.poll = None;
+        if let Some(session) = &mut self.session {
+            session.offer(reply.events.as_slice(), reply.complete);
+        }
+        true
+    }
+
+    /// The session takes the confirm of a tag, and saves where that moves how far it has come.
+    fn confirm(&mut self, session: u64, tag: u64) -> Result<(), RunFault>
+        ensures { (course : Course) → SessionStands self.old.session (Some course)
+            → IfOk result (λ _. IsAnswerTaken self.old course session (Confirmed tag) self.new) }
+    {
+        let Some(running) = &mut self.session else {
+            return Ok(());
+        };
+        let before = running.confirmed();
+        running.confirm(session, tag);
+        if running.confirmed() != before {
+            running.save(&mut self.store)?;
+        }
+        Ok(())
+    }
+
+    /// A packet of a session was lost: where it is the one that runs, the next one starts.
+    fn break_off(&mut self, alloc: Global, session: u64) -> Result<(), RunFault>
+        requires window { self.old.window ≡ limits.WINDOW_TODAY }
+        requires honest { self.old.honest ≡ true }
+        ensures { (course : Course) → SessionStands self.old.session (Some course)
+            → IfOk result (λ _. IsAnswerTaken self.old course session Broken self.new) }
+    {
+        if is_own(&self.session, session) {
+            self.begin(alloc)?;
+        }
+        Ok(())
+    }
+
+    /// Takes a confirm. One that answers no packet is none that was asked for.
+    fn take_confirm(&mut self, alloc: Global, confirm: Confirm) -> Result<(), RunFault>
+        requires window { self.old.window ≡ limits.WINDOW_TODAY }
+        requires honest { self.old.honest ≡ true }
+        ensures { (course : Course) → SessionStands self.old.session (Some course)
+            → IfOk result (λ _. IsConfirmTaken self.old course confirm self.new) }
+    {
+        let Some(unanswered) = self.unanswered.checked_sub(1) else {
+            return Err(RunFault::PeerGone);
+        };
+        self.unanswered = unanswered;
+        match confirm.answer {
+            Answer::Confirmed(tag) => self.confirm(confirm.session, tag),
+            Answer::Broken => self.break_off(alloc, confirm.session),
+            Answer::Connected | Answer::Ignored => Ok(()),
+        }
+    }
+
+    /// Receives a message and takes it. Says whether anything may follow from it: nothing from a reply to another poll.
+    fn hear<R: Wait>(&mut self, rt: &R, alloc: Global) -> Result<bool, RunFault>
+        requires { IsSending self.old }
+        ensures { (course : Course) → IsPublishing self.old (Some course)
+            → IfOk result (λ moved. IsHeard self.old course moved self.new) }
+    {
+        match receive(&mut self.inbox, rt)? {
+            ToConnector::PollReply(reply) => Ok(self.take_reply(&reply)),
+            ToConnector::Confirm(confirm) => {
+                self.take_confirm(alloc, confirm)?;
+                Ok(true)
+            }
+        }
+    }
+
+    /// Begins the first session, where none has begun, or receives a message. Says whether anything may follow.
+    fn advance<R: Wait>(&mut self, rt: &R, alloc: Global) -> Result<bool, RunFault>
+        requires rest { IsConnectorEnd self.old }
+        requires working { self.old.finished ≡ false }
+        ensures { IfOk result (λ moved. IsAdvanced self.old moved self.new) }
+    {
+        if self.session.is_some() {
+            return self.hear(rt, alloc);
+        }
+        self.begin(alloc)?;
+        Ok(true)
+    }
+
+    /// Receives a message, and sends what follows from it; the first turn begins the first session, and only sends.
+    pub(crate) fn turn<R: Wait>(&mut self, rt: &R, alloc: Global) -> Result<Turn, RunFault>
+        requires { IsConnectorEnd self.old }
+        ensures kept { IfOk result (λ _. IsConnectorEnd self.new) }
+        ensures turns { IfOk result (λ _. IsTurn self.old self.new) }
+        ensures answer { IfOk result (λ turn. turn ≡ turn_if self.new.finished) }
+    {
+        if self.finished {
+            return Ok(Turn::Finished);
+        }
+        if self.advance(rt, alloc)? {
+            self.follow(rt, alloc)?;
+        }
+        Ok(turn_of(self.finished))
+    }
+}
