@@ -1,3 +1,4 @@
+pub mod Accounts
 pub mod Configs
 pub mod Jobs
 pub mod Outcomes

@@ -2,6 +2,7 @@
 //! to at the end.
 #![tactic(auto)]
 
+mod accounts;
 pub mod configs;
 pub mod gates;
 mod jobs;
