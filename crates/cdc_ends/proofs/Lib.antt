@@ -6,3 +6,4 @@ mod Talking
 mod Receipts
 mod Told
 mod Booked
+mod Closed

@@ -1,7 +1,8 @@
 -- What the ledger's end has received, what it has told each client and the connector, and what a turn of it does.
-use Rattle.std.specs.Prelude.{◌≡◌, ◌==◌, ℕ, zero, suc, ◌+◌, ◌-◌, ◌<◌, Bool, true, false, ◌&&◌, not, Option, Some, None, List, [], ◌∷◌, ◌++◌, MatchBool, map, length, if◌then◌else◌}
+use Rattle.std.specs.Prelude.{◌⊎◌, ◌≡◌, ◌==◌, ℕ, zero, suc, ◌+◌, ◌-◌, ◌<◌, ◌≤◌, Bool, true, false, ◌&&◌, not, Option, Some, None, List, [], ◌∷◌, ◌++◌, MatchBool, is_none, map, length, slice_get, if◌then◌else◌}
 use Rattle.cdc_ends.specs.Orders.{batches_in, said_to}
 use Rattle.cdc_ends.specs.declared.faults.RunFault.{RunFault}
+use Rattle.cdc_ends.specs.declared.faults.RunFault.TheVariants.{PeerGone, OutOfMemory}
 use Rattle.cdc_ends.specs.declared.turns.Turn.{Turn}
 use Rattle.cdc_ends.specs.declared.turns.Turn.TheVariants.{More, Finished}
 use Rattle.cdc_ledger.specs.History.{History, empty_history}
@@ -180,3 +181,41 @@ HasTurned old turn new =
     (turn ≡ turn_of new.desk)
     × MatchBool (is_over old.desk) (new ≡ old)
     (IsServed old.desk new.desk × (new ≡ record old { desk = new.desk }))
+
+-- a turn fails where a link refuses it, or for want of memory
+abbrev pub IsTurnFault : RunFault → Type 0
+IsTurnFault fault = (fault ≡ PeerGone) ⊎ (fault ≡ OutOfMemory)
+
+-- ---- what is left in the end
+
+-- the end is finished, and has met no fault
+abbrev pub has_finished : LedgerEndState → Bool
+has_finished end = is_none end.fault && is_over end.desk
+
+-- these are its ends of its links, and its ledger
+pub record ArePartsOf (d : Desk) (inbox : Incoming ToLedger (Unit {0})) (clients : List (Outgoing Reply Past))
+    (connector : Outgoing ToConnector (Option Past)) (ledger : History) : Type 0 where
+  pub inbox_is : inbox ≡ d.inbox
+  pub clients_are : clients ≡ d.clients
+  pub connector_is : connector ≡ d.connector
+  pub ledger_is : ledger ≡ d.ledger
+
+-- all have said that they are done: the ledger is what all batches received make of it, with a close after them, and no
+-- poll waits
+pub record IsClosed (d : Desk) : Type 0 where
+  pub clients_done : (client : ℕ) → 0 < client → client ≤ length d.clients → is_done client d.inbox.received ≡ true
+  pub connector_done : is_done 0 d.inbox.received ≡ true
+  pub history : d.ledger ≡ history_of (record { batches = batches_in (order_of d.inbox.received); closed = true })
+  pub none_waits : d.kept ≡ None
+
+-- ---- laws
+
+-- the end is finished only then
+abbrev pub FinishedDesksAreClosed : Type 0
+FinishedDesksAreClosed = (d : Desk) → IsDesk d → is_over d ≡ true → IsClosed d
+
+-- each client was told, over the link at its place, what it is said of all batches received, in their order
+abbrev pub ClientsAreTold : Type 0
+ClientsAreTold = (d : Desk) (place : ℕ) (client : Outgoing Reply Past) → IsDesk d
+    → slice_get d.clients place ≡ Some client
+    → (client.number ≡ 0) × (client.sent ≡ said_to (place + 1) (order_of d.inbox.received))

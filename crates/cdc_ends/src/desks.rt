@@ -1,7 +1,7 @@
 //! What the ledger's end keeps, and what it does with each message.
 
-ghost use Rattle.std.specs.Prelude.{◌≡◌, ℕ, ◌+◌, ◌<◌, ◌≤◌, Option, None, Some, List, [], ◌∷◌, ◌++◌, All, IfOk, MatchBool, length, vec_len};
-ghost use Rattle.cdc_ends.specs.LedgerEnds.{AreTold, IsBooked, IsDesk, IsServed, first_desk, has_to_wait, is_over, links_of, order_of, past_of_inbox, replied_of, kept_of, replies_of, turn_of, with_replies};
+ghost use Rattle.std.specs.Prelude.{◌≡◌, ℕ, ◌+◌, ◌<◌, ◌≤◌, Option, None, Some, List, [], ◌∷◌, ◌++◌, All, IfErr, IfOk, MatchBool, length, vec_len};
+ghost use Rattle.cdc_ends.specs.LedgerEnds.{ArePartsOf, AreTold, IsBooked, IsDesk, IsServed, IsTurnFault, first_desk, has_to_wait, is_over, links_of, order_of, past_of_inbox, replied_of, kept_of, replies_of, turn_of, with_replies};
 ghost use Rattle.cdc_ends.specs.LedgerSteps.{IsNext, IsTaken, looked_at, with_one_done};
 ghost use Rattle.cdc_ends.specs.Orders.{past_of, batches_by};
 ghost use Rattle.cdc_links.specs.Links.{CanSend, of_sender, with_sent};
@@ -19,6 +19,19 @@ use cdc_traffic::{Poll, PollReply, Reply, Request, ToConnector, ToLedger};
 use std::alloc::Global;
 use std::marker::{Brand, Model};
 use std::sync::Wait;
+
+/// What an end that has finished leaves behind.
+#[derive(Drop)]
+pub struct LedgerParts {
+    /// Its end of the link to the ledger.
+    pub inbox: LinkIn<ToLedger>,
+    /// Its end of each client's link, in order of the clients' numbers.
+    pub clients: Vec<LinkOut<Reply>>,
+    /// Its end of the connector's link.
+    pub connector: LinkOut<ToConnector>,
+    /// The ledger, which is closed.
+    pub ledger: Ledger,
+}
 
 /// The ledger's end of each of its links, the ledger, how many clients aren't done, whether the connector is, and the
 /// poll that is kept until there is something to reply.
@@ -52,6 +65,7 @@ impl Model for Desk {
 // Receives the next message.
 fn hear<R: Wait>(inbox: &mut LinkIn<ToLedger>, rt: &R) -> Result<ToLedger, RunFault>
     ensures next { IfOk result (λ message. IsNext inbox.old message inbox.new) }
+    ensures kind { IfErr result IsTurnFault }
     ensures lawful { (j : ℕ) → CanSend FollowsToLedger j (of_sender j inbox.old.received) }
 {
     let _count = inbox.received_count();
@@ -69,7 +83,8 @@ fn tell_client<K: Heard, R: Wait>(
 ) -> Result<(), RunFault>
     requires { FollowsToClient client.old.number client.old.sent
         (reply, past_of K.order) }
-    ensures { IfOk result (λ _.
+    ensures kind { IfErr result IsTurnFault }
+    ensures sent { IfOk result (λ _.
         client.new ≡ with_sent client.old (reply, past_of K.order)) }
 {
     match client.send::<Under<K>, R>(rt, reply) {
@@ -86,7 +101,8 @@ fn tell_connector<K: Heard, R: Wait>(
 ) -> Result<(), RunFault>
     requires { FollowsToConnector connector.old.number connector.old.sent
         (OfPoll reply, Some K.past) }
-    ensures { IfOk result (λ _. connector.new
+    ensures kind { IfErr result IsTurnFault }
+    ensures sent { IfOk result (λ _. connector.new
         ≡ with_sent connector.old (OfPoll reply, Some K.past)) }
 {
     match connector.send::<Under<K>, R>(rt, ToConnector::PollReply(reply)) {
@@ -114,6 +130,7 @@ fn answer<K: Heard, R: Wait>(
     ensures history { IfOk result (λ _. ledger.new ≡ history_of
         (past_of (K.order ++ (request.client, request.batch) ∷ []))) }
     ensures links { IfOk result (λ _. links_of clients.new ≡ links_of clients.old) }
+    ensures kind { IfErr result IsTurnFault }
 {
     let place = request.client as usize - 1;
     let reply = request.answer(alloc, ledger)?;
@@ -132,7 +149,8 @@ fn reply_kept<K: Heard, R: Wait>(
     requires own { connector.old.number ≡ 0 }
     requires history { ledger.now ≡ history_of K.past }
     requires named { Continues (last_named connector.old.sent) K.past }
-    ensures { IfOk result (λ _. connector.new
+    ensures kind { IfErr result IsTurnFault }
+    ensures replied { IfOk result (λ _. connector.new
         ≡ with_replies connector.old K.past (replies_of ledger.now kept)) }
 {
     match kept {
@@ -155,6 +173,7 @@ fn look<K: Heard, R: Wait>(
     ensures replied { IfOk result (λ _. connector.new
         ≡ with_replies connector.old K.past (replied_of ledger.now (Some poll))) }
     ensures kept { IfOk result (λ kept. kept ≡ kept_of ledger.now (Some poll)) }
+    ensures kind { IfErr result IsTurnFault }
 {
     let reply = poll.read(alloc, ledger)?;
     if !ledger.closed() && reply.events.as_slice().is_empty() {
@@ -185,8 +204,29 @@ impl Desk {
         }
     }
 
-    // Whether all clients and the connector are done.
-    fn is_over(&self) -> bool
+    /// Takes the links and the ledger apart.
+    pub(crate) fn into_parts(self) -> LedgerParts
+        ensures { ArePartsOf self result.inbox result.clients.items result.connector result.ledger }
+    {
+        let Self {
+            inbox,
+            clients,
+            connector,
+            ledger,
+            clients_left: _,
+            connector_done: _,
+            kept: _,
+        } = self;
+        LedgerParts {
+            inbox,
+            clients,
+            connector,
+            ledger,
+        }
+    }
+
+    /// Whether all clients and the connector are done.
+    pub(crate) fn is_over(&self) -> bool
         ensures { result ≡ is_over self.now }
     {
         self.clients_left == 0 && self.connector_done
@@ -208,7 +248,8 @@ impl Desk {
         requires order { K.order ≡ order_of self.old.inbox.received }
         requires past { K.past ≡ past_of_inbox self.old.inbox }
         requires kept { IsDesk self.old }
-        ensures { IfOk result (λ _. IsTaken self.old self.new) }
+        ensures taken { IfOk result (λ _. IsTaken self.old self.new) }
+        ensures kind { IfErr result IsTurnFault }
     {
         let message = hear(&mut self.inbox, rt)?;
         match message {
@@ -239,7 +280,8 @@ impl Desk {
     fn look_again<K: Heard, R: Wait>(&mut self, rt: &R, alloc: Global) -> Result<(), RunFault>
         requires past { K.past ≡ past_of_inbox self.old.inbox }
         requires kept { IsBooked self.old }
-        ensures { IfOk result (λ _. self.new ≡ looked_at self.old) }
+        ensures looked { IfOk result (λ _. self.new ≡ looked_at self.old) }
+        ensures kind { IfErr result IsTurnFault }
     {
         if let Some(poll) = self.kept {
             self.kept = look::<K, R>(&mut self.connector, &self.ledger, rt, alloc, poll)?;
@@ -250,7 +292,8 @@ impl Desk {
     // Receives one message, and sends what follows from it.
     fn serve<R: Wait>(&mut self, rt: &R, alloc: Global) -> Result<(), RunFault>
         requires { IsDesk self.old }
-        ensures { IfOk result (λ _. IsServed self.old self.new) }
+        ensures served { IfOk result (λ _. IsServed self.old self.new) }
+        ensures kind { IfErr result IsTurnFault }
     {
         self.take::<Brand, R>(rt, alloc)?;
         self.look_again::<Brand, R>(rt, alloc)
@@ -262,6 +305,7 @@ impl Desk {
         ensures turn { IfOk result (λ turn. turn ≡ turn_of self.new) }
         ensures served { IfOk result (λ _.
             MatchBool (is_over self.old) (self.new ≡ self.old) (IsServed self.old self.new)) }
+        ensures kind { IfErr result IsTurnFault }
     {
         if self.is_over() {
             return Ok(Turn::Finished);

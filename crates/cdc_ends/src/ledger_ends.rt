@@ -1,9 +1,9 @@
 //! The ledger's end: it answers requests and polls, and closes the ledger once all clients are done.
 
-ghost use Rattle.std.specs.Prelude.{◌≡◌, ◌+◌, ◌<◌, All, Err, IfErr, IfOk, None, Some, [], length};
-ghost use Rattle.cdc_ends.specs.LedgerEnds.{HasTurned, IsDesk, first_desk};
+ghost use Rattle.std.specs.Prelude.{◌≡◌, ◌+◌, ◌<◌, All, Err, IfErr, IfOk, IfSome, None, Some, [], is_some, length};
+ghost use Rattle.cdc_ends.specs.LedgerEnds.{ArePartsOf, ClientsAreTold, FinishedDesksAreClosed, HasTurned, IsDesk, IsTurnFault, first_desk, has_finished};
 
-use crate::desks::Desk;
+use crate::desks::{Desk, LedgerParts};
 use crate::faults::RunFault;
 use crate::turns::Turn;
 use cdc_links::{LinkIn, LinkOut};
@@ -71,6 +71,7 @@ impl LedgerEnd {
         ensures turned { IfOk result (λ turn. HasTurned self.old turn self.new) }
         ensures kept { IfOk result (λ _. IsDesk self.new.desk) }
         ensures fault { IfErr result (λ fault. self.new.fault ≡ Some fault) }
+        ensures kind { self.old.fault ≡ None → IfErr result IsTurnFault }
         ensures again { (fault : RunFault) → self.old.fault ≡ Some fault
             → (result ≡ Err fault) × (self.new ≡ self.old) }
     {
@@ -85,4 +86,39 @@ impl LedgerEnd {
             },
         }
     }
+
+    /// The number of the system that the end is of.
+    pub fn system(&self) -> u64
+        ensures { result ≡ self.now.system }
+    {
+        self.system
+    }
+
+    /// What the end leaves behind: its ends of its links, and the closed ledger; nothing, where it isn't finished or has
+    /// met a fault.
+    pub fn into_parts(self) -> Option<LedgerParts>
+        ensures some { is_some result ≡ has_finished self }
+        ensures parts { IfSome result (λ parts.
+            ArePartsOf self.desk parts.inbox parts.clients.items parts.connector parts.ledger) }
+        ensures kept { IfSome result (λ _. IsDesk self.desk) }
+    {
+        let Self {
+            system: _,
+            desk,
+            fault,
+        } = self;
+        if fault.is_none() && desk.is_over() {
+            Some(desk.into_parts())
+        } else {
+            None
+        }
+    }
 }
+
+/// Does nothing: each clause holds of whatever the ledger's end keeps. Once it is finished, each client and the connector
+/// are done, and the ledger, which is closed, is what all batches received have made of it; and over the link at each
+/// place its client was told just what it is said of them in their order.
+pub fn ledger_end_laws()
+    ensures finished { FinishedDesksAreClosed }
+    ensures told { ClientsAreTold }
+{}

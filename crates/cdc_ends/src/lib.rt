@@ -17,8 +17,9 @@ mod tests;
 pub mod turns;
 
 pub use clients::ClientEnd;
+pub use desks::LedgerParts;
 pub use faults::RunFault;
-pub use ledger_ends::LedgerEnd;
+pub use ledger_ends::{LedgerEnd, ledger_end_laws};
 pub use orders::order_laws;
 pub use subscriber_ends::{SubscriberEnd, subscriber_laws};
 pub use turns::Turn;

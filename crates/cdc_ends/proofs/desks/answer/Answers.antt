@@ -56,7 +56,7 @@ returns-clause-told g c =
     (slice_set c.args.clients.now (client - 1) o)) (sym told)
     (told_push 1 client (client - 1) request.batch order c.args.clients.now link place within
     c.index-clients-place.is c.requires.told))
-    c.tell_client.ensures
+    c.tell_client.ensures.sent
 
 pub returns-clause-history : goal.returns-clause-history
 returns-clause-history g c =
@@ -67,7 +67,7 @@ returns-clause-history g c =
     c.in_ok-reply.ensures.after
     ∙ ap (λ h. history_or h (submit h request.batch)) c.requires.history
     ∙ sym (history_push order request.client request.batch))
-    c.tell_client.ensures
+    c.tell_client.ensures.sent
 
 pub returns-clause-links : goal.returns-clause-links
 returns-clause-links g c =
@@ -83,4 +83,4 @@ returns-clause-links g c =
     ap (λ (o : Outgoing Reply Past). links_of (slice_set c.args.clients.now (client - 1) o)) told
     ∙ links_set (client - 1) c.args.clients.now link (c.in_ok-reply.reply, past_of order)
     c.index-clients-place.is)
-    c.tell_client.ensures
+    c.tell_client.ensures.sent

@@ -80,8 +80,8 @@ count_done-requires g c =
     subst (λ (m : ToLedger). IsNext inside.inbox m c.hear.new.inbox) c.in-Done.is c.in_ok-message.ensures.next in
     left_before d is.booked next.sender next.below next.follows.may.0 next.follows.goes_on
 
-pub returns-in-Request : goal.returns-in-Request
-returns-in-Request g c =
+pub returns-in-Request-clause-taken : goal.returns-in-Request-clause-taken
+returns-in-Request-clause-taken g c =
     let inside = c.self.inside in
     let d : Desk = record {
       inbox = inside.inbox;
@@ -116,8 +116,8 @@ returns-in-Request g c =
     (links ∙ ap links_of c.as_mut_slice.ensures.value))))
     c.answer.ensures.told c.answer.ensures.history c.answer.ensures.links
 
-pub returns-in-Done : goal.returns-in-Done
-returns-in-Done g c =
+pub returns-in-Done-clause-taken : goal.returns-in-Done-clause-taken
+returns-in-Done-clause-taken g c =
     let inside = c.self.inside in
     let d : Desk = record {
       inbox = inside.inbox;
@@ -134,8 +134,8 @@ returns-in-Done g c =
     subst (λ (s : Desk). IsTaken s c.count_done.new.self) c.self.view_is
     (subst (IsTaken d) (sym c.count_done.ensures) (taken_done d is c.in-Done.client c.hear.new.inbox next))
 
-pub returns-in_ok-reply_kept-in-Poll : goal.returns-in_ok-reply_kept-in-Poll
-returns-in_ok-reply_kept-in-Poll g c =
+pub returns-in_ok-reply_kept-in-Poll-clause-taken : goal.returns-in_ok-reply_kept-in-Poll-clause-taken
+returns-in_ok-reply_kept-in-Poll-clause-taken g c =
     let inside = c.self.inside in
     let d : Desk = record {
       inbox = inside.inbox;
@@ -157,10 +157,10 @@ returns-in_ok-reply_kept-in-Poll g c =
       kept = Some c.in-Poll.poll;
     })) c.self.view_is
     (taken_poll d is c.in-Poll.poll c.hear.new.inbox next g.K.Heard.past past c.reply_kept.new.connector
-    c.in_ok-reply_kept-in-Poll.ensures)
+    c.in_ok-reply_kept-in-Poll.ensures.replied)
 
-pub returns-in-Finish : goal.returns-in-Finish
-returns-in-Finish g c =
+pub returns-in-Finish-clause-taken : goal.returns-in-Finish-clause-taken
+returns-in-Finish-clause-taken g c =
     let inside = c.self.inside in
     let d : Desk = record {
       inbox = inside.inbox;
