@@ -1,7 +1,14 @@
 mod Closing
+mod Dealing
 mod Equal
+mod Finishing
+mod Hearing
+mod Lanes
+mod Places
 mod Said
 mod Taking
+mod Serving
+mod Subscribers
 mod Talking
 mod Receipts
 mod Told

@@ -2,7 +2,11 @@
 //! holds if it returns.
 #![tactic(auto)]
 
+mod broker_desks;
+mod broker_ends;
+mod broker_plans;
 mod clients;
+mod consumers;
 mod conversations;
 mod desks;
 pub mod faults;
@@ -16,6 +20,8 @@ mod subscriber_ends;
 mod tests;
 pub mod turns;
 
+pub use broker_ends::BrokerEnd;
+pub use broker_plans::BrokerPlan;
 pub use clients::ClientEnd;
 pub use desks::LedgerParts;
 pub use faults::RunFault;

@@ -1,0 +1,228 @@
+-- The broker's end at its beginning, after a turn, and once all is over.
+use Rattle.std.proofs.Common.{◌≡◌, ℕ, zero, suc, ◌+◌, ◌-◌, ◌<◌, ◌≤◌, Bool, true, false, Option, Some, None, List, [], ◌∷◌, refl, sym, ap, ap₂, ◌∙◌, subst, length, map, get_or, inl, inr, arith}
+use Rattle.std.specs.Prelude.{◌==◌, ◌&&◌, All, slice_get, unwrap_or}
+use Rattle.std.specs.List.{list_all}
+use Rattle.std.specs.Option.{option_map}
+use Rattle.std.proofs.lemmas.Bool.{cases_Bool, eqb-true}
+use Rattle.std.proofs.lemmas.List.{length-map}
+use Rattle.std.proofs.lemmas.List.Folds.{list_all-map}
+use Rattle.std.proofs.lemmas.Option.{get_or_from_slice_get, slice_get-get_or, slice_get-map, slice_get_within}
+use Rattle.cdc_broker.specs.Broker.{BrokerState, empty_broker, nobody, queue_of}
+use Rattle.cdc_broker.specs.Packets.{items_of}
+use Rattle.cdc_broker.specs.Queues.{QueueState, empty_queue, next_delivery}
+use Rattle.cdc_ends.specs.BrokerDesks.{HasHeard, MayStop}
+use Rattle.cdc_ends.specs.BrokerEnds.{Dealings, Desk, IsBrokerEnd, IsDesk, IsServed, acks_at, as_confirm, dealings, is_over, no_dealings, packets_in}
+use Rattle.cdc_ends.specs.BrokerTurns.{HasTurned, IsEmptyBroker, IsFreshLink, Turns, all_served, first_consumer, first_desk, heard, stopped, stopped_if, with_stop}
+use Rattle.cdc_ends.specs.declared.broker_plans.BrokerPlan.{BrokerPlan}
+use Rattle.cdc_ends.specs.declared.consumers.Consumer.{Consumer}
+use Rattle.cdc_ends.specs.declared.turns.Turn.{Turn}
+use Rattle.cdc_ends.proofs.Hearing.{GoesOn, GoesOn-heard, IsServedTo, IsServedTo-first, IsServedTo-next, served_one}
+use Rattle.cdc_ends.proofs.Places.{HoldsOfAll, HoldsOfAll-consumers, slice_get_made}
+use Rattle.cdc_ends.proofs.Serving.{IsServed-first, IsServed-stop, MayStop-served, whole_queue}
+use Rattle.cdc_laws.specs.Arrivals.{taken_of}
+use Rattle.cdc_laws.specs.Brokers.{HasArrived}
+use Rattle.cdc_laws.proofs.Brokers.{HasArrived-nil}
+use Rattle.cdc_links.specs.Links.{Incoming, Outgoing, of_sender}
+use Rattle.cdc_match.specs.Arguments.{Arguments}
+use Rattle.cdc_traffic.specs.Following.{ends_to_broker, has_ended}
+use Rattle.cdc_traffic.specs.declared.messages.ToBroker.{ToBroker}
+use Rattle.cdc_traffic.specs.declared.messages.ToConnector.{ToConnector}
+use Rattle.cdc_traffic.specs.declared.messages.ToSubscriber.{ToSubscriber}
+use Rattle.cdc_traffic.specs.declared.pasts.Past.{Past}
+
+-- both of two tests
+both_of : (a b : Bool) → (a && b) ≡ true → (a ≡ true) × (b ≡ true)
+both_of true b is = (refl, is)
+both_of false b is = cc
+
+-- what each element passes, that at a place does
+passes_at : {X : Type 0} (test : X → Bool) (xs : List X) (k : ℕ) (x : X) → list_all test xs ≡ true
+    → slice_get xs k ≡ Some x → test x ≡ true
+passes_at test [] k x all found = cc
+passes_at test (y ∷ xs) zero x all found =
+    let same : y ≡ x = cc in ap test (sym same) ∙ (both_of (test y) (list_all test xs) all).0
+passes_at test (y ∷ xs) (suc k) x all found =
+    passes_at test xs k x (both_of (test y) (list_all test xs) all).1 found
+
+-- ---- a turn ends
+
+-- each subscriber may be sent its last message
+pub may_stop : (d : Desk) → IsDesk d → d.finished ≡ false → All MayStop d.consumers
+may_stop d is goes k x below =
+    let c : Consumer = get_or d.consumers k x in
+    let found : slice_get d.consumers k ≡ Some c = slice_get-get_or d.consumers k x below in
+    MayStop-served d.prefetch (acks_at d k) (queue_of d.broker (k + 1)) c (served_one d is goes k c found)
+
+-- no copy is without an acknowledgement
+abbrev has_none : Consumer → Bool
+has_none c = c.unacked == 0
+
+module _ (d : Desk) (count : ℕ) (so_far : IsServedTo count count d) where
+  -- each queue is handed out as far as may be
+  eager_all : HoldsOfAll (λ k q c. c.unacked < d.prefetch → next_delivery q ≡ None) d.broker d.consumers
+  eager_all k c found few =
+      so_far.eager k c found
+      (omega (arith, slice_get_within d.consumers k c found, so_far.many)) few
+
+  -- not all is over
+  more : is_over d ≡ false → IsBrokerEnd d
+  more isnt = record {
+    desk = so_far.desk;
+    eager = eager_all;
+    over = so_far.goes_on ∙ sym isnt;
+    whole = λ k c found done.
+        let isnt : d.finished ≡ false = so_far.goes_on in cc;
+  }
+
+  -- all is over
+  over : is_over d ≡ true → IsBrokerEnd (record d { consumers = map with_stop d.consumers; finished = true })
+  over is =
+      let new : Desk = record d { consumers = map with_stop d.consumers; finished = true } in
+      let both = both_of d.connector_done (list_all has_none d.consumers) is in
+      let desk : IsDesk d = so_far.desk in
+      let eager : HoldsOfAll (λ k q c. c.unacked < d.prefetch → next_delivery q ≡ None) d.broker new.consumers =
+      HoldsOfAll-consumers (λ k q c. c.unacked < d.prefetch → next_delivery q ≡ None)
+      (λ k q c. c.unacked < d.prefetch → next_delivery q ≡ None) d.broker d.consumers with_stop eager_all
+      (λ k q c none. none) in
+      record {
+        desk = record {
+          senders = desk.senders ∙ ap (λ (n : ℕ). n + 1) (sym (length-map d.consumers with_stop));
+          own = desk.own;
+          queues = desk.queues ∙ sym (length-map d.consumers with_stop);
+          some = desk.some;
+          few = desk.few;
+          arrived = desk.arrived;
+          confirmed = desk.confirmed;
+          publishes = desk.publishes;
+          accepted = desk.accepted;
+          connector = desk.connector;
+          served = HoldsOfAll-consumers (λ k q c. IsServed false d.prefetch (acks_at d k) q c)
+              (λ k q c. IsServed true d.prefetch (acks_at d k) q c) d.broker d.consumers with_stop
+              (λ k c found. served_one d desk so_far.goes_on k c found)
+              (λ k q c one. IsServed-stop d.prefetch (acks_at d k) q c one);
+        };
+        eager = eager;
+        over = sym (ap₂ (λ (a b : Bool). a && b) both.0 (list_all-map has_none with_stop d.consumers ∙ both.1));
+        whole = λ k c found done.
+            let made = slice_get_made with_stop d.consumers k c found in
+            let x : Consumer = made.0 in
+            let zero_copies : x.unacked ≡ 0 =
+            eqb-true x.unacked 0 (passes_at has_none d.consumers k x both.1 made.1.0) in
+            let none : next_delivery (queue_of d.broker (k + 1)) ≡ None =
+            eager_all k x made.1.0 (omega (arith, zero_copies, desk.some)) in
+            whole_queue (queue_of d.broker (k + 1)) _ (served_one d desk so_far.goes_on k x made.1.0).handed none;
+      }
+
+  pub IsBrokerEnd-stopped : IsBrokerEnd (stopped d)
+  IsBrokerEnd-stopped = elim (cases_Bool (is_over d)) [
+    | inl is ↦ subst (λ (b : Bool). IsBrokerEnd (stopped_if b d)) (sym is) (over is)
+    | inr isnt ↦ subst (λ (b : Bool). IsBrokerEnd (stopped_if b d)) (sym isnt) (more isnt)
+  ]
+
+-- ---- a whole turn
+
+-- the first so many queues are served
+pub served_first : (count n : ℕ) (d : Desk) → GoesOn count d → n ≤ count → IsServedTo count n (all_served n d)
+served_first count zero d goes below =
+    subst (λ (k : ℕ). IsServedTo k 0 d) goes.many (IsServedTo-first d goes.desk goes.goes_on)
+served_first count (suc n) d goes below =
+    IsServedTo-next count n (all_served n d) (served_first count n d goes (omega (arith, below))) (omega (arith, below))
+
+-- all of them are, where something came
+pub served_all : (old new : Desk) → IsDesk old → old.finished ≡ false → HasHeard old new
+    → IsServedTo (length old.consumers) (length old.consumers) (all_served (length new.consumers) new)
+served_all old new is goes came =
+    let on : GoesOn (length old.consumers) new = GoesOn-heard old new is goes came in
+    subst (λ (n : ℕ). IsServedTo (length old.consumers) (length old.consumers) (all_served n new)) (sym on.many)
+    (served_first (length old.consumers) (length old.consumers) new on (omega arith))
+
+-- so an end that has turned is one
+pub turned_is : (old new : Desk) → IsBrokerEnd old → old.finished ≡ false → HasTurned old new → IsBrokerEnd new
+turned_is old new is goes has =
+    let came : HasHeard old (heard has.entry old) =
+    record { entry = has.entry; sender = has.sender; follows = has.follows; due = has.due; after = refl } in
+    let on : GoesOn (length old.consumers) (heard has.entry old) =
+    GoesOn-heard old (heard has.entry old) is.desk goes came in
+    let all : IsServedTo (length old.consumers) (length old.consumers)
+    (all_served (length old.consumers) (heard has.entry old)) =
+    served_first (length old.consumers) (length old.consumers) (heard has.entry old) on (omega arith) in
+    subst IsBrokerEnd (sym has.after)
+    (IsBrokerEnd-stopped (all_served (length old.consumers) (heard has.entry old)) (length old.consumers) all)
+
+-- whether or not it had finished
+pub turns_is : (old new : Desk) (turn : Turn) → IsBrokerEnd old → Turns old.finished old turn new → IsBrokerEnd new
+turns_is old new turn is turns = go old.finished refl turns
+  where
+    go : (b : Bool) → old.finished ≡ b → Turns b old turn new → IsBrokerEnd new
+    go true done turns = subst IsBrokerEnd (sym turns.1) is
+    go false goes turns = turned_is old new is goes turns.0
+
+-- ---- the beginning
+
+-- a queue of a broker that nothing has come to
+empty_at : (bindings : List Arguments) (k : ℕ)
+    → (binding : Arguments) × (queue_of (empty_broker bindings) (k + 1) ≡ empty_queue binding)
+empty_at bindings k = (
+  found_binding (slice_get bindings (k + 1 - 1)),
+  ap (λ (found : Option QueueState). unwrap_or found (empty_queue nobody)) (slice_get-map empty_queue bindings (k + 1 - 1))
+      ∙ is (slice_get bindings (k + 1 - 1)),
+)
+  where
+    found_binding : Option Arguments → Arguments
+    found_binding None = nobody
+    found_binding (Some binding) = binding
+
+    is : (found : Option Arguments)
+        → unwrap_or (option_map empty_queue found) (empty_queue nobody) ≡ empty_queue (found_binding found)
+    is None = refl
+    is (Some binding) = refl
+
+pub IsBrokerEnd-first : (inbox : Incoming ToBroker (Unit {0})) (confirms : Outgoing ToConnector (Option Past))
+    (links : List (Outgoing ToSubscriber (Unit {0}))) (broker : BrokerState) (plan : BrokerPlan) (prefetch : ℕ)
+    → inbox.received ≡ [] → inbox.senders ≡ length links + 1 → confirms.number ≡ 1 → confirms.sent ≡ []
+    → All IsFreshLink links → IsEmptyBroker broker → length broker.queues ≡ length links → 0 < prefetch → prefetch ≤ 64
+    → IsBrokerEnd (first_desk inbox confirms links broker plan prefetch)
+IsBrokerEnd-first inbox confirms links broker plan prefetch fresh senders own silent fresh_links empty many some few =
+    record {
+      desk = record {
+        senders = senders ∙ ap (λ (n : ℕ). n + 1) (sym (length-map links first_consumer));
+        own = own;
+        queues = many ∙ sym (length-map links first_consumer);
+        some = some;
+        few = few;
+        arrived = subst (λ (made : Dealings). HasArrived broker made.arrived made.confirms) (sym none)
+            (subst (λ (b : BrokerState). HasArrived b [] []) (sym empty) (HasArrived-nil bindings));
+        confirmed = silent ∙ ap (λ (made : Dealings). map as_confirm made.confirms) (sym none);
+        publishes = ap (λ (made : Dealings). made.publishes) (sym none);
+        accepted = ap (λ (made : Dealings). length (items_of (taken_of made.arrived))) (sym none);
+        connector = ap (λ (l : List (ℕ × (ToBroker × Unit {0}))). has_ended ends_to_broker (of_sender 0 l)) (sym fresh);
+        served = served;
+      };
+      eager = λ k c found few.
+          subst (λ (b : BrokerState). next_delivery (queue_of b (k + 1)) ≡ None) (sym empty)
+          (ap next_delivery (empty_at bindings k).1);
+      over = refl;
+      whole = λ k c found done. cc;
+    }
+  where
+    bindings : List Arguments
+    bindings = map (λ (q : QueueState). q.binding) broker.queues
+
+    none : dealings plan (packets_in (of_sender 0 inbox.received)) ≡ no_dealings
+    none = ap (λ (l : List (ℕ × (ToBroker × Unit {0}))). dealings plan (packets_in (of_sender 0 l))) fresh
+
+    served : (k : ℕ) (c : Consumer) → slice_get (map first_consumer links) k ≡ Some c
+        → IsServed false prefetch (length (of_sender (k + 1) inbox.received)) (queue_of broker (k + 1)) c
+    served k c found =
+        let made = slice_get_made first_consumer links k c found in
+        let link : Outgoing ToSubscriber (Unit {0}) = made.0 in
+        let inside = slice_get_within links k link made.1.0 in
+        let at = empty_at bindings k in
+        let is : IsFreshLink link =
+        subst IsFreshLink (get_or_from_slice_get links k link link made.1.0) (fresh_links k link inside) in
+        subst (λ (l : List (ℕ × (ToBroker × Unit {0}))).
+        IsServed false prefetch (length (of_sender (k + 1) l)) (queue_of broker (k + 1)) c) (sym fresh)
+        (subst (λ (b : BrokerState). IsServed false prefetch 0 (queue_of b (k + 1)) c) (sym empty)
+        (subst (λ (q : QueueState). IsServed false prefetch 0 q c) (sym at.1)
+        (subst (IsServed false prefetch 0 (empty_queue at.0)) made.1.1
+        (IsServed-first prefetch at.0 link is.0 is.1))))

@@ -1,0 +1,24 @@
+use Rattle.std.proofs.Common.{◌≡◌, Some, refl}
+use Rattle.std.specs.Prelude.{slice_get}
+use Rattle.std.proofs.lemmas.Option.{slice_get_read}
+use Rattle.cdc_ends.specs.BrokerDesks.{desk_of}
+use Rattle.cdc_ends.proofs.Hearing.{may_hand_out, served_so}
+use Rattle.cdc_ends.proofs.broker_desks.BrokerDesk.serve.Goals as goal
+
+pub hand_out-requires-clause-may : goal.hand_out-requires-clause-may
+hand_out-requires-clause-may g c =
+    let old = c.args.self.now in
+    let consumer = c.index_mut-consumer.result.now in
+    let found : slice_get old.consumers.items c.args.place ≡ Some consumer =
+    slice_get_read old.consumers.items _ c.args.place consumer refl c.requires.inside c.index_mut-consumer.ensures.value in
+    may_hand_out (desk_of old) c.requires.desk c.requires.goes_on c.args.place consumer found
+
+pub returns : goal.returns
+returns g c =
+    let old = c.args.self.now in
+    let consumer = c.index_mut-consumer.result.now in
+    let found : slice_get old.consumers.items c.args.place ≡ Some consumer =
+    slice_get_read old.consumers.items _ c.args.place consumer refl c.requires.inside c.index_mut-consumer.ensures.value in
+    served_so (desk_of old) c.as_slice-repeat.result.now c.args.place consumer c.hand_out.new.consumer
+    c.hand_out.new.broker c.as_slice-repeat.ensures.value found
+    c.in_ok-hand_out.ensures

@@ -1,0 +1,17 @@
+use Rattle.std.proofs.Common.{◌≡◌, ◌-◌, ◌<◌, ◌∙◌, true, length, sym, arith}
+use Rattle.cdc_ends.specs.BrokerTurns.{goes_back}
+use Rattle.cdc_ends.proofs.Lanes.{both_hold, has_handed}
+use Rattle.cdc_ends.proofs.consumers.hand_next.Goals as goal
+
+pub returns-then-is_repeated-clause-becomes : goal.returns-then-is_repeated-clause-becomes
+returns-then-is_repeated-clause-becomes g c =
+    let old = c.args.broker.now in
+    let number = c.args.number in
+    let d = c.in-Some.delivery in
+    let inside : number - 1 < length old.queues = omega arith in
+    let goes : goes_back c.args.repeat.now number c.args.consumer.now d ≡ true =
+    both_hold c.args.consumer.now.handed d.position _ c.if-first.true
+    (sym c.is_repeated.ensures ∙ c.if-is_repeated.true) in
+    has_handed c.args.repeat.now number old c.next_for.new.self c.rewind.new.self c.args.consumer.now
+    c.send_copy.new.self d true inside (sym c.in_ok-delivery.ensures.answer ∙ c.in-Some.is) c.in_ok-delivery.ensures.ok
+    c.in_ok-send_copy.ensures goes c.rewind.ensures.state

@@ -1,0 +1,10 @@
+use Rattle.std.proofs.Common.{◌-◌}
+use Rattle.cdc_ends.proofs.Lanes.{HandsOn}
+use Rattle.cdc_ends.proofs.consumers.hand_out.Given as goal
+
+abbrev pub invariant-loop-consumer : goal.invariant-loop-consumer
+invariant-loop-consumer g l =
+    HandsOn l.repeat l.number l.prefetch l.initial.broker l.initial.consumer l.broker l.consumer
+
+abbrev pub decreases-loop-consumer : goal.decreases-loop-consumer
+decreases-loop-consumer g l = l.prefetch - l.consumer.unacked

@@ -1,0 +1,103 @@
+//! The broker's end: it answers packets, and hands out the queues.
+
+ghost use Rattle.std.specs.Prelude.{◌≡◌, ◌<◌, ◌≤◌, ◌+◌, [], All, Err, IfErr, IfOk, None, Some, length, vec_len};
+ghost use Rattle.cdc_ends.specs.BrokerTurns.{IsEmptyBroker, IsFreshLink, Turns, first_desk};
+
+use crate::broker_desks::BrokerDesk;
+use crate::broker_plans::BrokerPlan;
+use crate::faults::RunFault;
+use crate::turns::Turn;
+use cdc_broker::Broker;
+use cdc_links::{LinkIn, LinkOut};
+use cdc_traffic::{ToBroker, ToConnector, ToSubscriber};
+use std::alloc::{AllocError, Global};
+use std::marker::Model;
+use std::sync::Wait;
+
+/// The broker's end of a run. It answers each packet with one confirm, and hands out each queue to its subscriber while
+/// fewer than `prefetch` copies are without an acknowledgement. A clause sees the number of the system that it is of;
+/// what it has received; what it has sent to the connector, and to each subscriber, with how many copies that one has
+/// yet to acknowledge; the broker; what goes wrong by plan, and the counts that this goes by; whether it has finished;
+/// and the fault that it met, if it did.
+#[derive(Drop)]
+pub struct BrokerEnd {
+    system: u64,
+    desk: BrokerDesk,
+    fault: Option<RunFault>,
+}
+
+impl Model for BrokerEnd {
+    ghost use Rattle.std.specs.Prelude.{◌≡◌, None};
+    ghost use Rattle.cdc_ends.specs.BrokerDesks.{desk_of};
+    ghost use Rattle.cdc_ends.specs.BrokerEnds.{BrokerEndState, IsBrokerEnd};
+
+    ghost Value = { BrokerEndState };
+
+    ghost view = { λ end. record {
+      system = end.system;
+      desk = desk_of end.desk;
+      fault = end.fault;
+    } };
+
+    ghost invariant = { λ end. end.fault ≡ None → IsBrokerEnd (desk_of end.desk) };
+}
+
+impl BrokerEnd {
+    /// The end of a broker to which nothing has come yet, with a link to the subscriber of each queue, by place. An
+    /// error is want of memory for the list of them.
+    pub fn new(
+        alloc: Global,
+        system: u64,
+        inbox: LinkIn<ToBroker>,
+        confirms: LinkOut<ToConnector>,
+        links: Vec<LinkOut<ToSubscriber>>,
+        broker: Broker,
+        prefetch: u64,
+        plan: BrokerPlan,
+    ) -> Result<BrokerEnd, AllocError>
+        requires fresh { inbox.received ≡ [] }
+        requires senders { inbox.senders ≡ vec_len links + 1 }
+        requires own { confirms.number ≡ 1 }
+        requires silent { confirms.sent ≡ [] }
+        requires fresh_links { All IsFreshLink links.items }
+        requires empty { IsEmptyBroker broker }
+        requires queues { length broker.queues ≡ vec_len links }
+        requires some { 0 < prefetch }
+        requires few { prefetch ≤ 64 }
+        ensures { IfOk result (λ end. end ≡ record {
+          system = system;
+          desk = first_desk inbox confirms links.items broker plan prefetch;
+          fault = None;
+        }) }
+    {
+        Ok(BrokerEnd {
+            system,
+            desk: BrokerDesk::new(alloc, inbox, confirms, links, broker, prefetch, plan)?,
+            fault: None,
+        })
+    }
+
+    /// One turn: the next message is received, and what it says is done; each queue hands out what it may; and once the
+    /// connector is done and each copy is acknowledged, each subscriber is sent its last message. A further turn changes
+    /// nothing. An acknowledgement that isn't due is the fault PeerGone. The first fault stays: it is answered from then
+    /// on.
+    pub fn turn<R: Wait>(&mut self, rt: &R, alloc: Global) -> Result<Turn, RunFault>
+        ensures turns { IfOk result (λ turn.
+            Turns self.old.desk.finished self.old.desk turn self.new.desk) }
+        ensures rest { IfOk result (λ _. self.new ≡ record self.old { desk = self.new.desk }) }
+        ensures fault { IfErr result (λ fault. self.new.fault ≡ Some fault) }
+        ensures again { (fault : RunFault) → self.old.fault ≡ Some fault
+            → (result ≡ Err fault) × (self.new ≡ self.old) }
+    {
+        match self.fault {
+            Some(fault) => Err(fault),
+            None => match self.desk.turn(rt, alloc) {
+                Ok(turn) => Ok(turn),
+                Err(fault) => {
+                    self.fault = Some(fault);
+                    Err(fault)
+                }
+            },
+        }
+    }
+}
