@@ -3,6 +3,7 @@
 #![tactic(auto)]
 
 mod accounts;
+mod books;
 pub mod configs;
 pub mod gates;
 mod jobs;
