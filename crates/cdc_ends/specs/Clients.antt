@@ -1,5 +1,5 @@
 -- What a client's end has said to the ledger, and what it was replied.
-use Rattle.std.specs.Prelude.{◌≡◌, ℕ, ◌+◌, ◌<◌, Bool, true, false, Option, List, [], ◌∷◌, ◌++◌, length, map, if◌then◌else◌}
+use Rattle.std.specs.Prelude.{◌≡◌, ℕ, ◌+◌, ◌<◌, Bool, true, false, ◌&&◌, Option, List, [], ◌∷◌, ◌++◌, is_none, length, map, if◌then◌else◌}
 use Rattle.cdc_ends.specs.declared.faults.RunFault.{RunFault}
 use Rattle.cdc_ledger.specs.Submit.{IsLegal}
 use Rattle.cdc_links.specs.Links.{Incoming, Outgoing, of_sender, with_received, with_sent}
@@ -89,3 +89,16 @@ pub record IsReplied (old : ClientState) (batch : Batch) (reply : Reply) (new : 
 abbrev pub finished_talk : Talk → Talk
 finished_talk c =
     if c.finished then c else record c { requests = with_sent c.requests (Done c.number, tt); finished = true }
+
+-- ---- what is left in the end
+
+-- the end has finished, and has met no fault
+abbrev pub has_finished : ClientState → Bool
+has_finished end = is_none end.fault && end.talk.finished
+
+-- these are its ends of its links, and its copies of the replies
+pub record ArePartsOf (c : Talk) (requests : Outgoing ToLedger (Unit {0})) (answers : Incoming Reply Past)
+    (replies : List Reply) : Type 0 where
+  pub requests_are : requests ≡ c.requests
+  pub answers_are : answers ≡ c.answers
+  pub replies_are : replies ≡ c.replies

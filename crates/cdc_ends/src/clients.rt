@@ -1,9 +1,9 @@
 //! A client's end: it sends requests, one at a time, and keeps a copy of each reply.
 
-ghost use Rattle.std.specs.Prelude.{◌≡◌, ◌<◌, Err, IfErr, IfOk, None, Some, [], false};
-ghost use Rattle.cdc_ends.specs.Clients.{IsReplied, finished_talk, first_words};
+ghost use Rattle.std.specs.Prelude.{◌≡◌, ◌<◌, Err, IfErr, IfOk, IfSome, None, Some, [], false, is_some};
+ghost use Rattle.cdc_ends.specs.Clients.{ArePartsOf, IsClient, IsReplied, finished_talk, first_words, has_finished};
 
-use crate::conversations::Conversation;
+use crate::conversations::{ClientParts, Conversation};
 use crate::faults::RunFault;
 use cdc_links::{LinkIn, LinkOut};
 use cdc_traffic::{Reply, ToLedger};
@@ -105,6 +105,40 @@ impl ClientEnd {
                     Err(fault)
                 }
             },
+        }
+    }
+
+    /// The number of the system that the end is of.
+    pub fn system(&self) -> u64
+        ensures { result ≡ self.now.system }
+    {
+        self.system
+    }
+
+    /// The client's number.
+    pub fn number(&self) -> u64
+        ensures { result ≡ self.now.talk.number }
+    {
+        self.talk.number()
+    }
+
+    /// What the end leaves behind: its ends of its links, and the replies; nothing, where it isn't finished or has met a
+    /// fault.
+    pub fn into_parts(self) -> Option<ClientParts>
+        ensures some { is_some result ≡ has_finished self }
+        ensures parts { IfSome result (λ parts.
+            ArePartsOf self.talk parts.requests parts.answers parts.replies.items) }
+        ensures kept { IfSome result (λ _. IsClient self.talk) }
+    {
+        let Self {
+            system: _,
+            talk,
+            fault,
+        } = self;
+        if fault.is_none() && talk.is_finished() {
+            Some(talk.into_parts())
+        } else {
+            None
         }
     }
 }

@@ -1,7 +1,7 @@
 //! A client's conversation with the ledger.
 
 ghost use Rattle.std.specs.Prelude.{◌≡◌, ◌↔◌, IfOk, IsTrue, false};
-ghost use Rattle.cdc_ends.specs.Clients.{IsAnswered, IsClient, IsHeard, finished_talk, first_words};
+ghost use Rattle.cdc_ends.specs.Clients.{ArePartsOf, IsAnswered, IsClient, IsHeard, finished_talk, first_words};
 ghost use Rattle.cdc_links.specs.Links.{with_sent};
 ghost use Rattle.cdc_traffic.specs.Following.{FollowsToLedger};
 
@@ -36,6 +36,17 @@ impl Model for Conversation {
       replies = talk.replies.items;
       finished = talk.finished;
     } };
+}
+
+/// What a client's end that has finished leaves behind.
+#[derive(Drop)]
+pub struct ClientParts {
+    /// Its end of the link to the ledger.
+    pub requests: LinkOut<ToLedger>,
+    /// Its end of the link from the ledger.
+    pub answers: LinkIn<Reply>,
+    /// A copy of each reply.
+    pub replies: Vec<Reply>,
 }
 
 // The name of what names nothing.
@@ -135,5 +146,37 @@ impl Conversation {
         say(&mut self.requests, rt, ToLedger::Done { client })?;
         self.finished = true;
         Ok(())
+    }
+
+    /// The client's number.
+    pub(crate) fn number(&self) -> u64
+        ensures { result ≡ self.now.number }
+    {
+        self.number
+    }
+
+    /// Whether the client has said that it is done.
+    pub(crate) fn is_finished(&self) -> bool
+        ensures { result ≡ self.now.finished }
+    {
+        self.finished
+    }
+
+    /// Takes the links and the replies apart.
+    pub(crate) fn into_parts(self) -> ClientParts
+        ensures { ArePartsOf self result.requests result.answers result.replies.items }
+    {
+        let Self {
+            number: _,
+            requests,
+            answers,
+            replies,
+            finished: _,
+        } = self;
+        ClientParts {
+            requests,
+            answers,
+            replies,
+        }
     }
 }

@@ -1,3 +1,5 @@
+mod Booked
+mod ClientsParted
 mod Closes
 mod Gathering
 mod Replied

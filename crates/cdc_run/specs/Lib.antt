@@ -1,3 +1,6 @@
+pub mod Accounts
+pub mod Books
+pub mod ClientMail
 pub mod Configs
 pub mod Jobs
 pub mod Outcomes

@@ -2,6 +2,8 @@
 //! to at the end.
 #![tactic(auto)]
 
+mod accounts;
+mod books;
 pub mod configs;
 pub mod gates;
 mod jobs;

@@ -1,9 +1,10 @@
 //! What a run comes to, told by its lists alone.
 
+ghost use Rattle.cdc_run.specs.Books.{BooksSettle};
 ghost use Rattle.cdc_run.specs.Settling.{ClientsAreReplied, OrdersAreOfClients};
 ghost use Rattle.cdc_run.specs.Subscribing.{SubscribersCome};
 
-use cdc_ends::{order_laws, subscriber_laws};
+use cdc_ends::{ledger_end_laws, order_laws, subscriber_laws};
 use cdc_laws::{connector_laws, run_laws};
 use cdc_traffic::traffic_laws;
 
@@ -15,9 +16,11 @@ use cdc_traffic::traffic_laws;
 pub fn settle_laws()
     ensures replied { ClientsAreReplied }
     ensures of_clients { OrdersAreOfClients }
+    ensures books { BooksSettle }
     ensures come { SubscribersCome }
 {
     order_laws();
+    ledger_end_laws();
     traffic_laws();
     connector_laws();
     run_laws();

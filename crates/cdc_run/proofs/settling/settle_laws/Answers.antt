@@ -1,3 +1,4 @@
+use Rattle.cdc_run.proofs.Booked.{books_settle}
 use Rattle.cdc_run.proofs.Counted.{orders_are_of_clients}
 use Rattle.cdc_run.proofs.Replied.{clients_are_replied}
 use Rattle.cdc_run.proofs.Subscribed.{StandsOn, subscribers_come}
@@ -21,3 +22,8 @@ returns-clause-come c =
       asked = c.subscriber_laws.ensures.asked;
     } in
     subscribers_come on
+
+pub returns-clause-books : goal.returns-clause-books
+returns-clause-books c =
+    books_settle (clients_are_replied c.traffic_laws.ensures.ends.0 c.order_laws.ensures.batches) orders_are_of_clients
+    c.ledger_end_laws.ensures.finished

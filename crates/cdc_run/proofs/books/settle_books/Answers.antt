@@ -1,0 +1,86 @@
+use Rattle.std.proofs.Common.{◌≡◌, ◌∙◌, ℕ, true, List, [], ◌∷◌, sym, ap, subst, length, map, rules, arith}
+use Rattle.std.specs.Prelude.{All}
+use Rattle.std.specs.List.{AllZip}
+use Rattle.cdc_ends.specs.Clients.{ClientState, Talk}
+use Rattle.cdc_ends.specs.LedgerEnds.{LedgerEndState, order_of}
+use Rattle.cdc_ledger.specs.History.{History}
+use Rattle.cdc_links.specs.Links.{CanSend, Incoming, IsAccount, Outgoing}
+use Rattle.cdc_traffic.specs.Following.{FollowsToLedger}
+use Rattle.cdc_traffic.specs.declared.messages.ToLedger.{ToLedger}
+use Rattle.cdc_traffic.specs.declared.requests.Reply.{Reply}
+use Rattle.cdc_types.specs.declared.batches.Batch.{Batch}
+use Rattle.cdc_run.specs.Accounts.{IsAccounted}
+use Rattle.cdc_run.specs.Books.{AreBooks}
+use Rattle.cdc_run.specs.ClientMail.{talks_of}
+use Rattle.cdc_run.proofs.ClientsParted.{AreTogether, all_settled, as_many_senders, of_one_link, senders, together}
+use Rattle.cdc_run.proofs.Zips.{same_zip}
+use Rattle.cdc_run.proofs.books.settle_books.Goals as goal
+
+pub settle-tally-requires-clause-ours : goal.settle-tally-requires-clause-ours
+settle-tally-requires-clause-ours c =
+    let ledger : LedgerEndState = c.args.ledger in
+    let clients : List ClientState = c.args.clients.items in
+    let parts = c.in-Some.parts in
+    let is = c.in-Some.ensures.parts in
+    let same_len : c.args.clients.len ≡ parts.clients.len = first_of (omega arith, cc, search rules) in
+    let many : length clients ≡ length ledger.desk.clients =
+    sym c.args.clients.ok.0 ∙ same_len ∙ parts.clients.ok.0 ∙ ap (λ l. length l) is.clients_are in
+    let are : AreTogether ledger c.args.polls clients =
+    together ledger c.args.polls clients c.system-system.result c.in-Some.ensures.some c.in-Some.ensures.kept
+    c.in_ok-mail.ensures.clients c.system-system.ensures c.requires.polls c.requires.wired many in
+    let made : c.in_ok-handed.handed.items ≡ senders ledger c.args.polls clients are =
+    c.in_ok-handed.ensures ∙ ap (λ l. c.args.polls ∷ l) c.in_ok-mail.ensures.mail.requests in
+    subst (λ (into : Incoming ToLedger (Unit {0})). All (λ end. end.link ≡ into.link) c.in_ok-handed.handed.items)
+    (sym is.inbox_is)
+    (subst (λ (ends : List (Outgoing ToLedger (Unit {0}))). All (λ end. end.link ≡ ledger.desk.inbox.link) ends)
+    (sym made) (of_one_link ledger c.args.polls clients are))
+
+pub settle-tally-requires-clause-all : goal.settle-tally-requires-clause-all
+settle-tally-requires-clause-all c =
+    let ledger : LedgerEndState = c.args.ledger in
+    let clients : List ClientState = c.args.clients.items in
+    let parts = c.in-Some.parts in
+    let is = c.in-Some.ensures.parts in
+    let same_len : c.args.clients.len ≡ parts.clients.len = first_of (omega arith, cc, search rules) in
+    let many : length clients ≡ length ledger.desk.clients =
+    sym c.args.clients.ok.0 ∙ same_len ∙ parts.clients.ok.0 ∙ ap (λ l. length l) is.clients_are in
+    let are : AreTogether ledger c.args.polls clients =
+    together ledger c.args.polls clients c.system-system.result c.in-Some.ensures.some c.in-Some.ensures.kept
+    c.in_ok-mail.ensures.clients c.system-system.ensures c.requires.polls c.requires.wired many in
+    let made : c.in_ok-handed.handed.items ≡ senders ledger c.args.polls clients are =
+    c.in_ok-handed.ensures ∙ ap (λ l. c.args.polls ∷ l) c.in_ok-mail.ensures.mail.requests in
+    c.in_ok-handed.handed.ok.0 ∙ ap (λ l. length l) made ∙ as_many_senders ledger c.args.polls clients are
+    ∙ ap (λ (into : Incoming ToLedger (Unit {0})). into.senders) (sym is.inbox_is)
+
+pub returns-clause-books : goal.returns-clause-books
+returns-clause-books c =
+    let ledger : LedgerEndState = c.args.ledger in
+    let clients : List ClientState = c.args.clients.items in
+    let parts = c.in-Some.parts in
+    let is = c.in-Some.ensures.parts in
+    let same_len : c.args.clients.len ≡ parts.clients.len = first_of (omega arith, cc, search rules) in
+    let many : length clients ≡ length ledger.desk.clients =
+    sym c.args.clients.ok.0 ∙ same_len ∙ parts.clients.ok.0 ∙ ap (λ l. length l) is.clients_are in
+    let are : AreTogether ledger c.args.polls clients =
+    together ledger c.args.polls clients c.system-system.result c.in-Some.ensures.some c.in-Some.ensures.kept
+    c.in_ok-mail.ensures.clients c.system-system.ensures c.requires.polls c.requires.wired many in
+    let made : c.in_ok-handed.handed.items ≡ senders ledger c.args.polls clients are =
+    c.in_ok-handed.ensures ∙ ap (λ l. c.args.polls ∷ l) c.in_ok-mail.ensures.mail.requests in
+    let account = c.settle-tally.ensures.account in
+    let whole : IsAccount ledger.desk.inbox (senders ledger c.args.polls clients are) account.0 =
+    subst (λ (into : Incoming ToLedger (Unit {0})). IsAccount into (senders ledger c.args.polls clients are) account.0)
+    is.inbox_is
+    (subst (λ (ends : List (Outgoing ToLedger (Unit {0}))). IsAccount parts.inbox ends account.0) made account.1) in
+    let lawful : All (λ end. CanSend FollowsToLedger end.number end.sent) (senders ledger c.args.polls clients are) =
+    subst (λ (ends : List (Outgoing ToLedger (Unit {0}))).
+    All (λ end. CanSend FollowsToLedger end.number end.sent) ends) made c.settle-tally.ensures.lawful in
+    let answers : AllZip IsAccounted (map (λ (t : Talk). t.answers) (talks_of clients)) ledger.desk.clients =
+    same_zip IsAccounted c.in_ok-mail.mail.answers.items (map (λ (t : Talk). t.answers) (talks_of clients))
+    parts.clients.items ledger.desk.clients c.in_ok-mail.ensures.mail.answers is.clients_are
+    c.in_ok-settle_each.ensures in
+    let order : List (ℕ × Batch) = order_of ledger.desk.inbox.received in
+    let books = c.settle_laws.ensures.books ledger.desk c.args.polls (talks_of clients)
+        (all_settled ledger c.args.polls clients are account.0 whole lawful answers) in
+    subst (λ (h : History). AreBooks order h (map (λ v. v.items) c.in_ok-mail.mail.replies.items)) (sym is.ledger_is)
+    (subst (λ (replies : List (List Reply)). AreBooks order ledger.desk.ledger replies)
+    (sym c.in_ok-mail.ensures.mail.replies) books)

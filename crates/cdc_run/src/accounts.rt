@@ -1,0 +1,55 @@
+//! What is known of a link once all its ends are put together.
+
+ghost use Rattle.std.specs.Prelude.{◌≡◌, ◌∷◌, [], IfOk};
+ghost use Rattle.std.specs.List.{AllZip};
+ghost use Rattle.cdc_links.specs.Links.{CanSend};
+ghost use Rattle.cdc_run.specs.Accounts.{IsAccounted, IsOnlySender};
+
+use cdc_links::{Handed, LinkIn, LinkOut, Message, settle};
+use std::alloc::{AllocError, Global};
+
+/// Hands back all these ends of a link.
+pub(crate) fn hand_back_all<M: Message>(
+    alloc: Global,
+    first: LinkOut<M>,
+    others: Vec<LinkOut<M>>,
+) -> Result<Vec<Handed<M>>, AllocError>
+    ensures { IfOk result (λ all. all.items ≡ first ∷ others.items) }
+{
+    let mut all = Vec::new(alloc);
+    all.push(first.hand_back())?;
+    for end in others {
+        all.push(end.hand_back())?;
+    }
+    Ok(all)
+}
+
+// Puts the two ends of a link together that has one sender.
+fn settle_one<M: Message>(alloc: Global, into: LinkIn<M>, out: LinkOut<M>) -> Result<(), AllocError>
+    requires { IsOnlySender into out }
+    ensures { IfOk result (λ _. IsAccounted into out) }
+{
+    let mut all = Vec::with_capacity(alloc, 1)?;
+    all.push_reserved(out.hand_back());
+    let _tally = settle(into, all);
+    Ok(())
+}
+
+/// Puts the two ends of each of these links together, which have one sender each.
+pub(crate) fn settle_each<M: Message>(
+    alloc: Global,
+    mut ins: Vec<LinkIn<M>>,
+    mut outs: Vec<LinkOut<M>>,
+) -> Result<(), AllocError>
+    requires { AllZip IsOnlySender ins.items outs.items }
+    ensures { IfOk result (λ _. AllZip IsAccounted ins.items outs.items) }
+{
+    let Some(into) = ins.pop() else {
+        return Ok(());
+    };
+    let Some(out) = outs.pop() else {
+        return Ok(());
+    };
+    settle_one(alloc, into, out)?;
+    settle_each(alloc, ins, outs)
+}
