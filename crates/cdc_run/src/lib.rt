@@ -12,8 +12,6 @@ mod outcomes;
 pub mod places;
 pub mod plans;
 mod settling;
-#[cfg(test)]
-mod tests;
 mod wires;
 
 pub use configs::Config;

@@ -3,10 +3,10 @@
 
 ghost use Rattle.std.specs.Prelude.{◌≡◌, []};
 
-use cdc_ends::{ClientEnd, LedgerEnd, RunFault, SubscriberEnd, Turn};
+use cdc_ends::{ClientEnd, RunFault, SubscriberEnd, Turn};
 use cdc_links::{LinkFault, LinkIn, LinkOut, Naming, SendRefused, link};
 use cdc_message::{Delivery, Item};
-use cdc_traffic::{Ack, Reply, ToBroker, ToConnector, ToLedger, ToSubscriber};
+use cdc_traffic::{Ack, Reply, ToBroker, ToLedger, ToSubscriber};
 use cdc_types::Batch;
 use std::sync::Wait;
 use std::test::Fail;
@@ -87,21 +87,5 @@ fn a_subscriber_takes_the_end_and_stops(rt: HostRuntime) -> Result<(), Fail> {
             position: 1
         })
     );
-    Ok(())
-}
-
-#[test]
-fn a_ledger_without_clients_and_connector(rt: HostRuntime) -> Result<(), Fail> {
-    let (senders, inbox) = link::<ToLedger>(rt.alloc(), 5, 2)?;
-    let (clients, _answers) = link::<Reply>(rt.alloc(), 1, 1)?;
-    let (mut told, _replies) = link::<ToConnector>(rt.alloc(), 5, 2)?;
-    let _broker = told.pop().expect(&rt, "two senders");
-    let connector = told.pop().expect(&rt, "two senders");
-    drop(senders);
-    let mut ledger = LedgerEnd::new(rt.alloc(), 1, inbox, clients, connector);
-    let first = ledger.turn(&rt, rt.alloc());
-    let second = ledger.turn(&rt, rt.alloc());
-    assert!(rt; matches!(&first, Err(RunFault::PeerGone)));
-    assert!(rt; matches!(&second, Err(RunFault::PeerGone)));
     Ok(())
 }

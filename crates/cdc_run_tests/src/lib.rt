@@ -2,8 +2,16 @@
 #![tactic(auto)]
 
 #[cfg(test)]
+mod broker_ends;
+#[cfg(test)]
+mod connector_ends;
+#[cfg(test)]
 mod ends;
 #[cfg(test)]
+mod ledger_ends;
+#[cfg(test)]
 mod links;
+#[cfg(test)]
+mod runs;
 #[cfg(test)]
 mod traffic;

@@ -2,7 +2,7 @@
 
 ghost use Rattle.std.specs.Prelude.{◌≡◌, []};
 
-use crate::{BrokerEnd, BrokerPlan, RunFault, Turn};
+use cdc_ends::{BrokerEnd, BrokerPlan, RunFault, Turn};
 use cdc_links::{LinkIn, LinkOut, Naming, SendRefused, link};
 use cdc_match::Binding;
 use cdc_message::{Answer, Confirm, Item, Packet};

@@ -1,6 +1,6 @@
 //! Each public function once.
 
-use crate::{Config, Faults, Gate, OpenGate, Place};
+use cdc_run::{Config, Faults, Gate, OpenGate, Place};
 use cdc_match::Binding;
 use std::test::Fail;
 

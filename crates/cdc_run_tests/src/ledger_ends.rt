@@ -2,7 +2,7 @@
 
 ghost use Rattle.std.specs.Prelude.{◌≡◌, []};
 
-use crate::{ClientEnd, LedgerEnd, RunFault, Turn};
+use cdc_ends::{ClientEnd, LedgerEnd, RunFault, Turn};
 use cdc_links::{LinkFault, LinkIn, LinkOut, Naming, SendRefused, link};
 use cdc_traffic::{Poll, Reply, ToConnector, ToLedger};
 use std::sync::Wait;
