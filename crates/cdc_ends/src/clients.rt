@@ -122,8 +122,8 @@ impl ClientEnd {
         self.talk.number()
     }
 
-    /// What the end leaves behind: its ends of its links, and the replies; nothing, where it isn't finished or has met a
-    /// fault.
+    /// What the end leaves behind: its ends of its links, and the replies; nothing, where it isn't finished or has met
+    /// a fault.
     pub fn into_parts(self) -> Option<ClientParts>
         ensures some { is_some result ≡ has_finished self }
         ensures parts { IfSome result (λ parts.

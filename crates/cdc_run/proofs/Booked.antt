@@ -4,8 +4,8 @@ use Rattle.std.specs.Prelude.{All}
 use Rattle.std.specs.List.{AllZip}
 use Rattle.std.proofs.lemmas.List.{length-map}
 use Rattle.std.proofs.lemmas.List.Elements.{All-head, All-tail}
-use Rattle.cdc_ends.specs.Clients.{IsClient, Talk}
-use Rattle.cdc_ends.specs.LedgerEnds.{AreTold, Desk, FinishedDesksAreClosed, IsClosed, IsDesk, is_done, order_of}
+use Rattle.cdc_ends.specs.Clients.{Talk}
+use Rattle.cdc_ends.specs.LedgerEnds.{AreTold, FinishedDesksAreClosed, IsClosed, is_done, order_of}
 use Rattle.cdc_ends.specs.Orders.{said_to}
 use Rattle.cdc_links.specs.Links.{CanSend, Outgoing, of_sender}
 use Rattle.cdc_traffic.specs.Following.{FollowsToLedger}
@@ -14,7 +14,7 @@ use Rattle.cdc_traffic.specs.declared.pasts.Past.{Past}
 use Rattle.cdc_traffic.specs.declared.requests.Reply.{Reply}
 use Rattle.cdc_types.specs.declared.batches.Batch.{Batch}
 use Rattle.cdc_run.specs.Accounts.{IsAccounted}
-use Rattle.cdc_run.specs.Books.{AreBooks, AreReplied, AreSettled, BooksSettle, HaveFinished}
+use Rattle.cdc_run.specs.Books.{AreReplied, BooksSettle, HaveFinished}
 use Rattle.cdc_run.specs.Settling.{AreNumbered, ClientsAreReplied, HasSettled, IsOfClients, IsReplied, LedgerMail, OrdersAreOfClients}
 
 -- whose senders' ends have their clients' numbers

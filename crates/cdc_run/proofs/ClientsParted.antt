@@ -1,5 +1,5 @@
 -- What the clients of a run leave behind, one after another.
-use Rattle.std.proofs.Common.{◌≡◌, ℕ, suc, ◌+◌, true, List, [], ◌∷◌, ◌++◌, sym, ap, ◌∙◌, ap₂, subst, length, map, arith}
+use Rattle.std.proofs.Common.{◌≡◌, ℕ, ◌+◌, true, List, [], ◌∷◌, ◌++◌, sym, ap, ◌∙◌, ap₂, subst, length, map, arith}
 use Rattle.std.specs.Prelude.{All, is_none}
 use Rattle.std.proofs.lemmas.Bool.{and_parts}
 use Rattle.std.specs.List.{AllZip}
@@ -36,19 +36,19 @@ mail_push clients c old parts new mail are more =
     map-append (λ (s : ClientState). s.talk) clients (c ∷ []) in
     record {
       requests =
-        more.requests ∙ ap₂ (λ l x. l ++ x ∷ []) mail.requests are.requests_are
-        ∙ sym (ap (map (λ (t : Talk). t.requests)) talks
-        ∙ map-append (λ (t : Talk). t.requests) (talks_of clients) (c.talk ∷ []));
+          more.requests ∙ ap₂ (λ l x. l ++ x ∷ []) mail.requests are.requests_are
+          ∙ sym (ap (map (λ (t : Talk). t.requests)) talks
+          ∙ map-append (λ (t : Talk). t.requests) (talks_of clients) (c.talk ∷ []));
       answers =
-        more.answers ∙ ap₂ (λ l x. l ++ x ∷ []) mail.answers are.answers_are
-        ∙ sym (ap (map (λ (t : Talk). t.answers)) talks
-        ∙ map-append (λ (t : Talk). t.answers) (talks_of clients) (c.talk ∷ []));
+          more.answers ∙ ap₂ (λ l x. l ++ x ∷ []) mail.answers are.answers_are
+          ∙ sym (ap (map (λ (t : Talk). t.answers)) talks
+          ∙ map-append (λ (t : Talk). t.answers) (talks_of clients) (c.talk ∷ []));
       replies =
-        ap (map (λ v. v.items)) more.replies
-        ∙ map-append (λ v. v.items) old.replies.items (parts.replies ∷ [])
-        ∙ ap₂ (λ l x. l ++ x ∷ []) mail.replies are.replies_are
-        ∙ sym (ap (map (λ (t : Talk). t.replies)) talks
-        ∙ map-append (λ (t : Talk). t.replies) (talks_of clients) (c.talk ∷ []));
+          ap (map (λ v. v.items)) more.replies
+          ∙ map-append (λ v. v.items) old.replies.items (parts.replies ∷ [])
+          ∙ ap₂ (λ l x. l ++ x ∷ []) mail.replies are.replies_are
+          ∙ sym (ap (map (λ (t : Talk). t.replies)) talks
+          ∙ map-append (λ (t : Talk). t.replies) (talks_of clients) (c.talk ∷ []));
     }
 
 -- they have finished
@@ -107,8 +107,8 @@ module _ (ledger : LedgerEndState) (polls : Outgoing ToLedger (Unit {0})) (clien
   }
 
 -- what is known of them as they are put together
-pub together : (ledger : LedgerEndState) (polls : Outgoing ToLedger (Unit {0})) (clients : List ClientState) (system : ℕ)
-    → true ≡ has_finished ledger → IsDesk ledger.desk → AreClientsOf system 1 clients → system ≡ ledger.system
+pub together : (ledger : LedgerEndState) (polls : Outgoing ToLedger (Unit {0})) (clients : List ClientState)
+    (system : ℕ) → true ≡ has_finished ledger → IsDesk ledger.desk → AreClientsOf system 1 clients → system ≡ ledger.system
     → ArePollsTo ledger polls → (AreClientsOf ledger.system 1 clients → AreWiredTo ledger clients)
     → length clients ≡ length ledger.desk.clients → AreTogether ledger polls clients
 together ledger polls clients system over desk its same connector wired many =

@@ -16,7 +16,8 @@ closes_push : (subscriber : ℕ) (closes : List (ℕ × ℕ)) (entry : ℕ × �
     ≡ closes_of subscriber closes ++ map (λ c. c.1) (cond (counts subscriber entry) (entry ∷ []) [])
 closes_push subscriber closes entry =
     ap (map (λ c. c.1)) (filter-append (counts subscriber) closes (entry ∷ []))
-    ∙ map-append (λ (c : ℕ × ℕ). c.1) (filter (counts subscriber) closes) (cond (counts subscriber entry) (entry ∷ []) [])
+    ∙ map-append (λ (c : ℕ × ℕ). c.1) (filter (counts subscriber) closes)
+    (cond (counts subscriber entry) (entry ∷ []) [])
 
 -- the last of a list is in it
 last_in : (numbers : List ℕ) (n : ℕ) → Contains (numbers ++ n ∷ []) n
@@ -70,5 +71,6 @@ least_begins subscriber closes entry so none =
     (last_in [] entry.1, All-push (λ m. entry.1 ≤ m) [] entry.1 (All-nil (λ m. entry.1 ≤ m)) (omega arith))
 
 -- an entry of the subscriber with a number from 1 up counts
-pub counts_so : (subscriber : ℕ) (entry : ℕ × ℕ) → entry.0 ≡ subscriber → (entry.1 ≡ 0 → ⊥) → counts subscriber entry ≡ true
+pub counts_so : (subscriber : ℕ) (entry : ℕ × ℕ) → entry.0 ≡ subscriber → (entry.1 ≡ 0 → ⊥)
+    → counts subscriber entry ≡ true
 counts_so subscriber entry its some = grind (arith, nat_tests)

@@ -1,5 +1,5 @@
 -- The ends of a new link: those of its senders, one by one.
-use Rattle.std.proofs.Common.{◌≡◌, ℕ, zero, suc, ◌+◌, ◌<◌, List, [], ◌∷◌, ◌++◌, refl, sym, ap, ◌∙◌, add-one, arith, map, slice_index_or, take, drop}
+use Rattle.std.proofs.Common.{◌≡◌, ℕ, zero, suc, ◌+◌, List, [], ◌∷◌, ◌++◌, refl, sym, ap, ◌∙◌, add-one, arith, map, slice_index_or, take, drop}
 use Rattle.std.proofs.lemmas.List.{map-append}
 use Rattle.std.proofs.lemmas.List.Elements.{All-push}
 use Rattle.cdc_links.specs.Links.{Incoming, LinkId, Outgoing, fresh_end, fresh_ends}
@@ -15,7 +15,8 @@ module _ {M N : Type 0} (link : LinkId M) where
   from_push number (suc n) =
       let same : number + suc n ≡ number + 1 + n = omega arith in
       ap (λ (l : List (Outgoing M N)). fresh_end link number ∷ l)
-      (ap (λ (k : ℕ). fresh_from {M = M} {N = N} link (number + 1) n ++ fresh_end link k ∷ []) same ∙ from_push (number + 1) n)
+      (ap (λ (k : ℕ). fresh_from {M = M} {N = N} link (number + 1) n ++ fresh_end link k ∷ []) same
+      ∙ from_push (number + 1) n)
 
   -- all senders are the one of number 0 and those from 1 on
   pub all_from : (n : ℕ) → fresh_ends {M = M} {N = N} link (suc n) ≡ fresh_end link 0 ∷ fresh_from link 1 n

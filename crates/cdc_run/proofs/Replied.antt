@@ -1,14 +1,13 @@
 -- What a client was replied, once it and the ledger's end have finished.
-use Rattle.std.proofs.Common.{◌≡◌, ◌≢◌, ◌==◌, ℕ, zero, suc, ◌+◌, ◌<◌, ◌≤◌, Bool, true, false, List, [], ◌∷◌, ◌++◌, refl, sym, ap, ◌∙◌, subst, length, map, append_assoc, append-nil, eq-eqb, ne_eqb, inl, inr, arith}
-use Rattle.std.specs.Prelude.{◌||◌, not, All, cond, filter, sum_by, if◌then◌else◌}
-use Rattle.std.specs.List.{list_any}
+use Rattle.std.proofs.Common.{◌≡◌, ◌≢◌, ◌==◌, ℕ, suc, ◌+◌, ◌≤◌, Bool, true, false, List, [], ◌∷◌, ◌++◌, refl, sym, ap, ◌∙◌, subst, length, map, append_assoc, append-nil, eq-eqb, ne_eqb, inl, inr, arith}
+use Rattle.std.specs.Prelude.{◌||◌, not, cond, filter, sum_by}
 use Rattle.std.proofs.lemmas.Bool.Decides.{eqb_tells}
 use Rattle.std.proofs.lemmas.List.{length-append, length-map, map-append}
 use Rattle.std.proofs.lemmas.List.Elements.{All-head}
 use Rattle.std.proofs.lemmas.List.Filters.{length-filter_both}
 use Rattle.std.proofs.lemmas.List.Sums.{sum_by-cons}
 use Rattle.std.proofs.lemmas.Simd.{map-map}
-use Rattle.cdc_ends.specs.Clients.{IsClient, Talk, done_if, request_for, requests_from}
+use Rattle.cdc_ends.specs.Clients.{done_if, requests_from}
 use Rattle.cdc_ends.specs.LedgerEnds.{batch_in, is_done, order_of}
 use Rattle.cdc_ends.specs.Orders.{RepliesHaveTheirBatches, batches_by, said_to}
 use Rattle.cdc_links.specs.Links.{CanSend, IsAccount, Incoming, Outgoing, of_sender}
@@ -20,7 +19,7 @@ use Rattle.cdc_traffic.specs.declared.messages.ToLedger.TheVariants as to_ledger
 use Rattle.cdc_traffic.specs.declared.pasts.Past.{Past}
 use Rattle.cdc_traffic.specs.declared.requests.Reply.{Reply}
 use Rattle.cdc_types.specs.declared.batches.Batch.{Batch}
-use Rattle.cdc_run.specs.Settling.{ClientsAreReplied, HasSettled, IsReplied, LedgerMail}
+use Rattle.cdc_run.specs.Settling.{ClientsAreReplied, LedgerMail}
 
 -- ---- the last message
 

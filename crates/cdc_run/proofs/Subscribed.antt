@@ -1,24 +1,23 @@
 -- What a subscriber of a run has heard, once all ends have finished.
-use Rattle.std.proofs.Common.{◌≡◌, ℕ, zero, suc, ◌+◌, ◌-◌, ◌<◌, ◌≤◌, Bool, true, false, List, [], ◌∷◌, ◌++◌, refl, sym, ap, ◌∙◌, subst, length, map, take, drop, append-nil, inl, inr, cond, arith}
-use Rattle.std.specs.Prelude.{◌⊎◌, ◌&&◌, ◌||◌, Option, Some, None, Contains, filter, fold, slice_get}
+use Rattle.std.proofs.Common.{◌≡◌, ℕ, zero, suc, ◌+◌, ◌-◌, ◌<◌, ◌≤◌, Bool, true, false, List, [], ◌∷◌, ◌++◌, refl, sym, ap, ◌∙◌, subst, length, map, take, append-nil, inl, inr, cond, arith}
+use Rattle.std.specs.Prelude.{◌⊎◌, ◌||◌, Option, Some, None, Contains, filter, fold, slice_get}
 use Rattle.std.specs.List.{list_any}
 use Rattle.std.proofs.Math.Seq.{take-length}
 use Rattle.std.proofs.lemmas.Bool.{and_parts, cases_Bool}
 use Rattle.std.proofs.lemmas.List.{length-append, length-map}
-use Rattle.std.proofs.lemmas.List.Elements.{Contains-append_left, Contains-append_right, Contains-push_cases}
+use Rattle.std.proofs.lemmas.List.Elements.{Contains-append_right, Contains-push_cases}
 use Rattle.cdc_broker.specs.Broker.{BrokerState, HasAccepted}
 use Rattle.cdc_broker.specs.Packets.{is_taken, items_of}
 use Rattle.cdc_broker.specs.Queues.{QueueState}
-use Rattle.cdc_ends.specs.SubscriberEnds.{AskedClose, ClosesAfter, DeliveriesAreHeard, UnaskedStayOpen, heard_by, is_asked}
+use Rattle.cdc_ends.specs.SubscriberEnds.{AskedClose, ClosesAfter, DeliveriesAreHeard, UnaskedStayOpen, heard_by}
 use Rattle.cdc_laws.specs.Arrivals.{taken_after, taken_of}
-use Rattle.cdc_laws.specs.Brokers.{HasArrived, HasHandedOut}
-use Rattle.cdc_laws.specs.ConnectorRuns.{IsConfirmed, Shown, sent_by}
-use Rattle.cdc_laws.specs.Connectors.{IsLive, KeepsTo, StandsLast, held_number, shown_of}
+use Rattle.cdc_laws.specs.Brokers.{HasHandedOut}
+use Rattle.cdc_laws.specs.ConnectorRuns.{Shown}
+use Rattle.cdc_laws.specs.Connectors.{IsLive, KeepsTo, held_number, shown_of}
 use Rattle.cdc_laws.specs.Deliveries.{deliveries, items_in}
 use Rattle.cdc_laws.specs.Faithful.{IsFaithful, applied}
 use Rattle.cdc_laws.specs.Hearing.{HasTaken, HearsOf, IsTrafficOf, Traffic}
 use Rattle.cdc_laws.specs.Line.{feed_of, line, told}
-use Rattle.cdc_laws.specs.Readings.{AreReadings}
 use Rattle.cdc_laws.specs.RunLaws.{SubscribersOfRunsAreFaithful}
 use Rattle.cdc_laws.specs.StepLaws.{ConnectorsMakeRuns}
 use Rattle.cdc_laws.proofs.Deliveries.{items_in-deliveries, length-deliveries}
@@ -32,21 +31,19 @@ use Rattle.cdc_laws.proofs.Taking.{item_taken, taken_after-false, taken_after-tr
 use Rattle.cdc_ledger.specs.History.{History}
 use Rattle.cdc_ledger.specs.Sound.{IsSound}
 use Rattle.cdc_links.specs.Links.{CanSend}
-use Rattle.cdc_match.specs.Arguments.{Arguments}
 use Rattle.cdc_match.specs.Queue.{queue, takes_item}
 use Rattle.cdc_match.proofs.FilterLaws.{IsReplay-filter}
 use Rattle.cdc_message.specs.declared.items.Delivery.{Delivery}
 use Rattle.cdc_message.specs.declared.items.Item.{Item}
 use Rattle.cdc_message.specs.declared.items.Item.TheVariants.{Event as OfEvent, EndMark}
 use Rattle.cdc_message.specs.declared.packets.Packet.{Packet}
-use Rattle.cdc_message.specs.declared.packets.Packet.TheVariants.{Connect, Publish}
-use Rattle.cdc_message.specs.Items.{events_of, same_item}
-use Rattle.cdc_message.specs.Replays.{IsPrefix, IsReplay, firsts}
+use Rattle.cdc_message.specs.declared.packets.Packet.TheVariants.{Publish}
+use Rattle.cdc_message.specs.Replays.{IsReplay}
 use Rattle.cdc_message.proofs.ReplayLaws.{IsReplay-trans}
-use Rattle.cdc_publisher.specs.Courses.{Course, is_confirmed, is_done, tags_sent}
+use Rattle.cdc_publisher.specs.Courses.{is_confirmed, tags_sent}
 use Rattle.cdc_subscriber.specs.Heard.{Heard, applied_of, has_ended, is_end}
 use Rattle.cdc_traffic.specs.Following.{FollowsToConnector, last_named}
-use Rattle.cdc_traffic.specs.Laws.{PastsGoOn, PollRepliesAreReadings, readings_of}
+use Rattle.cdc_traffic.specs.Laws.{PastsGoOn, PollRepliesAreReadings}
 use Rattle.cdc_traffic.specs.Pasts.{Continues, history_of}
 use Rattle.cdc_traffic.specs.declared.messages.ToConnector.{ToConnector}
 use Rattle.cdc_traffic.specs.declared.pasts.Past.{Past}
@@ -237,9 +234,11 @@ module _ (on : StandsOn) (p : Passage) (q : QueueState) (taken : List Delivery) 
   keeps : KeepsTo h p.connector
   keeps =
       let sent : List (ToConnector × Option Past) = p.received ++ is.front.rest in
-      let lawful : CanSend FollowsToConnector 0 sent = subst (CanSend FollowsToConnector 0) (sym is.front.whole) is.lawful in
+      let lawful : CanSend FollowsToConnector 0 sent =
+      subst (CanSend FollowsToConnector 0) (sym is.front.whole) is.lawful in
       let goes_on : Continues (last_named sent) p.past =
-      subst (λ (l : List (ToConnector × Option Past)). Continues (last_named l) p.past) (sym is.front.whole) is.goes_on in
+      subst (λ (l : List (ToConnector × Option Past)). Continues (last_named l) p.past) (sym is.front.whole)
+      is.goes_on in
       is.keeps h (on.readings p.received is.front.rest p.past lawful goes_on)
 
   is_traffic : IsTrafficOf h p.broker traffic
@@ -268,7 +267,8 @@ module _ (on : StandsOn) (p : Passage) (q : QueueState) (taken : List Delivery) 
       let items : List Item = items_of (taken_of p.arrived) in
       let took : IsReplay items (line h) = IsReplay-of_run h p.broker traffic sound is_traffic in
       let its : IsReplay heard.items (queue items q.binding) =
-      subst (IsReplay heard.items) (its_items p.broker items q is.arrives.queues among) (IsReplay-of_queue q heard hears) in
+      subst (IsReplay heard.items) (its_items p.broker items q is.arrives.queues among)
+      (IsReplay-of_queue q heard hears) in
       let of_line : IsReplay heard.items (queue (line h) q.binding) =
       IsReplay-trans heard.items (queue items q.binding) (queue (line h) q.binding) its
       (IsReplay-filter (takes_item q.binding) items (line h) took) in

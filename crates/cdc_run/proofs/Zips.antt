@@ -30,7 +30,8 @@ zip_unpush R (a ∷ xs) (b ∷ ys) x y all =
     ((all.0, rest.0), rest.1)
 
 -- lists that are the same
-pub same_zip : {A B : Type 0} (R : A → B → Type 0) (xs news : List A) (ys others : List B) → xs ≡ news → ys ≡ others → AllZip R xs ys
+pub same_zip : {A B : Type 0} (R : A → B → Type 0) (xs news : List A) (ys others : List B) → xs ≡ news → ys ≡ others
+    → AllZip R xs ys
     → AllZip R news others
 same_zip R xs news ys others one other all =
     subst (λ l. AllZip R l others) one (subst (λ l. AllZip R xs l) other all)

@@ -37,10 +37,10 @@ pub record Passage : Type 0 where
   pub arrived : List Packet
   pub confirms : List Confirm
 
--- so it is where each end has kept to its part: what was received is a beginning of what was sent, and the ledger's past
--- goes on from the one that it named last; the connector keeps to what it was answered, packets that arrived were sent,
--- confirms that came were sent, and the broker has taken and confirmed nothing else; and the end mark of the connector's
--- last session is confirmed
+-- so it is where each end has kept to its part: what was received is a beginning of what was sent, and the ledger's
+-- past goes on from the one that it named last; the connector keeps to what it was answered, packets that arrived were
+-- sent, confirms that came were sent, and the broker has taken and confirmed nothing else; and the end mark of the
+-- connector's last session is confirmed
 pub record HasPassed (p : Passage) : Type 0 where
   pub lawful : CanSend FollowsToConnector 0 p.sent
   pub front : IsPrefix p.received p.sent

@@ -23,9 +23,10 @@ module _ {M N : Type 0} where
     pub sender : outs ≡ map only_sender ins
     pub fresh : All (IsFresh 1) ins
 
--- of a run with n clients and m subscribers: to the ledger lead the connector, as number 0, and each client under its own number; to the connector the ledger, as
--- number 0, and the broker; to the broker the connector, as number 0, and each subscriber under its own number; and one
--- link leads from the ledger to each client, and from the broker to each subscriber
+-- of a run with n clients and m subscribers: to the ledger lead the connector, as number 0, and each client under its
+-- own number; to the connector the ledger, as number 0, and the broker; to the broker the connector, as number 0, and
+-- each subscriber under its own number; and one link leads from the ledger to each client, and from the broker to each
+-- subscriber
 pub record AreWired (n m : ℕ) (w : Wires) : Type 0 where
   pub to_ledger : IsFresh (n + 1) w.to_ledger
   pub polls : w.polls ≡ fresh_end w.to_ledger.link 0

@@ -87,9 +87,9 @@ pub(crate) struct Books {
     pub(crate) connector: LinkOut<ToConnector>,
 }
 
-/// Puts the ledger's end and the clients together, with the connector's end of the ledger's link. `NotOneSystem`: one is of
-/// another system, isn't finished, or has met a fault, or there are more or fewer clients than the ledger's end has, or in
-/// another order.
+/// Puts the ledger's end and the clients together, with the connector's end of the ledger's link. `NotOneSystem`: one
+/// is of another system, isn't finished, or has met a fault, or there are more or fewer clients than the ledger's end
+/// has, or in another order.
 pub(crate) fn settle_books(
     alloc: Global,
     ledger: LedgerEnd,

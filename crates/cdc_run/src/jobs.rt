@@ -39,8 +39,8 @@ impl<J: Job> Promise<Result<J::End, RunFault>> for Ended<J> {
     ghost kept_by = { λ p r. IfOk r (J.ends_as p.0.value) };
 }
 
-/// Works all jobs to their ends, each on a thread of its own, all at the same time. `ends` is an empty list with room for
-/// theirs. A thread that can't be started is a want of memory.
+/// Works all jobs to their ends, each on a thread of its own, all at the same time. `ends` is an empty list with room
+/// for theirs. A thread that can't be started is a want of memory.
 pub(crate) fn work_all<'s, E, J: Job + 's, R: Threads + Wait + Sync, G: Gate + Sync>(
     scope: &'s Scope<'s, E>,
     rt: &'s R,

@@ -1,5 +1,5 @@
-//! A run in threads: what it is asked for, the links between its ends, one thread for each end, and what all of them come
-//! to at the end.
+//! A run in threads: what it is asked for, the links between its ends, one thread for each end, and what all of them
+//! come to at the end.
 #![tactic(auto)]
 
 mod accounts;

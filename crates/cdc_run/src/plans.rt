@@ -5,8 +5,8 @@ ghost use Rattle.cdc_run.specs.Plans.{IsLeastClose, HasNoFaults};
 
 use std::alloc::Global;
 
-/// The faults that a run is to meet. Each count is over the whole run and begins with 1; an entry that names nothing has
-/// no effect, and one that is given twice counts once.
+/// The faults that a run is to meet. Each count is over the whole run and begins with 1; an entry that names nothing
+/// has no effect, and one that is given twice counts once.
 #[derive(Drop)]
 pub struct Faults {
     /// The confirm of the Nth accepted publish is lost.
@@ -35,8 +35,8 @@ impl Faults {
         }
     }
 
-    /// After how many applied events this subscriber is to close: the least number from 1 up that is given for it, if one
-    /// is.
+    /// After how many applied events this subscriber is to close: the least number from 1 up that is given for it, if
+    /// one is.
     pub fn close_after(&self, subscriber: u64) -> Option<u64>
         ensures { IsLeastClose subscriber self.now.close.items result }
     {

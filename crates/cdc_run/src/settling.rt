@@ -8,11 +8,11 @@ use cdc_ends::{ledger_end_laws, order_laws, subscriber_laws};
 use cdc_laws::{connector_laws, run_laws};
 use cdc_traffic::traffic_laws;
 
-/// Does nothing: each clause holds of the ends of a run that have all finished, whatever the order in which their threads
-/// came. There is one order of all batches, that in which the ledger's end has received them. Each client has the replies
-/// to its own batches in it, none of which was left out or came twice, and it has no batch of anyone else. Each
-/// subscriber is faithful against the ledger; it has ended where it wasn't asked to close, and where it was, it is closed
-/// with just as many events as it was asked for, if there are as many for it.
+/// Does nothing: each clause holds of the ends of a run that have all finished, whatever the order in which their
+/// threads came. There is one order of all batches, that in which the ledger's end has received them. Each client has
+/// the replies to its own batches in it, none of which was left out or came twice, and it has no batch of anyone else.
+/// Each subscriber is faithful against the ledger; it has ended where it wasn't asked to close, and where it was, it is
+/// closed with just as many events as it was asked for, if there are as many for it.
 pub fn settle_laws()
     ensures replied { ClientsAreReplied }
     ensures of_clients { OrdersAreOfClients }

@@ -1,4 +1,4 @@
-use Rattle.std.proofs.Common.{rules, ◌≡◌, ◌∙◌, [], ◌∷◌, ◌++◌, IfOk, ap, subst, sym, append-nil}
+use Rattle.std.proofs.Common.{rules, ◌∙◌, [], ◌∷◌, ◌++◌, sym, append-nil}
 use Rattle.std.specs.List.{AllZip}
 use Rattle.std.proofs.lemmas.List.{nil_from_length}
 use Rattle.std.proofs.lemmas.Result.{on_ok_weaker}
@@ -14,7 +14,8 @@ returns-in_default-pop g t c =
     let none = c.in_default-pop.ensures.items ∙ append-nil outs in
     absurd (none_before IsOnlySender ins c.in-Some.into
     (same_zip IsOnlySender c.args.ins.items (ins ++ c.in-Some.into ∷ []) c.args.outs.items []
-    c.in-Some.ensures.items (none ∙ nil_from_length outs (sym c.pop-2.new.self.ok.0 ∙ c.in_default-pop.ensures.cases.1)) c.requires))
+    c.in-Some.ensures.items
+    (none ∙ nil_from_length outs (sym c.pop-2.new.self.ok.0 ∙ c.in_default-pop.ensures.cases.1)) c.requires))
 
 pub settle_one-requires : goal.settle_one-requires
 settle_one-requires g t c =

@@ -1,4 +1,4 @@
-use Rattle.std.proofs.Common.{◌≡◌, ◌∙◌, List, [], ◌∷◌, ◌++◌, ap, ap₂, subst}
+use Rattle.std.proofs.Common.{◌≡◌, ◌∙◌, [], ◌∷◌, ◌++◌, ap₂, subst}
 use Rattle.cdc_links.specs.Links.{IsAccount}
 use Rattle.cdc_run.proofs.accounts.settle_one.Goals as goal
 

@@ -1,4 +1,4 @@
-use Rattle.std.proofs.Common.{◌≡◌, ◌∙◌, ℕ, true, List, [], ◌∷◌, sym, ap, subst, length, map, rules, arith}
+use Rattle.std.proofs.Common.{◌≡◌, ◌∙◌, ℕ, List, ◌∷◌, sym, ap, subst, length, map, rules, arith}
 use Rattle.std.specs.Prelude.{All}
 use Rattle.std.specs.List.{AllZip}
 use Rattle.cdc_ends.specs.Clients.{ClientState, Talk}
@@ -80,7 +80,7 @@ returns-clause-books c =
     c.in_ok-settle_each.ensures in
     let order : List (ℕ × Batch) = order_of ledger.desk.inbox.received in
     let books = c.settle_laws.ensures.books ledger.desk c.args.polls (talks_of clients)
-        (all_settled ledger c.args.polls clients are account.0 whole lawful answers) in
+    (all_settled ledger c.args.polls clients are account.0 whole lawful answers) in
     subst (λ (h : History). AreBooks order h (map (λ v. v.items) c.in_ok-mail.mail.replies.items)) (sym is.ledger_is)
     (subst (λ (replies : List (List Reply)). AreBooks order ledger.desk.ledger replies)
     (sym c.in_ok-mail.ensures.mail.replies) books)

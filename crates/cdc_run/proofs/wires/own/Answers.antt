@@ -1,5 +1,4 @@
-use Rattle.std.proofs.Common.{◌≡◌, ◌∙◌, arith}
-use Rattle.cdc_run.specs.Wires.{AreOwn}
+use Rattle.std.proofs.Common.{◌∙◌, arith}
 use Rattle.cdc_run.proofs.Fresh.{own_push}
 use Rattle.cdc_run.proofs.wires.own.Goals as goal
 
