@@ -189,7 +189,6 @@ module _ (c : Publishing) (course : Course) (is : IsPublishing c (Some course))
       polls = is.wired.polls;
       packets = is.wired.packets;
       one = is.wired.one;
-      gives_back = is.wired.gives_back;
     };
     said = is.said;
     answers = subst (λ cs. AreUnanswered (length (packets_in c.packets.sent)) (length cs) c.unanswered c.window)
@@ -198,11 +197,11 @@ module _ (c : Publishing) (course : Course) (is : IsPublishing c (Some course))
     runs = is.runs;
     first = is.first;
     poll = is.poll;
-    keeps = λ zero h are.
+    keeps = λ gives zero h are.
         let state : ConnectorState = connector_of c (Some course) in
         subst (λ cs. KeepsTo h (record state { confirms = cs })) (sym came.confirms)
         (KeepsToReadings-unused (readings_of (of_sender 0 c.inbox.received)) state (reading_of reply)
-        (is.keeps zero) h
+        (is.keeps gives zero) h
         (subst (λ rs. AreReadings rs h) came.readings are));
   }
 
@@ -237,7 +236,6 @@ module _ (c : Publishing) (course : Course) (is : IsPublishing c (Some course))
             polls = is.wired.polls;
             packets = is.wired.packets;
             one = is.wired.one;
-            gives_back = is.wired.gives_back;
           };
           said = is.said;
           answers = subst (λ cs. AreUnanswered (length (packets_in c.packets.sent)) (length cs) c.unanswered c.window)
@@ -254,11 +252,11 @@ module _ (c : Publishing) (course : Course) (is : IsPublishing c (Some course))
           };
           first = is.first;
           poll = λ poll there. absurd (none-some poll there);
-          keeps = λ zero h are.
+          keeps = λ gives zero h are.
               let state : ConnectorState = connector_of c (Some course) in
               subst (λ cs. KeepsTo h (record state { session = Some next; confirms = cs })) (sym came.confirms)
               (KeepsToReadings-offer (readings_of (of_sender 0 c.inbox.received)) state course (reading_of reply)
-              (is.keeps zero) refl (wanted.2 ∙ wants_after course wanted.0 wanted.1) h
+              (is.keeps gives zero) refl (wanted.2 ∙ wants_after course wanted.0 wanted.1) h
               (subst (λ rs. AreReadings rs h) came.readings are));
         }
 
@@ -326,7 +324,6 @@ module _ (c : Publishing) (course : Course) (is : IsPublishing c (Some course))
           polls = is.wired.polls;
           packets = is.wired.packets;
           one = is.wired.one;
-          gives_back = is.wired.gives_back;
         };
         said = is.said;
         answers = record {
@@ -344,11 +341,11 @@ module _ (c : Publishing) (course : Course) (is : IsPublishing c (Some course))
         first = is.first;
         poll = λ poll there.
             poll_stays course c.session c.asked poll confirm.session confirm.answer is.stands (is.poll poll there);
-        keeps = λ zero h are.
+        keeps = λ gives zero h are.
             let state : ConnectorState = connector_of c (Some course) in
             subst (λ cs. KeepsTo h (record state { session = Some answered; confirms = cs })) (sym came.confirms)
             (KeepsTo-confirm h state confirm
-            (is.keeps zero h (subst (λ rs. AreReadings rs h) came.readings are)));
+            (is.keeps gives zero h (subst (λ rs. AreReadings rs h) came.readings are)));
       }
 
 -- how far it has come is saved
@@ -365,6 +362,6 @@ IsPublishing-saved c course is =
       runs = record { number = is.runs.number; held = refl; told = is.runs.told };
       first = is.first;
       poll = is.poll;
-      keeps = λ zero h are.
-          KeepsTo-save h (connector_of c (Some course)) course (is.keeps (sym start ∙ zero) h are) refl;
+      keeps = λ gives zero h are.
+          KeepsTo-save h (connector_of c (Some course)) course (is.keeps gives (sym start ∙ zero) h are) refl;
     }

@@ -33,7 +33,7 @@ use Rattle.cdc_types.specs.declared.bounds.TheConstants.Limits.{WINDOW_TODAY}
 rises_as : (n : ℕ) (old new : Publishing) (held : Option Saved) → new.held ≡ held
     → held_number held ≡ held_number old.held + n → new.restarts ≡ old.restarts → new.published ≡ old.published
     → RisesBy n old new
-rises_as n old new held is number plan published =
+rises_as n old new held is number plan published = λ gives.
     let numbers : held_number new.held ≡ held_number old.held + n = ap held_number is ∙ number in
     let planned : planned_up_to new.restarts new.published ≡ planned_up_to old.restarts old.published =
     ap₂ planned_up_to plan published in
@@ -69,7 +69,14 @@ module _ (old : Publishing) (course : Course) (is : IsPublishing old (Some cours
               (add_none (held_number old.held)) (ap (λ (c : Publishing). c.restarts) after)
               (ap (λ (c : Publishing). c.published) after);
           same = subst (IsOfSame old) (sym after)
-              (record { polls = refl; packets = refl; start = refl; window = refl; restarts = refl });
+              (record {
+                polls = refl;
+                packets = refl;
+                honest = refl;
+                start = λ _. refl;
+                window = refl;
+                restarts = refl;
+              });
           unasked = λ other. absurd (other asked);
           still = λ moved. cc;
         }
@@ -87,7 +94,14 @@ module _ (old : Publishing) (course : Course) (is : IsPublishing old (Some cours
               (add_none (held_number old.held)) (ap (λ (c : Publishing). c.restarts) after)
               (ap (λ (c : Publishing). c.published) after);
           same = subst (IsOfSame old) (sym after)
-              (record { polls = refl; packets = refl; start = refl; window = refl; restarts = refl });
+              (record {
+                polls = refl;
+                packets = refl;
+                honest = refl;
+                start = λ _. refl;
+                window = refl;
+                restarts = refl;
+              });
           unasked = λ _. refl;
           still = λ _.
               (refl, after ∙ ap (λ (i : Incoming ToConnector (Option Past)). record old { inbox = i }) (sym here));
@@ -134,7 +148,7 @@ module _ (old : Publishing) (course : Course) (is : IsPublishing old (Some cours
     heard_only new after publishing ends =
         subst (IsHeard old course true) (sym after)
         (heard_of counted course 0 publishing refl refl (RisesBy-same old counted refl refl refl) ends
-        (record { polls = refl; packets = refl; start = refl; window = refl; restarts = refl }))
+        (record { polls = refl; packets = refl; honest = refl; start = λ _. refl; window = refl; restarts = refl }))
 
 module _ (old : Publishing) (course : Course) (is : IsPublishing old (Some course))
     (inbox : Incoming ToConnector (Option Past)) (session unanswered : ℕ)
@@ -176,7 +190,8 @@ module _ (old : Publishing) (course : Course) (is : IsPublishing old (Some cours
       (record {
         polls = refl;
         packets = refl;
-        start = start_known old.first old.held held is.first;
+        honest = refl;
+        start = λ _. start_known old.first old.held held is.first;
         window = refl;
         restarts = refl;
       }))
@@ -198,6 +213,7 @@ module _ (old : Publishing) (course : Course) (is : IsPublishing old (Some cours
       (record {
         polls = goes.polls;
         packets = goes.packets;
+        honest = goes.honest;
         start = goes.start;
         window = goes.window;
         restarts = goes.restarts;
@@ -327,14 +343,14 @@ module _ (old mid new : Publishing) (working : old.finished ≡ false) where
   followed_turn : (s : Option Kept) → IsBegunOrReceived s old true mid → IsFollowed mid new → IsWorkingTurn s old new
   followed_turn None is on = record {
     inbox = on.goes_on.inbox ∙ is.inbox;
-    sessions = RisesBy-trans 1 0 old mid new is.sessions on.sessions;
+    sessions = RisesBy-trans 1 0 old mid new is.same.honest is.sessions on.sessions;
     same = same_trans old mid new is.same (same_of mid new on.goes_on);
   }
   followed_turn (Some kept) is on = record {
     message = is.message;
     takes = subst (Takes FollowsToConnector old.inbox is.message) (sym on.goes_on.inbox) is.takes;
     sessions = subst (λ n. RisesBy n old new) (sym (add_none (ended_by (held_number old.held) is.message)))
-        (RisesBy-trans (ended_by (held_number old.held) is.message) 0 old mid new is.sessions on.sessions);
+        (RisesBy-trans (ended_by (held_number old.held) is.message) 0 old mid new is.same.honest is.sessions on.sessions);
     unasked = λ other. let moved = is.unasked other in cc;
     same = same_trans old mid new is.same (same_of mid new on.goes_on);
   }
@@ -376,13 +392,13 @@ took inside now new message other same is takes =
 
 -- ---- it begins
 
--- nothing was said yet, over whatever an honest store holds
+-- nothing was said yet, over whatever a store holds
 pub begins : (inbox : Incoming ToConnector (Option Past)) (polls : Outgoing ToLedger (Unit {0}))
     (packets : Outgoing ToBroker (Unit {0})) (held : Option Saved) (honest : Bool) (window : ℕ) (restarts : List ℕ)
     → inbox.received ≡ [] → inbox.senders ≡ 2 → polls.number ≡ 0 → polls.sent ≡ [] → packets.number ≡ 0
-    → packets.sent ≡ [] → honest ≡ true → window ≡ WINDOW_TODAY
+    → packets.sent ≡ [] → window ≡ WINDOW_TODAY
     → IsConnectorEnd (first_work inbox polls packets held honest window restarts)
-begins inbox polls packets held honest window restarts fresh two to_ledger asked to_broker published gives one =
+begins inbox polls packets held honest window restarts fresh two to_ledger asked to_broker published one =
     let no_packets : packets_in packets.sent ≡ [] =
     ap (λ (l : List (ToBroker × Unit {0})). packets_in l) published in
     let no_confirms : confirms_in (of_sender 1 inbox.received) ≡ [] =
@@ -390,7 +406,7 @@ begins inbox polls packets held honest window restarts fresh two to_ledger asked
     record {
       course = None;
       publishing = record {
-        wired = record { two = two; polls = to_ledger; packets = to_broker; one = one; gives_back = gives };
+        wired = record { two = two; polls = to_ledger; packets = to_broker; one = one };
         said = subst (λ (l : List (ToLedger × Unit {0})). HasSent l packets.sent 0 false) (sym asked)
             (subst (λ (l : List (ToBroker × Unit {0})). HasSent [] l 0 false) (sym published)
             (record { asked = refl; sent = refl; counted = refl }));
@@ -403,7 +419,7 @@ begins inbox polls packets held honest window restarts fresh two to_ledger asked
         runs = tt;
         first = refl;
         poll = λ poll there. absurd (none-some poll there);
-        keeps = λ zero h are.
+        keeps = λ gives zero h are.
             subst (λ ps. KeepsTo h (record {
               held = held;
               session = None;

@@ -1,5 +1,5 @@
 -- How a session of a connector starts.
-use Rattle.std.proofs.Common.{◌≡◌, ℕ, Bool, true, Option, Some, None, sym, ap, ◌∙◌, subst}
+use Rattle.std.proofs.Common.{◌≡◌, ℕ, Bool, Option, Some, None, subst}
 use Rattle.std.specs.Prelude.{unwrap_or}
 use Rattle.cdc_ends.specs.ConnectorEnds.{Publishing, SessionStands}
 use Rattle.cdc_ends.specs.ConnectorMoves.{IsBegun}
@@ -12,9 +12,8 @@ use Rattle.cdc_publisher.specs.Starts.{HasStarted}
 pub begun_entry : (inside now new : Publishing) → inside ≡ now → IsBegun inside new → IsBegun now new
 begun_entry inside now new same begun = subst (λ (c : Publishing). IsBegun c new) same begun
 
--- a session has started over an honest store: the next number is held
+-- a session has started: the number after the one that was loaded is held
 pub begun_so : (old : Publishing) (kept : Kept) (held : Option Saved) (honest : Bool) (base failed failed' : ℕ)
-    → old.honest ≡ true
     → HasStarted (record {
       honest = old.honest;
       before = old.held;
@@ -32,12 +31,13 @@ pub begun_so : (old : Publishing) (kept : Kept) (held : Option Saved) (honest : 
       asked = 0;
       poll = None;
     })
-begun_so old kept held honest base failed failed' gives has same is_base =
-    let begins : begun old.held ≡ Some has.saved = ap begun (sym (has.given gives)) ∙ has.begins in
+begun_so old kept held honest base failed failed' has same is_base =
     let based : base ≡ unwrap_or old.first has.saved.timestamp = is_base (new_course has.saved old.window) has.stands in
     record {
+      loaded = has.loaded;
       saved = has.saved;
-      begins = begins;
+      given = has.given;
+      begins = has.begins;
       stands = has.stands;
       after = λ i. record old {
         first = Some (based i);

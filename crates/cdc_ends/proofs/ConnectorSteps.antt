@@ -47,11 +47,15 @@ start_kept : (first : Option ℕ) (held : Option Saved) (saved : Saved) → begu
     → unwrap_or first saved.timestamp ≡ start_of first held
 start_kept first held saved begins = ap (unwrap_or first) (begun_parts held saved begins).1
 
+-- an honest store gives what it holds
+begins_over : (old new : Publishing) (on : IsBegun old new) → old.honest ≡ true → begun old.held ≡ Some on.saved
+begins_over old new on gives = ap begun (sym (on.given gives)) ∙ on.begins
+
 pub IsPublishing-begun : (old new : Publishing) (course : Option Course) (is : IsPublishing old course)
     (on : IsBegun old new) → IsPublishing new (Some (new_course on.saved old.window))
 IsPublishing-begun old new course is on =
     let next : Course = new_course on.saved old.window in
-    let parts = begun_parts old.held on.saved on.begins in
+    let parts = begun_parts on.loaded on.saved on.begins in
     subst (λ (c : Publishing). IsPublishing c (Some next)) (sym on.after)
     (record {
       wired = is.wired;
@@ -65,9 +69,10 @@ IsPublishing-begun old new course is on =
       };
       first = (unwrap_or old.first on.saved.timestamp, refl);
       poll = λ poll there. absurd (none-some poll there);
-      keeps = λ zero h are.
+      keeps = λ gives zero h are.
           KeepsTo-start h (connector_of old course) on.saved old.window
-          (is.keeps (sym (start_kept old.first old.held on.saved on.begins) ∙ zero) h are) on.begins;
+          (is.keeps gives (sym (start_kept old.first old.held on.saved (begins_over old new on gives)) ∙ zero) h are)
+          (begins_over old new on gives);
     })
 
 pub GoesOn-begun : (old new : Publishing) → IsBegun old new → GoesOn old new
@@ -77,7 +82,8 @@ GoesOn-begun old new on =
       inbox = refl;
       polls = refl;
       packets = refl;
-      start = start_kept old.first old.held on.saved on.begins;
+      honest = refl;
+      start = λ gives. start_kept old.first old.held on.saved (begins_over old new on gives);
       window = refl;
       restarts = refl;
     })
@@ -244,10 +250,10 @@ module _ (c : Publishing) (course : Course) (is : IsPublishing c (Some course)) 
           runs = record { number = is.runs.number; held = is.runs.held; told = is.runs.told };
           first = is.first;
           poll = λ poll there. poll_kept course c.session c.asked poll packet is.stands next (is.poll poll there);
-          keeps = λ zero h are.
+          keeps = λ gives zero h are.
               let state : ConnectorState = connector_of c (Some course) in
               subst (λ ps. KeepsTo h (record state { session = Some next_course; sent = ps })) (sym more)
-              (KeepsTo-sent h state (is.keeps zero h are) course refl packet next);
+              (KeepsTo-sent h state (is.keeps gives zero h are) course refl packet next);
         }
 
     -- a poll was sent for what it wants
@@ -282,7 +288,7 @@ module _ (c : Publishing) (course : Course) (is : IsPublishing c (Some course)) 
           runs = is.runs;
           first = is.first;
           poll = is.poll;
-          keeps = λ zero h are.
+          keeps = λ gives zero h are.
               let state : ConnectorState = connector_of c (Some course) in
-              subst (λ ps. KeepsTo h (record state { sent = ps })) (sym same) (is.keeps zero h are);
+              subst (λ ps. KeepsTo h (record state { sent = ps })) (sym same) (is.keeps gives zero h are);
         }

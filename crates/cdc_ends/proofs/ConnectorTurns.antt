@@ -20,14 +20,23 @@ use Rattle.cdc_traffic.specs.declared.polls.Poll.{Poll}
 -- what a connector leaves alone stays so by step after step
 pub GoesOn-same : (c : Publishing) → GoesOn c c
 GoesOn-same c =
-    record { inbox = refl; polls = refl; packets = refl; start = refl; window = refl; restarts = refl }
+    record {
+      inbox = refl;
+      polls = refl;
+      packets = refl;
+      honest = refl;
+      start = λ _. refl;
+      window = refl;
+      restarts = refl;
+    }
 
 pub GoesOn-trans : (a b c : Publishing) → GoesOn a b → GoesOn b c → GoesOn a c
 GoesOn-trans a b c one two = record {
   inbox = two.inbox ∙ one.inbox;
   polls = two.polls ∙ one.polls;
   packets = two.packets ∙ one.packets;
-  start = two.start ∙ one.start;
+  honest = two.honest ∙ one.honest;
+  start = λ gives. two.start (one.honest ∙ gives) ∙ one.start gives;
   window = two.window ∙ one.window;
   restarts = two.restarts ∙ one.restarts;
 }
@@ -37,14 +46,18 @@ GoesOn-trans a b c one two = record {
 -- a connector that leaves both alone begins no session
 pub RisesBy-same : (old new : Publishing) → new.held ≡ old.held → new.restarts ≡ old.restarts
     → new.published ≡ old.published → RisesBy 0 old new
-RisesBy-same old new held plan published =
+RisesBy-same old new held plan published = λ gives.
     let number : held_number new.held ≡ held_number old.held = ap held_number held in
     let planned : planned_up_to new.restarts new.published ≡ planned_up_to old.restarts old.published =
     ap₂ planned_up_to plan published in
     omega (arith, number, planned)
 
-pub RisesBy-trans : (n m : ℕ) (a b c : Publishing) → RisesBy n a b → RisesBy m b c → RisesBy (n + m) a c
-RisesBy-trans n m a b c one two = omega (arith, one, two)
+pub RisesBy-trans : (n m : ℕ) (a b c : Publishing) → b.honest ≡ a.honest → RisesBy n a b → RisesBy m b c
+    → RisesBy (n + m) a c
+RisesBy-trans n m a b c same one two = λ gives.
+    let first = one gives in
+    let then_on = two (same ∙ gives) in
+    omega (arith, first, then_on)
 
 -- the next number is held
 next_number : (held : Option Saved) (saved : Saved) → begun held ≡ Some saved → saved.session ≡ held_number held + 1
@@ -60,9 +73,11 @@ next_number (Some held) saved is = either (held.session == last_session) is
 
 -- so one session has begun
 pub RisesBy-begun : (old new : Publishing) → IsBegun old new → RisesBy 1 old new
-RisesBy-begun old new on =
+RisesBy-begun old new on = λ gives.
     let number : held_number new.held ≡ held_number old.held + 1 =
-    ap (λ (c : Publishing). held_number c.held) on.after ∙ next_number old.held on.saved on.begins in
+    ap (λ (c : Publishing). held_number c.held) on.after
+    ∙ next_number on.loaded on.saved on.begins
+    ∙ ap (λ o. held_number o + 1) (on.given gives) in
     let planned : planned_up_to new.restarts new.published ≡ planned_up_to old.restarts old.published =
     ap (λ (c : Publishing). planned_up_to c.restarts c.published) on.after in
     omega (arith, number, planned)
@@ -99,7 +114,15 @@ module _ (old mid : Publishing) (sending : IsSending old) (room : old.unanswered
         };
         none = λ _. is;
         one = λ is_sent. cc;
-        goes_on = record { inbox = refl; polls = refl; packets = refl; start = refl; window = refl; restarts = refl };
+        goes_on = record {
+          inbox = refl;
+          polls = refl;
+          packets = refl;
+          honest = refl;
+          start = λ _. refl;
+          window = refl;
+          restarts = refl;
+        };
         held = refl;
         count = 0;
         few = omega arith;
@@ -117,7 +140,15 @@ module _ (old mid : Publishing) (sending : IsSending old) (room : old.unanswered
         };
         none = λ unsent. cc;
         one = λ _. refl;
-        goes_on = record { inbox = refl; polls = refl; packets = refl; start = refl; window = refl; restarts = refl };
+        goes_on = record {
+          inbox = refl;
+          polls = refl;
+          packets = refl;
+          honest = refl;
+          start = λ _. refl;
+          window = refl;
+          restarts = refl;
+        };
         held = refl;
         count = publish_count packet;
         few = at_most_one (is_publish packet);
@@ -199,7 +230,7 @@ module _ (old mid : Publishing) (is : IsSentBefore old true mid) where
         none = is.none;
         one = is.one;
         goes_on = is.goes_on;
-        sessions = omega (arith, planned, number);
+        sessions = λ gives. omega (arith, planned, number);
       }
 
   -- one is
@@ -218,7 +249,8 @@ module _ (old mid : Publishing) (is : IsSentBefore old true mid) where
         none = λ unsent. cc;
         one = λ sent. unanswered ∙ is.one sent;
         goes_on = GoesOn-trans old mid new is.goes_on (GoesOn-begun mid new on);
-        sessions = omega (arith, RisesBy-begun mid new on, planned, number);
+        sessions = λ gives.
+            let rise = RisesBy-begun mid new on (is.goes_on.honest ∙ gives) in omega (arith, rise, planned, number);
       }
 
 -- ---- packets as long as there is one
@@ -230,7 +262,7 @@ all_sent old here new on rise is = record {
   sends = is.sends;
   all = inl (is.none refl);
   goes_on = GoesOn-trans old here new on is.goes_on;
-  sessions = RisesBy-trans 0 0 old here new rise is.sessions;
+  sessions = RisesBy-trans 0 0 old here new on.honest rise is.sessions;
 }
 
 -- ---- what is asked
@@ -275,7 +307,15 @@ module _ (c : Publishing) (sends : IsSending c) where
         working = sends.working;
         poll = sym is;
         unanswered = refl;
-        goes_on = record { inbox = refl; polls = refl; packets = refl; start = refl; window = refl; restarts = refl };
+        goes_on = record {
+          inbox = refl;
+          polls = refl;
+          packets = refl;
+          honest = refl;
+          start = λ _. refl;
+          window = refl;
+          restarts = refl;
+        };
         sessions = RisesBy-same c new refl refl refl;
       }
 
@@ -310,11 +350,20 @@ module _ (old sent asked : Publishing) (are : AreSent old sent) (is : IsAskedFor
     goes_on = GoesOn-trans old asked (finished_if done asked) (GoesOn-trans old sent asked are.goes_on is.goes_on)
         (goes done);
     sessions = RisesBy-trans 0 0 old asked (finished_if done asked)
-        (RisesBy-trans 0 0 old sent asked are.sessions is.sessions) (rises done);
+        (is.goes_on.honest ∙ are.goes_on.honest)
+        (RisesBy-trans 0 0 old sent asked are.goes_on.honest are.sessions is.sessions) (rises done);
   }
     where
       goes : (b : Bool) → GoesOn asked (finished_if b asked)
-      goes true = record { inbox = refl; polls = refl; packets = refl; start = refl; window = refl; restarts = refl }
+      goes true = record {
+        inbox = refl;
+        polls = refl;
+        packets = refl;
+        honest = refl;
+        start = λ _. refl;
+        window = refl;
+        restarts = refl;
+      }
       goes false = GoesOn-same asked
 
       rises : (b : Bool) → RisesBy 0 asked (finished_if b asked)
@@ -346,13 +395,21 @@ if_ok_then (Err e) P Q then_so so = tt
 
 pub same_of : (old new : Publishing) → GoesOn old new → IsOfSame old new
 same_of old new on =
-    record { polls = on.polls; packets = on.packets; start = on.start; window = on.window; restarts = on.restarts }
+    record {
+      polls = on.polls;
+      packets = on.packets;
+      honest = on.honest;
+      start = on.start;
+      window = on.window;
+      restarts = on.restarts;
+    }
 
 pub same_trans : (a b c : Publishing) → IsOfSame a b → IsOfSame b c → IsOfSame a c
 same_trans a b c one two = record {
   polls = two.polls ∙ one.polls;
   packets = two.packets ∙ one.packets;
-  start = two.start ∙ one.start;
+  honest = two.honest ∙ one.honest;
+  start = λ gives. two.start (one.honest ∙ gives) ∙ one.start gives;
   window = two.window ∙ one.window;
   restarts = two.restarts ∙ one.restarts;
 }

@@ -103,10 +103,10 @@ abbrev pub planned_up_to : List ℕ → ℕ → ℕ
 planned_up_to plan zero = 0
 planned_up_to plan (suc n) = planned_up_to plan n + (if list_any (λ other. other == suc n) plan then 1 else 0)
 
--- the number of the session that is held rises by one after each publish packet that the plan names, and by so much
--- besides
+-- where the store is honest, the number of the session that it holds rises by one after each publish packet that the
+-- plan names, and by so much besides
 abbrev pub RisesBy : ℕ → Publishing → Publishing → Type 0
-RisesBy n old new =
+RisesBy n old new = old.honest ≡ true →
     held_number new.held + planned_up_to old.restarts old.published
     ≡ held_number old.held + planned_up_to new.restarts new.published + n
 
@@ -165,13 +165,12 @@ poll_for (Some course) number = option_map
 
 -- ---- what a connector's end keeps
 
--- the numbers of its ends and of those who send to it, its window, and that its store is honest
-pub record IsWired (senders to_ledger to_broker window : ℕ) (honest : Bool) : Type 0 where
+-- the numbers of its ends and of those who send to it, and its window
+pub record IsWired (senders to_ledger to_broker window : ℕ) : Type 0 where
   pub two : senders ≡ 2
   pub polls : to_ledger ≡ 0
   pub packets : to_broker ≡ 0
   pub one : window ≡ WINDOW_TODAY
-  pub gives_back : honest ≡ true
 
 -- it has sent polls to the ledger and packets to the broker, so many publish packets among them, and then, once it has
 -- finished, that it is done
@@ -195,10 +194,11 @@ connector_of c course = record {
   confirms = confirms_in (of_sender 1 c.inbox.received);
 }
 
--- at each moment: where its store held the timestamp 0 as the run began, it keeps to every history of which the replies
--- to polls that it has received are readings; and an open poll is the latest of its session, for what that wants
+-- at each moment: where its store is honest, and held the timestamp 0 as the run began, it keeps to every history of
+-- which the replies to polls that it has received are readings; and an open poll is the latest of its session, for what
+-- that wants
 pub record IsPublishing (c : Publishing) (course : Option Course) : Type 0 where
-  pub wired : IsWired c.inbox.senders c.polls.number c.packets.number c.window c.honest
+  pub wired : IsWired c.inbox.senders c.polls.number c.packets.number c.window
   pub said : HasSent c.polls.sent c.packets.sent c.published c.finished
   pub answers : AreUnanswered (length (packets_in c.packets.sent))
       (length (confirms_in (of_sender 1 c.inbox.received))) c.unanswered c.window
@@ -206,12 +206,12 @@ pub record IsPublishing (c : Publishing) (course : Option Course) : Type 0 where
   pub runs : IsRunningIn c.held course
   pub first : IsFirstIn c.first course
   pub poll : (poll : Poll) → c.poll ≡ Some poll → poll_for course c.asked ≡ Some poll
-  pub keeps : start_of c.first c.held ≡ 0
+  pub keeps : c.honest ≡ true → start_of c.first c.held ≡ 0
       → KeepsToReadings (readings_of (of_sender 0 c.inbox.received)) (connector_of c course)
 
--- between two turns nothing is left to send. Before the first one nothing was sent or received. After it a session runs:
--- what it wants was asked for; it has no packet to send, or there is no room for one; and the connector has finished
--- just where the end mark of its session was confirmed and every packet has its confirm
+-- between two turns nothing is left to send. Before the first one nothing was sent or received. After it a session
+-- runs: what it wants was asked for; it has no packet to send, or there is no room for one; and the connector has
+-- finished just where the end mark of its session was confirmed and every packet has its confirm
 pub record HasFollowed (c : Publishing) (course : Course) : Type 0 where
   pub asked : c.poll ≡ poll_for (Some course) c.asked
   pub sent : (next_packet course ≡ None) ⊎ (c.unanswered ≡ c.window + 1)
@@ -235,12 +235,13 @@ pub record IsConnectorEnd (c : Publishing) : Type 0 where
 
 -- ---- a turn
 
--- whichever turn it is, these stay: which links its ends are of, the timestamp that its store held as the run began,
--- its window and its plan of restarts
+-- whichever turn it is, these stay: which links its ends are of, whether its store is honest, and of an honest one the
+-- timestamp that it held as the run began, its window and its plan of restarts
 pub record IsOfSame (old new : Publishing) : Type 0 where
   pub polls : new.polls.link ≡ old.polls.link
   pub packets : new.packets.link ≡ old.packets.link
-  pub start : start_of new.first new.held ≡ start_of old.first old.held
+  pub honest : new.honest ≡ old.honest
+  pub start : old.honest ≡ true → start_of new.first new.held ≡ start_of old.first old.held
   pub window : new.window ≡ old.window
   pub restarts : new.restarts ≡ old.restarts
 
@@ -290,9 +291,9 @@ pub record ArePartsOf (c : Publishing) (inbox : Incoming ToConnector (Option Pas
   pub sent : packets ≡ c.packets
   pub holds : saved ≡ c.held
 
--- a connector that has finished: its last session is done, each of its packets has its confirm, and behind its polls and
--- its packets stand its last messages; and it keeps to every history of which the replies that it has received are
--- readings, where its store held the timestamp 0 as the run began
+-- a connector that has finished: its last session is done, each of its packets has its confirm, and behind its polls
+-- and its packets stand its last messages; and it keeps to every history of which the replies that it has received are
+-- readings, where its store is honest and held the timestamp 0 as the run began
 pub record IsDone (c : Publishing) : Type 0 where
   pub course : Course
   pub done : is_done course ≡ true
@@ -301,7 +302,7 @@ pub record IsDone (c : Publishing) : Type 0 where
       ≡ map to_ledger.Poll (polls_in c.polls.sent) ++ to_ledger.Finish ∷ []
   pub sent : map (λ m. m.0) c.packets.sent
       ≡ map to_broker.Packet (packets_in c.packets.sent) ++ to_broker.Finish ∷ []
-  pub keeps : start_of c.first c.held ≡ 0
+  pub keeps : c.honest ≡ true → start_of c.first c.held ≡ 0
       → KeepsToReadings (readings_of (of_sender 0 c.inbox.received)) (connector_of c (Some course))
 
 abbrev pub FinishedConnectorsAreDone : Type 0

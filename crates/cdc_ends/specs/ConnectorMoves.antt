@@ -30,14 +30,17 @@ pub record GoesOn (old new : Publishing) : Type 0 where
   pub inbox : new.inbox ≡ old.inbox
   pub polls : new.polls.link ≡ old.polls.link
   pub packets : new.packets.link ≡ old.packets.link
-  pub start : start_of new.first new.held ≡ start_of old.first old.held
+  pub honest : new.honest ≡ old.honest
+  pub start : old.honest ≡ true → start_of new.first new.held ≡ start_of old.first old.held
   pub window : new.window ≡ old.window
   pub restarts : new.restarts ≡ old.restarts
 
--- the next session has started, under a number that is held now
+-- the next session has started after what the store gave, under a number that is held now
 pub record IsBegun (old new : Publishing) : Type 0 where
+  pub loaded : Option Saved
   pub saved : Saved
-  pub begins : begun old.held ≡ Some saved
+  pub given : old.honest ≡ true → loaded ≡ old.held
+  pub begins : begun loaded ≡ Some saved
   pub stands : SessionStands new.session (Some (new_course saved old.window))
   pub after : new ≡ record old {
     first = Some (unwrap_or old.first saved.timestamp);

@@ -36,7 +36,7 @@ impl<S: ProgressStore> Model for ConnectorEnd<S> {
 }
 
 impl<S: ProgressStore> ConnectorEnd<S> {
-    /// The end of a connector that has said nothing yet, over an honest store. A session waits for `window` events at a
+    /// The end of a connector that has said nothing yet, over its store. A session waits for `window` events at a
     /// time. The connector restarts after its publish packets of the numbers in `restart_after`, which are counted from
     /// 1 over the whole run: it drops its session and starts the next.
     pub fn new(
@@ -54,7 +54,6 @@ impl<S: ProgressStore> ConnectorEnd<S> {
         requires asked { polls.sent ≡ [] }
         requires to_broker { packets.number ≡ 0 }
         requires published { packets.sent ≡ [] }
-        requires honest { S.is_honest store ≡ true }
         requires window { window ≡ limits.WINDOW_TODAY }
         ensures { result ≡ record {
           system = system;

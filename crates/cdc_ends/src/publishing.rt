@@ -243,8 +243,7 @@ impl<S: ProgressStore> Publishing<S> {
 
     /// Starts the next session in the place of the one that runs, if one does.
     fn begin(&mut self, alloc: Global) -> Result<(), RunFault>
-        requires window { self.old.window ≡ limits.WINDOW_TODAY }
-        requires honest { self.old.honest ≡ true }
+        requires { self.old.window ≡ limits.WINDOW_TODAY }
         ensures { IfOk result (λ _. IsBegun self.old self.new) }
     {
         let session = Session::start(alloc, &mut self.store, self.window)?;
@@ -399,8 +398,7 @@ impl<S: ProgressStore> Publishing<S> {
 
     /// A packet of a session was lost: where it is the one that runs, the next one starts.
     fn break_off(&mut self, alloc: Global, session: u64) -> Result<(), RunFault>
-        requires window { self.old.window ≡ limits.WINDOW_TODAY }
-        requires honest { self.old.honest ≡ true }
+        requires { self.old.window ≡ limits.WINDOW_TODAY }
         ensures { (course : Course) → SessionStands self.old.session (Some course)
             → IfOk result (λ _. IsAnswerTaken self.old course session Broken self.new) }
     {
@@ -412,8 +410,7 @@ impl<S: ProgressStore> Publishing<S> {
 
     /// Takes a confirm. One that answers no packet is none that was asked for.
     fn take_confirm(&mut self, alloc: Global, confirm: Confirm) -> Result<(), RunFault>
-        requires window { self.old.window ≡ limits.WINDOW_TODAY }
-        requires honest { self.old.honest ≡ true }
+        requires { self.old.window ≡ limits.WINDOW_TODAY }
         ensures { (course : Course) → SessionStands self.old.session (Some course)
             → IfOk result (λ _. IsConfirmTaken self.old course confirm self.new) }
     {

@@ -1,5 +1,3 @@
-use Rattle.std.proofs.Common.{ap, ◌∙◌}
-use Rattle.cdc_ends.specs.ConnectorEnds.{Publishing}
 use Rattle.cdc_ends.proofs.ConnectorSessions.{begun_entry, begun_so}
 use Rattle.cdc_ends.proofs.publishing.Publishing.begin.Goals as goal
 
@@ -7,5 +5,5 @@ pub returns : goal.returns
 returns g c =
     begun_entry _ c.args.self.now _ c.self.view_is
     (begun_so _ c.in_ok-session.session _ _ c.first_base.result _ _
-    (ap (λ (w : Publishing). w.honest) c.self.view_is ∙ c.requires.honest) c.in_ok-session.ensures.ok
+    c.in_ok-session.ensures.ok
     c.in_ok-session.ensures.honest c.first_base.ensures)
