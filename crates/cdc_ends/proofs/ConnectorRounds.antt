@@ -349,8 +349,10 @@ module _ (old mid new : Publishing) (working : old.finished ≡ false) where
   followed_turn (Some kept) is on = record {
     message = is.message;
     takes = subst (Takes FollowsToConnector old.inbox is.message) (sym on.goes_on.inbox) is.takes;
-    sessions = subst (λ n. RisesBy n old new) (sym (add_none (ended_by (held_number old.held) is.message)))
-        (RisesBy-trans (ended_by (held_number old.held) is.message) 0 old mid new is.same.honest is.sessions on.sessions);
+    sessions =
+        let n = ended_by (held_number old.held) is.message in
+        subst (λ m. RisesBy m old new) (sym (add_none n))
+        (RisesBy-trans n 0 old mid new is.same.honest is.sessions on.sessions);
     unasked = λ other. let moved = is.unasked other in cc;
     same = same_trans old mid new is.same (same_of mid new on.goes_on);
   }
