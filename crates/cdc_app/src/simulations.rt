@@ -1,8 +1,8 @@
 //! Simulations: a world over the batches of a script, moved by the acts of a step file.
 
-ghost use Rattle.std.specs.Prelude.{◌≡◌, ◌^◌, ◌<◌, ◌≤◌, ℕ, IfErr, IfOk, OnOk, Some, length};
+ghost use Rattle.std.specs.Prelude.{◌≡◌, ◌^◌, ◌<◌, ◌≤◌, ℕ, IfErr, IfOk, OnErr, OnOk, Some, length};
 ghost use Rattle.cdc_app.specs.Options.{IsWindow};
-ghost use Rattle.cdc_app.specs.Private.Stages.{IsAt, IsSimulationFault};
+ghost use Rattle.cdc_app.specs.Private.Stages.{GivesUpAt, IsAt, IsDoneAt, IsSimulationFault};
 ghost use Rattle.cdc_app.specs.Simulations.{ActsTo, AnswersTo, PlaysActs, Simulates, Stage};
 ghost use Rattle.cdc_app.specs.Simulations.{at_start, simulation_text};
 
@@ -26,7 +26,8 @@ pub struct Simulated {
     pub refusal: Option<StepError>,
 }
 
-/// A world on its way, whose store is honest. A clause sees the world, how many batches are done, and the lines' bytes.
+/// A world on its way, whose store is honest, lacks no memory and has no faults. A clause sees the world, how many
+/// batches are done, and the lines' bytes.
 #[derive(Drop)]
 pub struct Simulation {
     /// The world.
@@ -49,7 +50,10 @@ impl Model for Simulation {
       lines = string_bytes simulation.lines;
     } };
 
-    ghost invariant = { λ simulation. simulation.world.honest ≡ true };
+    ghost use Rattle.cdc_progress.specs.Stores.{no_risks};
+
+    ghost invariant = { λ simulation. (simulation.world.honest ≡ true)
+        × (simulation.world.risks ≡ no_risks) };
 }
 
 /// What is printed of a script that is taken step by step.
@@ -115,7 +119,8 @@ impl Simulation {
         })
     }
 
-    /// Plays an act, or says why it is refused.
+    /// Plays an act, or says why it is refused: for want of memory too. It gives up where there is none for what is
+    /// printed of an act that is done, or to copy a batch.
     fn play_act(
         &mut self,
         alloc: Global,
@@ -126,6 +131,8 @@ impl Simulation {
         ensures acts { (stage : Stage) → IsAt self.old stage → IfOk result (λ refusal.
             (after : Stage) × (IsAt self.new after
             × ActsTo batches.now stage act.now refusal after)) }
+        ensures gives_up { (stage : Stage) → IsAt self.old stage
+            → OnErr result (GivesUpAt batches.now stage act.now) }
         ensures within { OnOk result (self.new.batches ≤ length batches.now) }
     {
         match act {
@@ -144,7 +151,8 @@ impl Simulation {
         }
     }
 
-    /// Takes a step, after which so many batches are done, or says why it is refused.
+    /// Takes a step, after which so many batches are done, or says why it is refused, for want of memory too. It gives
+    /// up where there is none for what is printed of a step that is done.
     fn play_step(
         &mut self,
         alloc: Global,
@@ -155,6 +163,8 @@ impl Simulation {
         ensures answers { (stage : Stage) → IsAt self.old stage → IfOk result (λ refusal.
             (after : Stage) × (IsAt self.new after
             × AnswersTo stage (Some (step.now, batches_done)) refusal after)) }
+        ensures gives_up { (stage : Stage) → IsAt self.old stage
+            → OnErr result (IsDoneAt stage step.now) }
         ensures within { (most : ℕ) → self.old.batches ≤ most → batches_done ≤ most
             → OnOk result (self.new.batches ≤ most) }
     {

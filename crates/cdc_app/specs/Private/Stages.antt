@@ -1,7 +1,14 @@
 -- The stage that a simulation has come to.
-use Rattle.std.specs.Prelude.{◌≡◌, ℕ, List}
+use Rattle.std.specs.Prelude.{◌≡◌, ℕ, List, IsTrue, Ok, is_some, slice_get}
+use Rattle.cdc_types.specs.declared.steps.Step.{Step}
+use Rattle.cdc_world.specs.declared.steps.Did.{Did}
+use Rattle.cdc_world.specs.Next.{Next}
 use Rattle.cdc_world.specs.Parts.{Parts}
 use Rattle.cdc_world.specs.Stands.{Stands}
+use Rattle.cdc_world.specs.Worlds.{WorldState}
+use Rattle.cdc_script.specs.declared.scripts.ClientBatch.{ClientBatch}
+use Rattle.cdc_script.specs.declared.step_files.Act.{Act}
+use Rattle.cdc_script.specs.declared.step_files.Act.TheVariants as act
 use Rattle.cdc_app.specs.declared.faults.ProgramFault.{ProgramFault}
 use Rattle.cdc_app.specs.declared.faults.ProgramFault.TheVariants as fault
 use Rattle.cdc_app.specs.Simulations.{Stage}
@@ -18,9 +25,19 @@ pub record IsAt (simulation : SimulationParts) (stage : Stage) : Type 0 where
   pub batches : simulation.batches ≡ stage.batches
   pub lines : simulation.lines ≡ stage.lines
 
--- a simulation gives up for want of memory or of its store alone
+-- a simulation gives up for want of memory alone
 abbrev pub IsSimulationFault : ProgramFault → Type 0
 IsSimulationFault (fault.ReadFault why) = ⊥
 IsSimulationFault (fault.WriteFault why) = ⊥
-IsSimulationFault (fault.Store why) = Unit {0}
+IsSimulationFault (fault.Store why) = ⊥
 IsSimulationFault fault.OutOfMemory = Unit {0}
+
+-- a step is done at a stage, where memory and the store allow it
+abbrev pub IsDoneAt : Stage → Step → Type 0
+IsDoneAt stage step = (did : Did) × (w : WorldState) × Next stage.world step (Ok did) w
+
+-- a simulation gives up at an act whose step is done, where its line has no room, or at a batch, where that can't be
+-- copied
+abbrev pub GivesUpAt : List ClientBatch → Stage → Act → Type 0
+GivesUpAt batches stage act.Batch = IsTrue (is_some (slice_get batches stage.batches))
+GivesUpAt batches stage (act.Step said) = IsDoneAt stage said
