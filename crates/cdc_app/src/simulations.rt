@@ -2,7 +2,7 @@
 
 ghost use Rattle.std.specs.Prelude.{◌≡◌, ◌^◌, ◌<◌, ◌≤◌, ℕ, IfErr, IfOk, OnErr, OnOk, Some, length};
 ghost use Rattle.cdc_app.specs.Options.{IsWindow};
-ghost use Rattle.cdc_app.specs.Private.Stages.{GivesUpAt, IsAt, IsDoneAt, IsSimulationFault};
+ghost use Rattle.cdc_app.specs.Private.Stages.{GivesUpAt, HasDoneAt, IsAt, IsSimulationFault};
 ghost use Rattle.cdc_app.specs.Simulations.{ActsTo, AnswersTo, PlaysActs, Simulates, Stage};
 ghost use Rattle.cdc_app.specs.Simulations.{at_start, simulation_text};
 
@@ -120,7 +120,7 @@ impl Simulation {
     }
 
     /// Plays an act, or says why it is refused: for want of memory too. It gives up where there is none for what is
-    /// printed of an act that is done, or to copy a batch.
+    /// printed of an act that was done, or to copy a batch.
     fn play_act(
         &mut self,
         alloc: Global,
@@ -132,7 +132,7 @@ impl Simulation {
             (after : Stage) × (IsAt self.new after
             × ActsTo batches.now stage act.now refusal after)) }
         ensures gives_up { (stage : Stage) → IsAt self.old stage
-            → OnErr result (GivesUpAt batches.now stage act.now) }
+            → OnErr result (GivesUpAt batches.now stage act.now self.new) }
         ensures within { OnOk result (self.new.batches ≤ length batches.now) }
     {
         match act {
@@ -152,7 +152,7 @@ impl Simulation {
     }
 
     /// Takes a step, after which so many batches are done, or says why it is refused, for want of memory too. It gives
-    /// up where there is none for what is printed of a step that is done.
+    /// up where there is none for what is printed of a step that was done.
     fn play_step(
         &mut self,
         alloc: Global,
@@ -164,7 +164,7 @@ impl Simulation {
             (after : Stage) × (IsAt self.new after
             × AnswersTo stage (Some (step.now, batches_done)) refusal after)) }
         ensures gives_up { (stage : Stage) → IsAt self.old stage
-            → OnErr result (IsDoneAt stage step.now) }
+            → OnErr result (HasDoneAt stage step.now self.new) }
         ensures within { (most : ℕ) → self.old.batches ≤ most → batches_done ≤ most
             → OnOk result (self.new.batches ≤ most) }
     {

@@ -32,12 +32,13 @@ IsSimulationFault (fault.WriteFault why) = ⊥
 IsSimulationFault (fault.Store why) = ⊥
 IsSimulationFault fault.OutOfMemory = Unit {0}
 
--- a step is done at a stage, where memory and the store allow it
-abbrev pub IsDoneAt : Stage → Step → Type 0
-IsDoneAt stage step = (did : Did) × (w : WorldState) × Next stage.world step (Ok did) w
+-- a step was done at a stage, and the simulation's world stands for the one after it
+abbrev pub HasDoneAt : Stage → Step → SimulationParts → Type 0
+HasDoneAt stage step simulation =
+    (did : Did) × (w : WorldState) × (Stands simulation.world w × Next stage.world step (Ok did) w)
 
--- a simulation gives up at an act whose step is done, where its line has no room, or at a batch, where that can't be
+-- a simulation gives up at an act whose step was done, where its line has no room, or at a batch, where that can't be
 -- copied
-abbrev pub GivesUpAt : List ClientBatch → Stage → Act → Type 0
-GivesUpAt batches stage act.Batch = IsTrue (is_some (slice_get batches stage.batches))
-GivesUpAt batches stage (act.Step said) = IsDoneAt stage said
+abbrev pub GivesUpAt : List ClientBatch → Stage → Act → SimulationParts → Type 0
+GivesUpAt batches stage act.Batch simulation = IsTrue (is_some (slice_get batches stage.batches))
+GivesUpAt batches stage (act.Step said) simulation = HasDoneAt stage said simulation

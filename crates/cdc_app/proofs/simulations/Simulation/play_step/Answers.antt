@@ -26,4 +26,4 @@ pub returns-in_err-push_did-in-Ok-clause-gives_up : goal.returns-in_err-push_did
 returns-in_err-push_did-in-Ok-clause-gives_up c = λ stage at.
     let here = subst (λ x. IsAt x stage) (sym c.self.view_is) at in
     let moved = c.in-Ok.ensures.next (λ _. c.self.invariant.0) stage.world here.world in
-    whatever_answered c.from_residual.result (c.in-Ok.did, moved.0, moved.1.1.0)
+    whatever_answered c.from_residual.result (c.in-Ok.did, moved.0, (moved.1.0, moved.1.1.0))
