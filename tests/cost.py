@@ -5,8 +5,8 @@
   tests/cost.py [PROGRAM] --top N                     the N functions that a full script spends most in
 
 The parts are accounts-2 and accounts-5000 (`books` on more and more transfers), full (a script of the greatest size),
-phases (pending transfers, posts and a pulse) and log (reads of the log under `simulate`). Valgrind counts, so other
-work on the machine disturbs no figure. All of it takes some minutes of processor time; it is run by hand, and the gate
+phases (pending transfers, posts and a pulse), log (reads of the log under `simulate`) and memory (the bytes that `books`
+asks for). Valgrind counts, so other work on the machine disturbs no figure. All of it takes some minutes of processor time; it is run by hand, and the gate
 does without. Exit status 1 where a figure is over its limit, 2 where nothing could be counted.
 """
 import argparse
@@ -29,6 +29,8 @@ EXPONENT = 1.02
 FULL = 125_000  # instructions for each transfer of a full script
 TIMES = 2.0  # what an item of two phases may cost, in single-phase transfers
 SEARCH = 100  # instructions that a search in the log may take more for each doubling of it
+BYTES_EXPONENT = 1.05  # of the bytes that growing lists ask for in all
+FIRST = 395_000  # bytes that the first transfer may ask for: a segment of the log has room for 1,024 events
 
 
 # ---------------------------------------------------------------- Scripts
@@ -126,6 +128,8 @@ class Counter:
 
 
 def tool_words(tool, out):
+    if tool == "memcheck":
+        return ["valgrind", "--leak-check=no", "--undef-value-errors=no", f"--log-file={out}"]
     words = ["valgrind", "--quiet", f"--tool={tool}"]
     if tool == "cachegrind":
         return words + ["--cache-sim=no", f"--cachegrind-out-file={out}"]
@@ -147,6 +151,14 @@ def total_of(out):
             if line.startswith("summary:"):
                 return int(line.split()[1])
     sys.exit("cost: Valgrind has written no total")
+
+
+def bytes_of(out):
+    with open(out) as file:
+        asked = re.search(r"total heap usage: .* ([\d,]+) bytes allocated", file.read())
+    if asked is None:
+        sys.exit("cost: Valgrind has written no bytes")
+    return int(asked[1].replace(",", ""))
 
 
 # ---------------------------------------------------------------- The table
@@ -264,6 +276,28 @@ def log(counter, table):
             table.row(f"in a log of {size:,} events", round(each), each - first, SEARCH * math.log2(size / sizes[0]))
 
 
+def memory(counter, table):
+    # A batch for each transfer, so that each list is asked to grow as often as it can be: one that grew by no more than
+    # it needs would be copied each time, and its bytes would grow as the square.
+    def alone(count):
+        lines = pending(count, 2, one_timeout)
+        return opened(2) + "".join(f"transfers 1\n{line}" for line in lines)
+
+    sizes = [1, 500, 1_000, 2_000, 4_000, 8_000]
+    none, *asked = [bytes_of(run.result())
+                    for run in [counter.run("memcheck", text, None) for text in [opened(2), *map(alone, sizes)]]]
+    table.head("books, a batch for each pending transfer with a timeout: bytes asked for; more than none, exponent")
+    table.row("no transfer", none)
+    for at, (size, total) in enumerate(zip(sizes, asked)):
+        if size == 1:
+            table.row("1 transfer", total, total - none, FIRST)
+        elif at == 1:
+            table.row(f"{size:,} transfers", total)
+        else:
+            exponent = math.log((total - none) / (asked[at - 1] - none)) / math.log(size / sizes[at - 1])
+            table.row(f"{size:,} transfers", total, exponent, BYTES_EXPONENT)
+
+
 def top(counter, count):
     """Prints the functions in which most of a full script's instructions are."""
     out = counter.run("callgrind", script(2, most_transfers(2)), None).result()
@@ -274,7 +308,8 @@ def top(counter, count):
         print("\n".join(line[:160] for line in lines[:count + 1]))
 
 
-COUNTS = {"accounts-2": accounts_2, "accounts-5000": accounts_5000, "full": full, "phases": phases, "log": log}
+COUNTS = {"accounts-2": accounts_2, "accounts-5000": accounts_5000, "full": full, "phases": phases, "log": log,
+          "memory": memory}
 
 
 def main():

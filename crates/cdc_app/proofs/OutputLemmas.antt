@@ -6,10 +6,12 @@ use Rattle.cdc_script.specs.StepFiles.{acts_of}
 use Rattle.cdc_app.specs.declared.endings.Ending.{Ending}
 use Rattle.cdc_app.specs.declared.endings.Ending.TheVariants.{Done, Failed, Refused, BadScript, BadSteps, BadWords}
 use Rattle.cdc_app.specs.declared.faults.ProgramFault.{ProgramFault}
+use Rattle.cdc_app.specs.declared.faults.ProgramFault.TheVariants as fault
 use Rattle.cdc_app.specs.declared.output.Output.{Output}
 use Rattle.cdc_app.specs.Outcomes.{IsPrinted, IsScriptEnding, MayFailScript, Outcome, PrintsOutcome, Writes, outcome_of}
+use Rattle.cdc_app.specs.Private.Stages.{IsSimulationFault}
 use Rattle.cdc_app.specs.Report.{program_fault_line}
-use Rattle.cdc_app.specs.Simulated.{IsGoodScript, RunPrints, SaysPlan, SimulationPrints}
+use Rattle.cdc_app.specs.Simulated.{SaysPlan, SimulationPrints}
 use Rattle.cdc_app.specs.Simulations.{Plan}
 
 -- the outcome of a line that says why a command gave up
@@ -61,7 +63,7 @@ pub writes_made : (prints : Ending → List ℕ → Type 0) (old new : Option (L
     → IfOk made (λ output. IsPrinted old new (outcome_of output) ending)
     → IfErr made (λ why. IsPrinted old new (failure why) ending)
     → IfOk made (λ output. prints output.ending output.text.items)
-    → ((why : ProgramFault) → prints (Failed why) (program_fault_line why)) → Writes prints old new ending
+    → IfErr made (λ why. prints (Failed why) (program_fault_line why)) → Writes prints old new ending
 writes_made prints old new (Ok output) ending (inl failed) fault is fails = inl failed
 writes_made prints old new (Ok output) ending (inr text) fault is fails =
     inr (output.text.items, (text.1, subst (λ (e : Ending). prints e output.text.items) (sym text.0) is))
@@ -69,7 +71,7 @@ writes_made prints old new (Err why) ending text (inl failed) is fails = inl fai
 writes_made prints old new (Err why) ending text (inr fault) is fails =
     inr (
       program_fault_line why,
-      (fault.1, subst (λ (e : Ending). prints e (program_fault_line why)) (sym fault.0) (fails why)),
+      (fault.1, subst (λ (e : Ending). prints e (program_fault_line why)) (sym fault.0) fails),
     )
 
 -- a plan that is read of a text of a script is that of all its bytes
@@ -156,3 +158,10 @@ made_of_steps window script text steps bytes (Ok output) is same prints =
     (subst (λ (xs : List ℕ). SimulationPrints (record { window = window; script = script; steps = Some xs })
     output.ending output.text.items) is prints)
 made_of_steps window script text steps bytes (Err why) is same prints = tt
+
+-- what gives up for want of memory gives up as a command that reads may
+pub may_fail : (why : ProgramFault) → IsSimulationFault why → MayFailScript why
+may_fail (fault.ReadFault why) is = absurd is
+may_fail (fault.WriteFault why) is = absurd is
+may_fail (fault.Store why) is = absurd is
+may_fail fault.OutOfMemory is = tt

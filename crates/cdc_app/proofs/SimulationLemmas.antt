@@ -1,12 +1,15 @@
 -- Simulations, act by act, and the subscribers of a world, one after another.
 use Rattle.std.proofs.Common.{◌≡◌, ◌∙◌, ℕ, ◌+◌, ◌-◌, ◌<◌, ◌≤◌, ◌⊎◌, List, [], ◌∷◌, ◌++◌, Some, None, true, false, drop, append_assoc, append-nil, refl, sym, ap, ap₂, subst, inl, inr, arith, rules, length, get_or}
-use Rattle.std.specs.Prelude.{IfOk, Option, Ok, Err, Result, ◌==◌, if◌then◌else◌, is_some, option_map}
+use Rattle.std.specs.Prelude.{IfOk, OnErr, Option, Ok, Err, Result, ◌==◌, if◌then◌else◌, is_some, option_map}
 use Rattle.std.specs.declared.alloc.AllocError.{AllocError}
 use Rattle.std.specs.List.{slice_get}
 use Rattle.std.proofs.lemmas.Bool.{false≢true}
 use Rattle.std.proofs.lemmas.List.{drop_all, drop_more}
 use Rattle.std.proofs.lemmas.Option.{get_or_from_slice_get, slice_get_cases, slice_get_within}
 use Rattle.cdc_progress.specs.Records.{Saved}
+use Rattle.cdc_progress.specs.Stores.{IsRisked, Risks, no_risks}
+use Rattle.cdc_progress.specs.declared.errors.StoreError.{StoreError}
+use Rattle.cdc_progress.specs.declared.errors.StoreError.TheVariants as store
 use Rattle.cdc_subscriber.specs.Heard.{kept_of}
 use Rattle.cdc_subscriber.specs.Kept.{Kept}
 use Rattle.cdc_subscriber.specs.Lines.{subscriber_text}
@@ -14,7 +17,7 @@ use Rattle.cdc_world.specs.declared.steps.Did.{Did}
 use Rattle.cdc_types.specs.declared.steps.Step.{Step}
 use Rattle.cdc_types.specs.declared.steps.Step.TheVariants as step
 use Rattle.cdc_world.specs.declared.steps.StepError.{StepError}
-use Rattle.cdc_world.specs.Next.{Next}
+use Rattle.cdc_world.specs.Next.{Next, NextOver}
 use Rattle.cdc_world.specs.Parts.{Parts}
 use Rattle.cdc_world.specs.Stands.{Stands}
 use Rattle.cdc_world.specs.Worlds.{Subscription, WorldState, numbered}
@@ -189,6 +192,13 @@ next_batch batches k n m b left first counted same =
     (next_left batches n b left (sym first)).0)
     ∙ ap (λ i. step_for batches i act.Batch) same
 
+-- so there is one more in the script
+pub next_within : (batches : List ClientBatch) (k n : ℕ) (b : ClientBatch) (left : List ClientBatch)
+    → b ∷ left ≡ drop n batches → k ≡ n → k + 1 ≤ length batches
+next_within batches k n b left first counted =
+    let within = slice_get_within batches n b (next_left batches n b left (sym first)).0 in
+    omega (arith, within, counted)
+
 -- once it is done, those behind it are left
 pub left_behind : (batches : List ClientBatch) (k n m : ℕ) (b : ClientBatch) (left : List ClientBatch)
     (result : Result (Option StepError) AllocError) → b ∷ left ≡ drop n batches → k ≡ n
@@ -219,7 +229,8 @@ step_done old new stage taken n did at moved count lines = (
 
 -- a step that is refused
 pub step_refused : (old new : SimulationParts) (stage : Stage) (taken : Step) (n : ℕ) (why : StepError) → IsAt old stage
-    → ((w : WorldState) × (Stands new.world w × Next stage.world taken (Err why) w)) → new.batches ≡ old.batches
+    → ((w : WorldState) × (Stands new.world w × NextOver no_risks stage.world taken (Err why) w))
+    → new.batches ≡ old.batches
     → new.lines ≡ old.lines
     → (after : Stage) × (IsAt new after × AnswersTo stage (Some (taken, n)) (Some why) after)
 step_refused old new stage taken n why at moved count lines = (
@@ -229,6 +240,13 @@ step_refused old new stage taken n why at moved count lines = (
     (moved.0, (moved.1.1, refl)),
   ),
 )
+
+-- a store of no risks refuses nothing
+pub unrisked : {P : Type 0} (risks : Risks) (why : StoreError) → risks ≡ no_risks → IsRisked risks why → P
+unrisked {P} risks store.ReadFault same may = let none = sym (ap (λ (r : Risks). r.faults) same) ∙ may in cc
+unrisked {P} risks store.WriteFault same may = let none = sym (ap (λ (r : Risks). r.faults) same) ∙ may in cc
+unrisked {P} risks store.BadRecord same may = let none = sym (ap (λ (r : Risks). r.faults) same) ∙ may in cc
+unrisked {P} risks store.OutOfMemory same may = let none = sym (ap (λ (r : Risks). r.memory) same) ∙ may in cc
 
 -- the text of a world, piece by piece
 pub world_text : (simulation : SimulationParts) (stage : Stage) (done all : ℕ) (refusal : Option StepError)
@@ -255,3 +273,8 @@ world_text simulation stage done all refusal held with_steps with_refusal with_p
 -- what is kept stands for the same world, however often the store has failed
 pub stands_counted : (p : Parts) (w : WorldState) (failed : ℕ) → Stands p w → Stands (record p { failed = failed }) w
 stands_counted p w failed st = record { actors = st.actors; held = st.held }
+
+-- what holds, whatever is answered, holds where an error is
+pub whatever_answered : {A E P : Type 0} (answer : Result A E) → P → OnErr answer P
+whatever_answered (Ok given) p = tt
+whatever_answered (Err why) p = p

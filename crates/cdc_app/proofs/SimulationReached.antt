@@ -35,7 +35,7 @@ refused_leads : (before end : Stage) (want : Option (Step × ℕ)) (why : StepEr
     → (more : List Step) × Leads before.world more end.world
 refused_leads before end None why answers = ([], ap (λ (x : Stage). x.world) answers.1)
 refused_leads before end (Some want) why answers =
-    (want.0 ∷ [], (Err why, answers.0, answers.1.0, ap (λ (x : Stage). x.world) answers.1.1))
+    (want.0 ∷ [], (Err why, answers.0, answers.1.0.0, ap (λ (x : Stage). x.world) answers.1.1))
 
 -- the steps that acts ask for lead from one world to the other
 acts_lead : (batches : List ClientBatch) (before : Stage) (acts : List Act) (refusal : Option StepError) (end : Stage)

@@ -49,7 +49,7 @@ IsScriptEnding (BadScript at) = Unit {0}
 IsScriptEnding (BadSteps at) = ⊥
 IsScriptEnding BadWords = ⊥
 
--- a command that reads a script alone gives up where a read or memory failed
+-- a command that reads a script, alone or with steps, gives up where a read or memory failed
 abbrev pub MayFailScript : ProgramFault → Type 0
 MayFailScript (fault.ReadFault why) = Unit {0}
 MayFailScript (fault.WriteFault why) = ⊥

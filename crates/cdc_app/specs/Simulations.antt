@@ -3,6 +3,7 @@ use Rattle.std.specs.Prelude.{◌≡◌, ◌⊎◌, ℕ, ◌+◌, List, [], ◌�
 use Rattle.std.specs.Option.{option_map}
 use Rattle.cdc_match.specs.Arguments.{Arguments}
 use Rattle.cdc_progress.specs.Records.{Saved}
+use Rattle.cdc_progress.specs.Stores.{no_risks}
 use Rattle.cdc_subscriber.specs.Heard.{kept_of}
 use Rattle.cdc_subscriber.specs.Lines.{subscriber_text}
 use Rattle.cdc_laws.specs.Faithful.{IsFaithful}
@@ -13,7 +14,7 @@ use Rattle.cdc_types.specs.declared.steps.Step.TheVariants as step
 use Rattle.cdc_world.specs.declared.steps.StepError.{StepError}
 use Rattle.cdc_world.specs.declared.steps.StepError.TheVariants.{NotEnabled}
 use Rattle.cdc_world.specs.Errors.{step_error_name}
-use Rattle.cdc_world.specs.Next.{Next}
+use Rattle.cdc_world.specs.Next.{Next, NextOver}
 use Rattle.cdc_world.specs.Worlds.{Subscription, WorldState, new_world}
 use Rattle.cdc_script.specs.declared.scripts.ClientBatch.{ClientBatch}
 use Rattle.cdc_script.specs.declared.scripts.Script.{Script}
@@ -56,14 +57,15 @@ after_act before batches did w = record {
   done = before.done + 1;
 }
 
--- what is asked for is answered so at a stage: it is done, and leads to the other one, or it is refused
+-- what is asked for is answered so at a stage, over a store that lacks no memory and has no faults: it is done, and
+-- leads to the other one, or it is refused
 abbrev pub AnswersTo : Stage → Option (Step × ℕ) → Option StepError → Stage → Type 0
 AnswersTo before None None after = ⊥
 AnswersTo before None (Some why) after = (why ≡ NotEnabled) × (after ≡ before)
 AnswersTo before (Some want) None after =
     (did : Did) × (w : WorldState) × (Next before.world want.0 (Ok did) w × (after ≡ after_act before want.1 did w))
 AnswersTo before (Some want) (Some why) after =
-    (w : WorldState) × (Next before.world want.0 (Err why) w × (after ≡ record before { world = w }))
+    (w : WorldState) × (NextOver no_risks before.world want.0 (Err why) w × (after ≡ record before { world = w }))
 
 -- an act leads from one stage to another, and is done, or refused
 abbrev pub ActsTo : List ClientBatch → Stage → Act → Option StepError → Stage → Type 0

@@ -1,6 +1,6 @@
 //! The batches of a script, handed to a ledger.
 
-ghost use Rattle.std.specs.Prelude.{◌≡◌, ◌++◌, IfOk, OnOk, string_bytes};
+ghost use Rattle.std.specs.Prelude.{◌≡◌, ◌++◌, ◌<◌, IfOk, OnErr, OnOk, length, string_bytes};
 ghost use Rattle.cdc_ledger.specs.History.{empty_history};
 ghost use Rattle.cdc_ledger.specs.Submit.{submit, history_or};
 ghost use Rattle.cdc_app.specs.Printed.{answer, batch_lines, history_after, history_of};
@@ -20,11 +20,13 @@ pub struct Taken {
     pub lines: String,
 }
 
-/// Hands the batches of a script to a ledger, in the order of their lines, and closes it.
+/// Hands the batches of a script to a ledger, in the order of their lines, and closes it. Without a batch that takes no
+/// memory.
 pub fn take_batches(alloc: Global, script: &Script) -> Result<Taken, AllocError>
     ensures ledger { IfOk result (λ taken. taken.ledger ≡ history_of script.now) }
     ensures lines { IfOk result (λ taken. string_bytes taken.lines
         ≡ batch_lines 1 empty_history script.now.batches) }
+    ensures memory { OnErr result (0 < length script.now.batches) }
 {
     let mut ledger = Ledger::new(alloc);
     let mut lines = String::new(alloc);
@@ -43,6 +45,7 @@ fn push_batches(
     ensures lines { OnOk result (string_bytes lines.new ≡
         string_bytes lines.old ++ batch_lines 1 ledger.old batches.now) }
     ensures history { OnOk result (ledger.new ≡ history_after ledger.old batches.now) }
+    ensures memory { OnErr result (0 < length batches.now) }
 {
     for (place, item) in batches.iter().enumerate() {
         let answer = hand_in(alloc, ledger, &item.batch)?;

@@ -1,11 +1,11 @@
 //! Simulations: a world over the batches of a script, moved by the acts of a step file.
 
-ghost use Rattle.std.specs.Prelude.{◌≡◌, ◌^◌, ◌<◌, ◌≤◌, ◌+◌, List, false, IfErr, IfOk, OnOk, Some};
-ghost use Rattle.std.specs.Prelude.{drop, if◌then◌else◌, is_some, length};
+ghost use Rattle.std.specs.Prelude.{◌≡◌, ◌^◌, ◌<◌, ◌≤◌, ◌+◌, ℕ, List, false, IfErr, IfOk};
+ghost use Rattle.std.specs.Prelude.{OnErr, OnOk, Some, drop, if◌then◌else◌, is_some, length};
 ghost use Rattle.std.specs.Vec.Iter.{into_iter_items};
 ghost use Rattle.cdc_script.specs.declared.scripts.ClientBatch.{ClientBatch as Said};
 ghost use Rattle.cdc_app.specs.Options.{IsWindow};
-ghost use Rattle.cdc_app.specs.Private.Stages.{IsAt, IsSimulationFault};
+ghost use Rattle.cdc_app.specs.Private.Stages.{GivesUpAt, HasDoneAt, IsAt, IsSimulationFault};
 ghost use Rattle.cdc_app.specs.Simulations.{ActsTo, AnswersTo, PlaysActs, Simulates, Stage};
 ghost use Rattle.cdc_app.specs.Simulations.{at_start, simulation_text};
 
@@ -30,7 +30,8 @@ pub struct Simulated {
     pub refusal: Option<StepError>,
 }
 
-/// A world on its way, whose store is honest. A clause sees the world, how many batches are done, and the lines' bytes.
+/// A world on its way, whose store is honest, lacks no memory and has no faults. A clause sees the world, how many
+/// batches are done, and the lines' bytes.
 #[derive(Drop)]
 pub struct Simulation {
     /// The world.
@@ -53,7 +54,10 @@ impl Model for Simulation {
       lines = string_bytes simulation.lines;
     } };
 
-    ghost invariant = { λ simulation. simulation.world.honest ≡ true };
+    ghost use Rattle.cdc_progress.specs.Stores.{no_risks};
+
+    ghost invariant = { λ simulation. (simulation.world.honest ≡ true)
+        × (simulation.world.risks ≡ no_risks) };
 }
 
 /// What is printed of a script that is taken step by step.
@@ -120,7 +124,8 @@ impl Simulation {
         })
     }
 
-    /// Plays an act, or says why it is refused. Left are the batches behind those that are done.
+    /// Plays an act, or says why it is refused: for want of memory too. It gives up where there is none for what is
+    /// printed of an act that was done. Left are the batches behind those that are done.
     fn play_act(
         &mut self,
         alloc: Global,
@@ -131,9 +136,16 @@ impl Simulation {
         ensures acts { (batches : List Said) → into_iter_items left.old ≡ drop self.old.batches batches
             → (stage : Stage) → IsAt self.old stage → IfOk result (λ refusal. (after : Stage)
             × (IsAt self.new after × ActsTo batches stage act.now refusal after)) }
+        ensures gives_up { (batches : List Said)
+            → into_iter_items left.old ≡ drop self.old.batches batches
+            → (stage : Stage) → IsAt self.old stage
+            → OnErr result (GivesUpAt batches stage act.now self.new) }
         ensures left { (batches : List Said) → into_iter_items left.old ≡ drop self.old.batches batches
             → IfOk result (λ refusal. is_some refusal ≡ false
             → into_iter_items left.new ≡ drop self.new.batches batches) }
+        ensures within { (batches : List Said)
+            → into_iter_items left.old ≡ drop self.old.batches batches
+            → self.old.batches ≤ length batches → OnOk result (self.new.batches ≤ length batches) }
         ensures count { OnOk result (self.new.batches ≤ self.old.batches + 1) }
     {
         match act {
@@ -151,7 +163,8 @@ impl Simulation {
         }
     }
 
-    /// Takes a step, after which so many batches are done, or says why it is refused.
+    /// Takes a step, after which so many batches are done, or says why it is refused, for want of memory too. It gives
+    /// up where there is none for what is printed of a step that was done.
     fn play_step(
         &mut self,
         alloc: Global,
@@ -162,6 +175,10 @@ impl Simulation {
         ensures answers { (stage : Stage) → IsAt self.old stage → IfOk result (λ refusal.
             (after : Stage) × (IsAt self.new after
             × AnswersTo stage (Some (step.now, batches_done)) refusal after)) }
+        ensures gives_up { (stage : Stage) → IsAt self.old stage
+            → OnErr result (HasDoneAt stage step.now self.new) }
+        ensures within { (most : ℕ) → self.old.batches ≤ most → batches_done ≤ most
+            → OnOk result (self.new.batches ≤ most) }
         ensures count { IfOk result (λ refusal. self.new.batches
             ≡ (if is_some refusal then self.old.batches else batches_done)) }
     {

@@ -236,8 +236,8 @@ actors_held a w held st =
     record { history = st.history; connector = st.connector; broker = st.broker; subscribers = st.subscribers }
 
 -- what is kept where the store holds something else
-with_held : (p : Parts) (w : WorldState) (held : Option Saved) (honest : Bool) (risks : Risks) (failed' : ℕ) (held' : Option Saved)
-    → Stands p w → held ≡ held'
+with_held : (p : Parts) (w : WorldState) (held : Option Saved) (honest : Bool) (risks : Risks) (failed' : ℕ)
+    (held' : Option Saved) → Stands p w → held ≡ held'
     → Stands (record p { held = held; honest = honest; failed = failed'; risks = risks }) (record w { held = held' })
 with_held p w held honest risks failed' held' st same =
     record { actors = actors_held p.actors w held' st.actors; held = same }
@@ -274,7 +274,8 @@ pub save_failed : (p : Parts) (kept : Kept) (held : Option Saved) (honest : Bool
     (failed failed' : ℕ) → p.actors.session ≡ Some kept
     → ((course : Course) → StandsFor kept course → (held ≡ p.held) ⊎ (held ≡ Some (progress_of course)))
     → (why ≡ store.OutOfMemory → held ≡ p.held) → MayRefuseSave failed failed' why
-    → MovesBy Next p Save (Err (store_refusal why)) (record p { held = held; honest = honest; failed = failed'; risks = risks })
+    → MovesBy Next p Save (Err (store_refusal why))
+    (record p { held = held; honest = honest; failed = failed'; risks = risks })
 save_failed p kept held honest' risks' store.ReadFault failed failed' is either lacking may honest w st = absurd may
 save_failed p kept held honest' risks' store.BadRecord failed failed' is either lacking may honest w st = absurd may
 save_failed p kept held honest' risks' store.OutOfMemory failed failed' is either lacking may honest w st =
@@ -342,7 +343,8 @@ pub start_done : (p : Parts) (actors' : ActorParts) (kept : Kept) (held : Option
       failed_before = p.failed;
       failed_after = failed';
     }) window kept
-    → MovesBy Next p Start (Ok Done) (record { actors = actors'; held = held; honest = honest; failed = failed'; risks = risks })
+    → MovesBy Next p Start (Ok Done)
+    (record { actors = actors'; held = held; honest = honest; failed = failed'; risks = risks })
 start_done p actors' kept held honest' risks' failed' window down new waits has honest w st =
     let begins : begun w.held ≡ Some has.saved = ap begun (sym st.held) ∙ ap begun (sym (has.given (honest refl)))
     ∙ has.begins in
@@ -369,8 +371,8 @@ start_done p actors' kept held honest' risks' failed' window down new waits has 
     )
 
 -- a session doesn't start
-pub start_failed : (p : Parts) (held : Option Saved) (honest : Bool) (risks : Risks) (why : StartError) (failed failed' : ℕ)
-    → p.actors.session ≡ None
+pub start_failed : (p : Parts) (held : Option Saved) (honest : Bool) (risks : Risks) (why : StartError)
+    (failed failed' : ℕ) → p.actors.session ≡ None
     → MayRefuseStart (record {
       honest = p.honest;
       before = p.held;
@@ -378,7 +380,8 @@ pub start_failed : (p : Parts) (held : Option Saved) (honest : Bool) (risks : Ri
       failed_before = failed;
       failed_after = failed';
     }) why
-    → MovesBy Next p Start (Err (start_refusal why)) (record p { held = held; honest = honest; failed = failed'; risks = risks })
+    → MovesBy Next p Start (Err (start_refusal why))
+    (record p { held = held; honest = honest; failed = failed'; risks = risks })
 start_failed p held honest' risks' (start.Store store.ReadFault) failed failed' down may honest w st = (
   w,
   (

@@ -42,4 +42,5 @@ PlaysGoOn = (risks : Risks) (w : WorldState) (steps : List Step) (done : ℕ) (r
 -- and by a play that tries again what the store or want of memory refused
 abbrev pub PlaysPastGoOn : Type 0
 PlaysPastGoOn = (risks : Risks) (tries : ℕ) (w : WorldState) (steps : List Step) (done : ℕ)
-    → (refusal : Option StepError) (w' : WorldState) → IsReached w → IsPlayBy (NextPast risks tries) w steps done refusal w' → IsReached w'
+    → (refusal : Option StepError) (w' : WorldState) → IsReached w
+    → IsPlayBy (NextPast risks tries) w steps done refusal w' → IsReached w'

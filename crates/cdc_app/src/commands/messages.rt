@@ -1,6 +1,6 @@
 //! The command `messages`: two lines for each event of a script, what its message is routed by and its body.
 
-ghost use Rattle.std.specs.Prelude.{◌≡◌, ◌+◌, ◌++◌, IfErr, IfOk, IfSome, OnOk, string_bytes};
+ghost use Rattle.std.specs.Prelude.{◌≡◌, ◌+◌, ◌++◌, ◌<◌, IfErr, IfOk, IfSome, OnErr, OnOk, length, string_bytes};
 ghost use Rattle.std.specs.List.{flat_map};
 ghost use Rattle.cdc_script.specs.Reading.{ConsumesAtMost};
 ghost use Rattle.cdc_script.specs.Scripts.{max_bytes};
@@ -63,9 +63,10 @@ fn read_messages<R: Read>(alloc: Global, reader: &mut R) -> Result<Output, Progr
     Ok(messages_of(alloc, &bytes)?)
 }
 
-/// What `messages` prints for a script.
+/// What `messages` prints for a script. Without a batch that takes no memory.
 fn print_messages(alloc: Global, script: &Script) -> Result<String, AllocError>
-    ensures { IfOk result (λ text. string_bytes text ≡ printed_messages script.now) }
+    ensures text { IfOk result (λ text. string_bytes text ≡ printed_messages script.now) }
+    ensures memory { OnErr result (0 < length script.now.batches) }
 {
     let taken = take_batches(alloc, script)?;
     event_lines(alloc, taken.ledger.log())
@@ -73,7 +74,9 @@ fn print_messages(alloc: Global, script: &Script) -> Result<String, AllocError>
 
 /// The lines of all events.
 fn event_lines(alloc: Global, log: &EventLog) -> Result<String, AllocError>
-    ensures { IfOk result (λ text. string_bytes text ≡ flat_map message_lines log.now.events) }
+    ensures text { IfOk result (λ text.
+        string_bytes text ≡ flat_map message_lines log.now.events) }
+    ensures memory { OnErr result (0 < length log.now.events) }
 {
     let mut text = String::new(alloc);
     for place in 0..log.len() {

@@ -1,10 +1,11 @@
 //! The command `simulate`: a script's batches and a session's packets, taken step by step.
 
-ghost use Rattle.std.specs.Prelude.{◌≡◌, ◌+◌, ℕ, List, Option, IfOk, Some};
+ghost use Rattle.std.specs.Prelude.{◌≡◌, ◌+◌, ℕ, List, Option, IfErr, IfOk, Some};
 ghost use Rattle.cdc_script.specs.Reading.{ConsumesAtMost};
 ghost use Rattle.cdc_script.specs.Scripts.{max_bytes, script_of};
 ghost use Rattle.cdc_app.specs.Options.{IsWindow};
-ghost use Rattle.cdc_app.specs.Outcomes.{Writes};
+ghost use Rattle.cdc_app.specs.Outcomes.{MayFailScript, Writes};
+ghost use Rattle.cdc_app.specs.Private.Stages.{IsSimulationFault};
 ghost use Rattle.cdc_app.specs.Simulated.{SimulationPrints};
 
 use crate::endings::Ending;
@@ -29,6 +30,7 @@ pub fn simulation_of(
     ensures output { IfOk result (λ output. SimulationPrints
         (record { window = window; script = Some script.now; steps = Some steps.now })
         output.ending output.text.items) }
+    ensures fault { IfErr result IsSimulationFault }
 {
     match parse_script(alloc, script) {
         Ok(script) => script_simulation(alloc, script, steps, window),
@@ -49,6 +51,7 @@ fn script_simulation(
         → IfOk result (λ output. SimulationPrints
         (record { window = window; script = Some bytes; steps = Some steps.now })
         output.ending output.text.items) }
+    ensures fault { IfErr result IsSimulationFault }
 {
     let acts = match parse_steps(alloc, steps) {
         Ok(acts) => acts,
@@ -98,6 +101,7 @@ fn read_simulation<R: Read, Q: Read>(
     ensures output { IfOk result (λ output. SimulationPrints
         (record { window = window; script = R.remaining script.old; steps = Q.remaining steps.old })
         output.ending output.text.items) }
+    ensures fault { IfErr result MayFailScript }
     ensures script { ConsumesAtMost (max_bytes + 1)
         (R.remaining script.old) (R.remaining script.new) }
     ensures steps { ConsumesAtMost (max_bytes + 1) (Q.remaining steps.old) (Q.remaining steps.new) }
@@ -111,9 +115,10 @@ fn read_simulation<R: Read, Q: Read>(
 
 /// What the command prints for the bytes of a script where its step file can't be read. The script is judged first.
 fn unread_steps(alloc: Global, script: &[u8], error: ReadError) -> Result<Output, ProgramFault>
-    ensures { (window : ℕ) → (steps : Option (List ℕ)) → IfOk result (λ output. SimulationPrints
-        (record { window = window; script = Some script.now; steps = steps })
+    ensures output { (window : ℕ) → (steps : Option (List ℕ)) → IfOk result (λ output.
+        SimulationPrints (record { window = window; script = Some script.now; steps = steps })
         output.ending output.text.items) }
+    ensures fault { IfErr result MayFailScript }
 {
     match parse_script(alloc, script) {
         Err(ScriptError::Fault(fault)) => Ok(file_fault(alloc, Ending::BadScript(fault))?),

@@ -1,5 +1,8 @@
 use Rattle.std.proofs.Common.{Some}
-use Rattle.cdc_app.proofs.OutputLemmas.{made_of_script, made_of_steps}
+use Rattle.std.proofs.lemmas.Result.{IfErr-weaker}
+use Rattle.cdc_app.specs.Outcomes.{MayFailScript}
+use Rattle.cdc_app.specs.Private.Stages.{IsSimulationFault}
+use Rattle.cdc_app.proofs.OutputLemmas.{made_of_script, made_of_steps, may_fail}
 use Rattle.cdc_app.proofs.commands.simulate.read_simulation.Goals as goal
 
 pub returns-in-Ok-clause-output : goal.returns-in-Ok-clause-output
@@ -16,4 +19,8 @@ returns-clause-output g c =
     let steps = g.Q.Read.remaining c.args.steps.now in
     made_of_script c.args.window c.deref-in-Err.result.now c.in_ok-script.script.items
     (g.R.Read.remaining c.args.script.now) steps c.unread_steps.result c.deref-in-Err.ensures.value
-    c.in_ok-script.ensures.script (c.unread_steps.ensures c.args.window steps)
+    c.in_ok-script.ensures.script (c.unread_steps.ensures.output c.args.window steps)
+
+pub returns-in-Ok-clause-fault : goal.returns-in-Ok-clause-fault
+returns-in-Ok-clause-fault g c =
+    IfErr-weaker c.simulation_of.result IsSimulationFault MayFailScript may_fail c.simulation_of.ensures.fault

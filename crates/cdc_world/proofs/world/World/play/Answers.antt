@@ -11,7 +11,8 @@ returns-clause-plays g c =
 
 pub returns-clause-fixed : goal.returns-clause-fixed
 returns-clause-fixed g c =
-    PlayFixesClosed-plays (NextOver c.args.self.now.risks) (AllStay-over c.args.self.now.risks) c.args.self.now c.args.steps.now c.play_past.result.done
+    PlayFixesClosed-plays (NextOver c.args.self.now.risks) (AllStay-over c.args.self.now.risks)
+    c.args.self.now c.args.steps.now c.play_past.result.done
     c.play_past.result.refusal c.play_past.new.self
     (Plays-once c.args.self.now c.args.steps.now c.play_past.result.done c.play_past.result.refusal
     c.play_past.new.self c.play_past.ensures.plays)

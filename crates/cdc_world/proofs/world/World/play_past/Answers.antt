@@ -7,30 +7,39 @@ use Rattle.cdc_world.proofs.world.World.play_past.Goals as goal
 
 pub loop-done-preserved : goal.loop-done-preserved
 loop-done-preserved g c =
-    HasDone-more (NextPast c.args.self.now.risks c.args.tries) c.args.self.now c.loop-done.self c.step_past.new.self c.args.steps.now c.loop-done.done
+    HasDone-more (NextPast c.args.self.now.risks c.args.tries) c.args.self.now
+    c.loop-done.self c.step_past.new.self c.args.steps.now c.loop-done.done
     c.index-steps-done.result
     c.in_default.field-0 c.loop-done-test.true c.index-steps-done.is c.loop-done.invariant
-    (MovesBy-past c.loop-done.self.risks c.args.self.now.risks c.args.tries c.loop-done.self c.index-steps-done.result (Ok c.in_default.field-0)
+    (MovesBy-past c.loop-done.self.risks c.args.self.now.risks c.args.tries c.loop-done.self
+    c.index-steps-done.result (Ok c.in_default.field-0)
     c.step_past.new.self c.loop-done.invariant.risks c.in_default.ensures.next)
     c.in_default.ensures.honest c.in_default.ensures.risks
 
 pub returns-in-Err-clause-plays : goal.returns-in-Err-clause-plays
 returns-in-Err-clause-plays g c =
-    Plays-stopped (NextPast c.args.self.now.risks c.args.tries) c.args.self.now c.loop-done.self c.step_past.new.self c.args.steps.now c.loop-done.done
+    Plays-stopped (NextPast c.args.self.now.risks c.args.tries) c.args.self.now
+    c.loop-done.self c.step_past.new.self c.args.steps.now c.loop-done.done
     c.index-steps-done.result c.in-Err.why c.loop-done-test.true c.index-steps-done.is c.loop-done.invariant
-    (MovesBy-past c.loop-done.self.risks c.args.self.now.risks c.args.tries c.loop-done.self c.index-steps-done.result (Err c.in-Err.why)
+    (MovesBy-past c.loop-done.self.risks c.args.self.now.risks c.args.tries c.loop-done.self
+    c.index-steps-done.result (Err c.in-Err.why)
     c.step_past.new.self c.loop-done.invariant.risks c.in-Err.ensures.next)
 
 pub returns-in-Err-clause-fixed : goal.returns-in-Err-clause-fixed
 returns-in-Err-clause-fixed g c =
-    PlayFixesClosed-plays (NextPast c.args.self.now.risks c.args.tries) (AllStay-past c.args.self.now.risks c.args.tries) c.args.self.now c.args.steps.now c.loop-done.done (Some c.in-Err.why) c.step_past.new.self
-    (Plays-stopped (NextPast c.args.self.now.risks c.args.tries) c.args.self.now c.loop-done.self c.step_past.new.self c.args.steps.now c.loop-done.done
+    PlayFixesClosed-plays (NextPast c.args.self.now.risks c.args.tries) (AllStay-past c.args.self.now.risks c.args.tries)
+    c.args.self.now c.args.steps.now c.loop-done.done (Some c.in-Err.why) c.step_past.new.self
+    (Plays-stopped (NextPast c.args.self.now.risks c.args.tries) c.args.self.now
+    c.loop-done.self c.step_past.new.self c.args.steps.now c.loop-done.done
     c.index-steps-done.result c.in-Err.why c.loop-done-test.true c.index-steps-done.is c.loop-done.invariant
-    (MovesBy-past c.loop-done.self.risks c.args.self.now.risks c.args.tries c.loop-done.self c.index-steps-done.result (Err c.in-Err.why)
+    (MovesBy-past c.loop-done.self.risks c.args.self.now.risks c.args.tries c.loop-done.self
+    c.index-steps-done.result (Err c.in-Err.why)
     c.step_past.new.self c.loop-done.invariant.risks c.in-Err.ensures.next))
 
 pub returns-clause-fixed : goal.returns-clause-fixed
 returns-clause-fixed g c =
-    PlayFixesClosed-plays (NextPast c.args.self.now.risks c.args.tries) (AllStay-past c.args.self.now.risks c.args.tries) c.args.self.now c.args.steps.now (length c.args.steps.now) None c.loop-done.self
-    (Plays-ended (NextPast c.args.self.now.risks c.args.tries) c.args.self.now c.loop-done.self c.args.steps.now c.loop-done.done c.loop-done-test.false
+    PlayFixesClosed-plays (NextPast c.args.self.now.risks c.args.tries) (AllStay-past c.args.self.now.risks c.args.tries)
+    c.args.self.now c.args.steps.now (length c.args.steps.now) None c.loop-done.self
+    (Plays-ended (NextPast c.args.self.now.risks c.args.tries) c.args.self.now c.loop-done.self c.args.steps.now
+    c.loop-done.done c.loop-done-test.false
     c.loop-done.auto.done-end c.loop-done.invariant)
