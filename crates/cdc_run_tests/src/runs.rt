@@ -1,7 +1,7 @@
 //! Each public function once.
 
-use cdc_run::{Config, Faults, Gate, OpenGate, Place};
 use cdc_match::Binding;
+use cdc_run::{Config, Faults, Gate, OpenGate, Place};
 use std::test::Fail;
 
 #[test]
