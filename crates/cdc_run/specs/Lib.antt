@@ -6,5 +6,6 @@ pub mod Jobs
 pub mod Outcomes
 pub mod Plans
 pub mod Settling
+pub mod Shares
 pub mod Subscribing
 pub mod Wires

@@ -12,6 +12,7 @@ mod outcomes;
 pub mod places;
 pub mod plans;
 mod settling;
+pub mod shares;
 mod wires;
 
 pub use configs::Config;
@@ -20,3 +21,4 @@ pub use limits::RunLimits;
 pub use places::Place;
 pub use plans::Faults;
 pub use settling::settle_laws;
+pub use shares::{Share, part_share};
