@@ -7,3 +7,4 @@ mod Subscribed
 mod Zips
 mod Fresh
 mod Counted
+mod Passed

@@ -4,6 +4,7 @@ pub mod ClientMail
 pub mod Configs
 pub mod Jobs
 pub mod Outcomes
+pub mod Passing
 pub mod Plans
 pub mod Settling
 pub mod Subscribing

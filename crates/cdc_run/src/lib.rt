@@ -19,4 +19,4 @@ pub use gates::{Gate, OpenGate};
 pub use limits::RunLimits;
 pub use places::Place;
 pub use plans::Faults;
-pub use settling::settle_laws;
+pub use settling::{passing_laws, settle_laws};
