@@ -8,3 +8,4 @@ mod Zips
 mod Fresh
 mod Counted
 mod Passed
+mod SubscribersParted

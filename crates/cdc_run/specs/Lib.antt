@@ -7,5 +7,6 @@ pub mod Outcomes
 pub mod Passing
 pub mod Plans
 pub mod Settling
+pub mod SubscriberMail
 pub mod Subscribing
 pub mod Wires
