@@ -7,3 +7,5 @@ mod Subscribed
 mod Zips
 mod Fresh
 mod Counted
+mod Passed
+mod SubscribersParted

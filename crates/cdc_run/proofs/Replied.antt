@@ -164,7 +164,7 @@ all_kept test (x ∷ xs) many =
     kept_with x (filter test xs) xs (test x) (all_kept test xs) (kept_most test xs) many
 
 -- over a link with one sender, that sender's messages are all there are
-alone_sent : {M N : Type 0} (into : Incoming M N) (out : Outgoing M N) (left : List (ℕ × (M × N)))
+pub alone_sent : {M N : Type 0} (into : Incoming M N) (out : Outgoing M N) (left : List (ℕ × (M × N)))
     → IsAccount into (out ∷ []) left → map (λ e. e.1) (into.received ++ left) ≡ out.sent
 alone_sent {M} {N} into out left account =
     let entries : List (ℕ × (M × N)) = into.received ++ left in

@@ -4,8 +4,10 @@ pub mod ClientMail
 pub mod Configs
 pub mod Jobs
 pub mod Outcomes
+pub mod Passing
 pub mod Plans
 pub mod Settling
 pub mod Shares
+pub mod SubscriberMail
 pub mod Subscribing
 pub mod Wires

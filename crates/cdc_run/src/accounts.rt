@@ -1,8 +1,8 @@
 //! What is known of a link once all its ends are put together.
 
-ghost use Rattle.std.specs.Prelude.{◌≡◌, ◌∷◌, [], IfOk};
+ghost use Rattle.std.specs.Prelude.{◌≡◌, ◌∷◌, ◌+◌, ℕ, [], All, IfOk, List, vec_len};
 ghost use Rattle.std.specs.List.{AllZip};
-ghost use Rattle.cdc_links.specs.Links.{CanSend};
+ghost use Rattle.cdc_links.specs.Links.{CanSend, IsAccount};
 ghost use Rattle.cdc_run.specs.Accounts.{IsAccounted, IsOnlySender};
 
 use cdc_links::{Handed, LinkIn, LinkOut, Message, settle};
@@ -52,4 +52,23 @@ pub(crate) fn settle_each<M: Message>(
     };
     settle_one(alloc, into, out)?;
     settle_each(alloc, ins, outs)
+}
+
+/// Puts the receiver's end of a link together with all its senders' ends.
+pub(crate) fn settle_link<M: Message>(
+    alloc: Global,
+    into: LinkIn<M>,
+    first: LinkOut<M>,
+    others: Vec<LinkOut<M>>,
+) -> Result<(), AllocError>
+    requires ours { All (λ end. end.link ≡ into.link) (first ∷ others.items) }
+    requires all { into.senders ≡ vec_len others + 1 }
+    ensures account { IfOk result (λ _. (left : List (ℕ × (M × M.Name)))
+        × IsAccount into (first ∷ others.items) left) }
+    ensures lawful { IfOk result (λ _. All (λ end. CanSend M.may_follow end.number end.sent)
+        (first ∷ others.items)) }
+{
+    let all = hand_back_all(alloc, first, others)?;
+    let _tally = settle(into, all);
+    Ok(())
 }

@@ -13,6 +13,7 @@ pub mod places;
 pub mod plans;
 mod settling;
 pub mod shares;
+mod subscribers;
 mod wires;
 
 pub use configs::Config;
@@ -20,5 +21,5 @@ pub use gates::{Gate, OpenGate};
 pub use limits::RunLimits;
 pub use places::Place;
 pub use plans::Faults;
-pub use settling::settle_laws;
+pub use settling::{passing_laws, settle_laws};
 pub use shares::{Share, part_share};

@@ -1,10 +1,11 @@
 //! What a run comes to, told by its lists alone.
 
 ghost use Rattle.cdc_run.specs.Books.{BooksSettle};
+ghost use Rattle.cdc_run.specs.Passing.{EndsCome, EndsPass};
 ghost use Rattle.cdc_run.specs.Settling.{ClientsAreReplied, OrdersAreOfClients};
 ghost use Rattle.cdc_run.specs.Subscribing.{SubscribersCome};
 
-use cdc_ends::{ledger_end_laws, order_laws, subscriber_laws};
+use cdc_ends::{broker_end_laws, connector_end_laws, ledger_end_laws, order_laws, subscriber_laws};
 use cdc_laws::{connector_laws, run_laws};
 use cdc_traffic::traffic_laws;
 
@@ -25,4 +26,16 @@ pub fn settle_laws()
     connector_laws();
     run_laws();
     subscriber_laws();
+}
+
+/// Does nothing: each clause holds of the ends of a run that have all finished and whose links were settled, where the
+/// connector's store is honest and held nothing or the timestamp 0 as the run began. Ledger, connector and broker have
+/// kept to their parts; and each subscriber is what `settle_laws` says of it, against the ledger of the ledger's end.
+pub fn passing_laws()
+    ensures pass { EndsPass }
+    ensures come { EndsCome }
+{
+    connector_end_laws();
+    broker_end_laws();
+    settle_laws();
 }

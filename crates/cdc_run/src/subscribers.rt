@@ -1,0 +1,75 @@
+//! The subscribers of a run, taken apart once they have finished.
+
+ghost use Rattle.std.specs.Prelude.{[], IfOk, OnOk};
+ghost use Rattle.cdc_run.specs.SubscriberMail.{AreSubscribersOf, IsLeftBy, IsMoreLeft};
+
+use cdc_ends::{RunFault, SubscriberEnd, SubscriberParts};
+use cdc_links::{LinkIn, LinkOut};
+use cdc_subscriber::Subscriber;
+use cdc_traffic::{ToBroker, ToSubscriber};
+use std::alloc::{AllocError, Global};
+
+/// What the subscribers of a run leave behind, by place.
+#[derive(Drop)]
+pub(crate) struct SubscriberMail {
+    pub(crate) acks: Vec<LinkOut<ToBroker>>,
+    pub(crate) inboxes: Vec<LinkIn<ToSubscriber>>,
+    pub(crate) subscribers: Vec<Subscriber>,
+}
+
+impl SubscriberMail {
+    // Nobody has left anything.
+    fn new(alloc: Global) -> SubscriberMail
+        ensures { IsLeftBy [] result }
+    {
+        SubscriberMail {
+            acks: Vec::new(alloc),
+            inboxes: Vec::new(alloc),
+            subscribers: Vec::new(alloc),
+        }
+    }
+
+    // One subscriber more.
+    fn add(&mut self, parts: SubscriberParts) -> Result<(), AllocError>
+        ensures { OnOk result (IsMoreLeft self.old parts self.new) }
+    {
+        self.acks.reserve(1)?;
+        self.inboxes.reserve(1)?;
+        self.subscribers.reserve(1)?;
+        let SubscriberParts {
+            number: _,
+            inbox,
+            acks,
+            subscriber,
+        } = parts;
+        self.acks.push_reserved(acks);
+        self.inboxes.push_reserved(inbox);
+        self.subscribers.push_reserved(subscriber);
+        Ok(())
+    }
+}
+
+/// Takes the subscribers' ends of a system apart, all of which have to have finished. `NotOneSystem`: one is of another
+/// system, hasn't its place's number, isn't finished, or has met a fault.
+pub(crate) fn part_subscribers(
+    alloc: Global,
+    system: u64,
+    subscribers: Vec<SubscriberEnd>,
+) -> Result<SubscriberMail, RunFault>
+    ensures are { IfOk result (λ _. AreSubscribersOf system 1 subscribers.items) }
+    ensures mail { IfOk result (λ mail. IsLeftBy subscribers.items mail) }
+{
+    let mut mail = SubscriberMail::new(alloc);
+    for subscriber in subscribers {
+        let number = mail.acks.len() as u64 + 1;
+        if subscriber.system() != system || !subscriber.has_finished() {
+            return Err(RunFault::NotOneSystem);
+        }
+        let parts = subscriber.into_parts();
+        if parts.number != number {
+            return Err(RunFault::NotOneSystem);
+        }
+        mail.add(parts)?;
+    }
+    Ok(mail)
+}
