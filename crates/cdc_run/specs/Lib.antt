@@ -5,6 +5,9 @@ pub mod Configs
 pub mod Jobs
 pub mod Outcomes
 pub mod Plans
+pub mod Scripted
+pub mod Seats
 pub mod Settling
 pub mod Subscribing
+pub mod Tasks
 pub mod Wires
