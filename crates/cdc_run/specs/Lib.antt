@@ -6,8 +6,11 @@ pub mod Jobs
 pub mod Outcomes
 pub mod Passing
 pub mod Plans
+pub mod Scripted
+pub mod Seats
 pub mod Settling
 pub mod Shares
 pub mod SubscriberMail
 pub mod Subscribing
+pub mod Tasks
 pub mod Wires

@@ -9,11 +9,17 @@ pub mod gates;
 mod jobs;
 pub mod limits;
 mod outcomes;
+mod placed;
 pub mod places;
 pub mod plans;
+mod scripted;
+mod scripts;
+mod seats;
 mod settling;
 pub mod shares;
 mod subscribers;
+mod tasks;
+mod turning;
 mod wires;
 
 pub use configs::Config;

@@ -1,0 +1,44 @@
+//! A client's end with the script that it is to submit.
+
+ghost use Rattle.std.specs.Prelude.{◌≡◌, false};
+
+use cdc_ends::ClientEnd;
+use cdc_types::Batch;
+use std::marker::Model;
+
+/// A client's end that hasn't finished, and the batches that it is to submit, in their order.
+#[derive(Drop)]
+pub(crate) struct Scripted {
+    end: ClientEnd,
+    script: Vec<Batch>,
+}
+
+impl Model for Scripted {
+    ghost use Rattle.std.specs.Prelude.{◌≡◌, false};
+    ghost use Rattle.cdc_run.specs.Scripted.{ScriptedState};
+
+    ghost Value = { ScriptedState };
+
+    ghost view = { λ c. record { end = c.end; script = c.script.items } };
+
+    ghost invariant = { λ c. c.end.talk.finished ≡ false };
+}
+
+impl Scripted {
+    /// A client that is to submit this script.
+    pub(crate) fn new(end: ClientEnd, script: Vec<Batch>) -> Scripted
+        requires { end.talk.finished ≡ false }
+        ensures { result ≡ record { end = end; script = script.items } }
+    {
+        Scripted { end, script }
+    }
+
+    /// The end and its script.
+    pub(crate) fn into_parts(self) -> (ClientEnd, Vec<Batch>)
+        ensures end { result.0 ≡ self.end }
+        ensures script { result.1.items ≡ self.script }
+        ensures talks { result.0.talk.finished ≡ false }
+    {
+        (self.end, self.script)
+    }
+}

@@ -1,0 +1,38 @@
+//! A client's script: its batches, one after another, and then that it is done.
+
+ghost use Rattle.std.specs.Prelude.{◌≡◌, ◌++◌, IfOk, false, map, true};
+ghost use Rattle.cdc_ends.specs.Clients.{has_finished};
+ghost use Rattle.cdc_run.specs.Seats.{client_seat};
+
+use crate::gates::Gate;
+use crate::places::Place;
+use cdc_ends::{ClientEnd, RunFault};
+use cdc_types::Batch;
+use std::alloc::Global;
+use std::sync::Wait;
+
+/// Submits the batches of a script in their order, and then says that the client is done. The gate is asked before each
+/// batch, counted from 1.
+pub(crate) fn run_script<R: Wait, G: Gate>(
+    mut end: ClientEnd,
+    script: Vec<Batch>,
+    rt: &R,
+    alloc: Global,
+    gate: &G,
+) -> Result<ClientEnd, RunFault>
+    requires { end.talk.finished ≡ false }
+    ensures seat { IfOk result (λ left. client_seat left ≡ client_seat end) }
+    ensures done { IfOk result (λ left. has_finished left ≡ true) }
+    ensures batches { IfOk result (λ left. map (λ r. r.batch) left.talk.replies
+        ≡ map (λ r. r.batch) end.talk.replies ++ script.items) }
+{
+    let place = Place::Client(end.number());
+    let mut turn: u64 = 0;
+    for batch in script {
+        turn = turn.saturating_add(1);
+        gate.pass(place, turn);
+        let _reply = end.submit(rt, alloc, batch)?;
+    }
+    end.finish(rt)?;
+    Ok(end)
+}

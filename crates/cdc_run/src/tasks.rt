@@ -1,0 +1,45 @@
+//! What each end of a run works on its thread.
+
+use crate::gates::Gate;
+use crate::jobs::Job;
+use crate::placed::{Left, Task};
+use crate::places::Place;
+use crate::scripts::run_script;
+use crate::turning::run_to_end;
+use cdc_ends::RunFault;
+use cdc_progress::ProgressStore;
+use std::alloc::Global;
+use std::sync::Wait;
+
+impl<S: ProgressStore + Send + Drop> Job for Task<S> {
+    ghost use Rattle.cdc_run.specs.Tasks.{Leaves};
+
+    type End = Left<S>;
+
+    ghost ends_as = { Leaves };
+
+    fn work<R: Wait, G: Gate>(self, rt: &R, alloc: Global, gate: &G) -> Result<Left<S>, RunFault> {
+        match self {
+            Task::Ledger(end) => Ok(Left::Ledger(run_to_end(end, Place::Ledger, rt, alloc, gate)?)),
+            Task::Client(client) => {
+                let (end, script) = client.into_parts();
+                Ok(Left::Client(run_script(end, script, rt, alloc, gate)?))
+            }
+            Task::Connector(end) => Ok(Left::Connector(run_to_end(
+                end,
+                Place::Connector,
+                rt,
+                alloc,
+                gate,
+            )?)),
+            Task::Broker(end) => Ok(Left::Broker(run_to_end(end, Place::Broker, rt, alloc, gate)?)),
+            Task::Subscriber(number, end) => Ok(Left::Subscriber(run_to_end(
+                end,
+                Place::Subscriber(number),
+                rt,
+                alloc,
+                gate,
+            )?)),
+        }
+    }
+}
