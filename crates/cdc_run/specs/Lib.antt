@@ -7,6 +7,7 @@ pub mod Outcomes
 pub mod Passing
 pub mod Plans
 pub mod Settling
+pub mod Streams
 pub mod SubscriberMail
 pub mod Subscribing
 pub mod Wires

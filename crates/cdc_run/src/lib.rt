@@ -12,6 +12,7 @@ mod outcomes;
 pub mod places;
 pub mod plans;
 mod settling;
+mod streams;
 mod subscribers;
 mod wires;
 
