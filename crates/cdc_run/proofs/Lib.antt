@@ -9,3 +9,4 @@ mod Fresh
 mod Counted
 mod Passed
 mod SubscribersParted
+mod Streamed

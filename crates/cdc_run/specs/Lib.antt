@@ -10,6 +10,7 @@ pub mod Scripted
 pub mod Seats
 pub mod Settling
 pub mod Shares
+pub mod Streams
 pub mod SubscriberMail
 pub mod Subscribing
 pub mod Tasks

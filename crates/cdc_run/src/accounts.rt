@@ -72,3 +72,24 @@ pub(crate) fn settle_link<M: Message>(
     let _tally = settle(into, all);
     Ok(())
 }
+
+/// Puts the receiver's end of a link together with the ends of its two senders.
+pub(crate) fn settle_pair<M: Message>(
+    alloc: Global,
+    into: LinkIn<M>,
+    first: LinkOut<M>,
+    second: LinkOut<M>,
+) -> Result<(), AllocError>
+    requires first { first.link ≡ into.link }
+    requires second { second.link ≡ into.link }
+    requires two { into.senders ≡ 2 }
+    ensures account { IfOk result (λ _. (left : List (ℕ × (M × M.Name)))
+        × IsAccount into (first ∷ second ∷ []) left) }
+    ensures lawful { IfOk result (λ _. All (λ end. CanSend M.may_follow end.number end.sent)
+        (first ∷ second ∷ [])) }
+{
+    let mut others = Vec::with_capacity(alloc, 1)?;
+    others.push_reserved(second);
+    settle_link(alloc, into, first, others)?;
+    Ok(())
+}

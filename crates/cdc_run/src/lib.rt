@@ -17,6 +17,7 @@ mod scripts;
 mod seats;
 mod settling;
 pub mod shares;
+mod streams;
 mod subscribers;
 mod tasks;
 mod turning;

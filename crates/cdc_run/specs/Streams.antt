@@ -1,0 +1,48 @@
+-- What goes from the ledger to the subscribers of a run, put together once all have finished.
+use Rattle.std.specs.Prelude.{◌≡◌, ℕ, ◌+◌, true, Option, List, [], ◌∷◌, All, length, map}
+use Rattle.std.specs.List.{AllZip}
+use Rattle.cdc_ends.specs.BrokerEnds.{Desk as BrokerDesk}
+use Rattle.cdc_ends.specs.ConnectorEnds.{IsConnectorEnd, Publishing, start_of}
+use Rattle.cdc_ends.specs.LedgerEnds.{Desk as LedgerDesk, IsDesk}
+use Rattle.cdc_ends.specs.SubscriberEnds.{Intake, SubscriberState}
+use Rattle.cdc_links.specs.Links.{Incoming, Outgoing}
+use Rattle.cdc_traffic.specs.declared.messages.ToBroker.{ToBroker}
+use Rattle.cdc_traffic.specs.declared.messages.ToConnector.{ToConnector}
+use Rattle.cdc_traffic.specs.declared.pasts.Past.{Past}
+use Rattle.cdc_run.specs.Accounts.{IsOnlySender}
+use Rattle.cdc_run.specs.Passing.{ComesOf}
+use Rattle.cdc_run.specs.SubscriberMail.{intakes_of}
+
+-- the ends of a connector's links
+pub record Middle : Type 0 where
+  pub inbox : Incoming ToConnector (Option Past)
+  pub replies : Outgoing ToConnector (Option Past)
+  pub packets : Outgoing ToBroker (Unit {0})
+
+-- they are wired to a broker's end, and that one to subscribers: the ledger and the broker send to the connector, the
+-- connector and the subscribers to the broker, and the broker to each subscriber over that one's link
+pub record AreJoined (m : Middle) (b : BrokerDesk) (subscribers : List SubscriberState) : Type 0 where
+  pub two : m.inbox.senders ≡ 2
+  pub replies : m.replies.link ≡ m.inbox.link
+  pub confirms : b.confirms.link ≡ m.inbox.link
+  pub packets : m.packets.link ≡ b.inbox.link
+  pub acks : All (λ s. s.intake.acks.link ≡ b.inbox.link) subscribers
+  pub inboxes : length subscribers ≡ length b.consumers
+      → AllZip IsOnlySender (map (λ s. s.inbox) (intakes_of subscribers)) (map (λ c. c.link) b.consumers)
+
+-- they are what a ledger's end and a connector that has finished had of them; and the connector's store is honest, and
+-- held nothing or the timestamp 0 as the run began
+pub record AreLeftBy (d : LedgerDesk) (c : Publishing) (m : Middle) : Type 0 where
+  pub desk : IsDesk d
+  pub connector : IsConnectorEnd c
+  pub over : c.finished ≡ true
+  pub honest : c.honest ≡ true
+  pub start : start_of c.first c.held ≡ 0
+  pub inbox : c.inbox ≡ m.inbox
+  pub replies : d.connector ≡ m.replies
+  pub packets : c.packets ≡ m.packets
+
+-- the subscribers from this place on have come to what they may rely on
+abbrev pub AllCome : LedgerDesk → BrokerDesk → ℕ → List Intake → Type 0
+AllCome d b place [] = Unit {0}
+AllCome d b place (s ∷ subscribers) = ComesOf d b place s × AllCome d b (place + 1) subscribers
