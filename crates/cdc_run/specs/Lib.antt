@@ -11,3 +11,4 @@ pub mod Settling
 pub mod Subscribing
 pub mod Tasks
 pub mod Wires
+pub mod Worked
