@@ -12,6 +12,7 @@ mod outcomes;
 mod placed;
 pub mod places;
 pub mod plans;
+mod running;
 mod scopes;
 mod scripted;
 mod scripts;
