@@ -2,6 +2,7 @@ mod Booked
 mod ClientsParted
 mod Closes
 mod Gathering
+mod Worked
 mod Replied
 mod Subscribed
 mod Zips

@@ -15,3 +15,4 @@ pub mod SubscriberMail
 pub mod Subscribing
 pub mod Tasks
 pub mod Wires
+pub mod Worked

@@ -12,6 +12,8 @@ mod outcomes;
 mod placed;
 pub mod places;
 pub mod plans;
+mod running;
+mod scopes;
 mod scripted;
 mod scripts;
 mod seats;
