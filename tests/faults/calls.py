@@ -1,8 +1,9 @@
 """Has each growth of one call refused in turn, for the calls that no command makes: a part of sweep.py.
 
 The program is cdc_calls, which makes the value first, says `made` on standard error, and makes the call then, once more
-where it was refused. A growth that is refused before that ends the program with a fault and nothing printed. Each one
-that comes after it is the call's own: the first call is refused, the second gives what it gives without a refusal.
+where it was refused. A growth that is refused before that ends the program with a fault and nothing printed, or changes nothing
+where it is one of those that read the words: a run with a word that names no call tells how many these are. Each one
+that comes after `made` is the call's own: the first call is refused, the second gives what it gives without a refusal.
 """
 import os
 import subprocess
@@ -10,8 +11,8 @@ import threading
 
 SECONDS = 60
 NAMES = ["items", "batch", "results", "delivery", "packet", "binding", "body"]
-# The statuses: the value wasn't made, and something couldn't be said.
-NOT_MADE, NOT_SAID = 2, 9
+# The statuses: the value wasn't made, the words name no call, and something couldn't be said.
+NOT_MADE, BAD_WORDS, NOT_SAID = 2, 8, 9
 MADE = b"made\n"
 
 
@@ -37,6 +38,19 @@ class Sweep:
         with self.lock:
             self.failures.append(f"failed: {what}")
 
+    def reading(self):
+        """How many growths it takes to read the words."""
+        calls = os.path.join(self.room, "calls-none")
+        ended = self.run("none", CALLS=calls)
+        if ended != (BAD_WORDS, b"", False):
+            self.fail(f"cdc_calls none: {ended}")
+        return self.counted(calls)
+
+    def counted(self, calls):
+        """How many growths a run made."""
+        with open(calls, "rb") as file:
+            return int(dict(line.split() for line in file)[b"growth"])
+
     def growths(self, name):
         """The numbers of growths in a run that has none refused, and what it prints."""
         calls = os.path.join(self.room, f"calls-{name}")
@@ -44,16 +58,17 @@ class Sweep:
         refused, _, value = printed.partition(b"\n")
         if status != 0 or refused != b"refused 0" or not value or not made:
             self.fail(f"cdc_calls {name}: {status}, {printed!r}")
-        with open(calls, "rb") as file:
-            counts = dict(line.split() for line in file)
-        return range(1, int(counts[b"growth"]) + 1), value
+        return range(1, self.counted(calls) + 1), value
 
     def sweep(self, pool):
+        words = self.reading()
         for name in NAMES:
             numbers, value = self.growths(name)
             own = []
             for number, ended in zip(numbers, pool.map(lambda it: self.run(name, FAULT=f"growth:{it}"), numbers)):
-                if ended[2]:
+                if number <= words:
+                    right = ended == (0, b"refused 0\n" + value, True) or ended[0] == NOT_MADE and not ended[1]
+                elif ended[2]:
                     own.append(number)
                     right = ended == (0, b"refused 1\n" + value, True)
                 else:
