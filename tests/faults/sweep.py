@@ -1,8 +1,9 @@
 #!/usr/bin/env python3
 """Makes each growth, each read and each write of the program fail in turn, and looks how it ends.
 
-  tests/faults/sweep.py [PROGRAM [SAVES]]    PROGRAM: crates/cdc_app/out/cdc_app
-                                             SAVES: cdc_saves, from the same tree as PROGRAM
+  tests/faults/sweep.py [PROGRAM [SAVES [CALLS]]]    PROGRAM: crates/cdc_app/out/cdc_app
+                                                     SAVES: cdc_saves, from the same tree as PROGRAM
+                                                     CALLS: cdc_calls, from there too
 
 A small library, faults.c, is built and loaded before the C library; it refuses the call that a plan names. For every
 run below, and for every call of it in turn:
@@ -13,7 +14,8 @@ run below, and for every call of it in turn:
 - a write that is refused ends it with status 1, a beginning of what it prints, and the write_fault on standard error;
   one of standard error's changes nothing that is printed, nor the status;
 - reads and writes that fall short change nothing.
-Then the same of saves and loads of progress, by the program cdc_saves: saves.py.
+Then the same of saves and loads of progress, by the program cdc_saves: saves.py; and each growth of
+the calls that no command makes is refused, by the program cdc_calls: calls.py.
 It needs a C compiler, `cc`. The last line is 'faults: N runs, M failed'; the status is 0 where none failed.
 """
 import os
@@ -27,6 +29,7 @@ from collections import Counter
 from concurrent.futures import ThreadPoolExecutor
 
 sys.dont_write_bytecode = True
+import calls
 import saves
 
 HERE = os.path.dirname(os.path.realpath(__file__))
@@ -184,15 +187,18 @@ crates = os.path.dirname(os.path.dirname(os.path.dirname(program)))
 saver = os.path.realpath(sys.argv[2] if len(sys.argv) > 2 else f"{crates}/cdc_saves/out/cdc_saves")
 if not os.access(saver, os.X_OK):
     sys.exit(f"faults: there is no program {saver}, which `rt run` makes in crates/cdc_saves")
+caller = os.path.realpath(sys.argv[3] if len(sys.argv) > 3 else f"{crates}/cdc_calls/out/cdc_calls")
+if not os.access(caller, os.X_OK):
+    sys.exit(f"faults: there is no program {caller}, which `rt run` makes in crates/cdc_calls")
 with tempfile.TemporaryDirectory() as room:
     library = built_library(room)
     with ThreadPoolExecutor(JOBS) as pool:
         for number, (words, stdin) in enumerate(CASES):
             Case(number, words, stdin).sweep(pool)
-        of_saves = saves.Sweep(saver, library, room)
-        of_saves.sweep(pool)
-        counts["runs"] += of_saves.runs
-        failures += of_saves.failures
+        for part in [saves.Sweep(saver, library, room), calls.Sweep(caller, library, room)]:
+            part.sweep(pool)
+            counts["runs"] += part.runs
+            failures += part.failures
 for it in failures[:20]:
     print(it)
 print(f"faults: {counts['runs']} runs, {len(failures)} failed")

@@ -1,0 +1,81 @@
+"""Has each growth of one call refused in turn, for the calls that no command makes: a part of sweep.py.
+
+The program is cdc_calls, which makes the value first, says `made` on standard error, and makes the call then, once more
+where it was refused. A growth that is refused before that ends the program with a fault and nothing printed, or changes nothing
+where it is one of those that read the words: a run with a word that names no call tells how many these are. Each one
+that comes after `made` is the call's own: the first call is refused, the second gives what it gives without a refusal.
+"""
+import os
+import subprocess
+import threading
+
+SECONDS = 60
+NAMES = ["items", "batch", "results", "delivery", "packet", "binding", "body"]
+# The statuses: the value wasn't made, the words name no call, and something couldn't be said.
+NOT_MADE, BAD_WORDS, NOT_SAID = 2, 8, 9
+MADE = b"made\n"
+
+
+class Sweep:
+    """The runs of cdc_calls, and what went wrong with them."""
+
+    def __init__(self, program, library, room):
+        self.program, self.library, self.room = program, library, room
+        self.lock = threading.Lock()
+        self.runs = 0
+        self.failures = []
+
+    def run(self, name, **plan):
+        """Makes the call under a plan. Answers the status, what was printed, and whether the value was made."""
+        with self.lock:
+            self.runs += 1
+        env = dict(os.environ, LD_PRELOAD=self.library, **plan)
+        done = subprocess.run([self.program, name], stdin=subprocess.DEVNULL, capture_output=True, env=env,
+                              timeout=SECONDS)
+        return done.returncode, done.stdout, done.stderr == MADE
+
+    def fail(self, what):
+        with self.lock:
+            self.failures.append(f"failed: {what}")
+
+    def reading(self):
+        """How many growths it takes to read the words."""
+        calls = os.path.join(self.room, "calls-none")
+        ended = self.run("none", CALLS=calls)
+        if ended != (BAD_WORDS, b"", False):
+            self.fail(f"cdc_calls none: {ended}")
+        return self.counted(calls)
+
+    def counted(self, calls):
+        """How many growths a run made."""
+        with open(calls, "rb") as file:
+            return int(dict(line.split() for line in file)[b"growth"])
+
+    def growths(self, name):
+        """The numbers of growths in a run that has none refused, and what it prints."""
+        calls = os.path.join(self.room, f"calls-{name}")
+        status, printed, made = self.run(name, CALLS=calls)
+        refused, _, value = printed.partition(b"\n")
+        if status != 0 or refused != b"refused 0" or not value or not made:
+            self.fail(f"cdc_calls {name}: {status}, {printed!r}")
+        return range(1, self.counted(calls) + 1), value
+
+    def sweep(self, pool):
+        words = self.reading()
+        for name in NAMES:
+            numbers, value = self.growths(name)
+            own = []
+            for number, ended in zip(numbers, pool.map(lambda it: self.run(name, FAULT=f"growth:{it}"), numbers)):
+                if number <= words:
+                    right = ended == (0, b"refused 0\n" + value, True) or ended[0] == NOT_MADE and not ended[1]
+                elif ended[2]:
+                    own.append(number)
+                    right = ended == (0, b"refused 1\n" + value, True)
+                else:
+                    right = ended[0] in (NOT_MADE, NOT_SAID) and not ended[1]
+                if not right:
+                    self.fail(f"cdc_calls {name}, growth:{number}: {ended}")
+            # The call comes last, and it grows.
+            if not own or own != list(numbers)[-len(own):]:
+                self.fail(f"cdc_calls {name}: its own growths are {own} of {len(numbers)}")
+            print(f"cdc_calls {name}: {len(numbers)} growths, {len(own)} of them the call's", flush=True)
