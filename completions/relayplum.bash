@@ -4,9 +4,9 @@ _relayplum() {
     local word=${COMP_WORDS[COMP_CWORD]} words=''
     COMPREPLY=()
     if [ "$COMP_CWORD" = 1 ]; then
-        words='books messages simulate help -h --help -V --version'
+        words='books messages simulate run help -h --help -V --version'
     elif [ "${COMP_WORDS[1]}" = help ]; then
-        words='books messages simulate help'
+        words='books messages simulate run help'
     elif [ "${COMP_WORDS[COMP_CWORD - 1]}" = --window ]; then
         words='1'
     elif [[ $word == -* ]]; then
@@ -14,6 +14,9 @@ _relayplum() {
             books) words='--explain --check -h --help' ;;
             messages) words='--check -h --help' ;;
             simulate) words='--window --explain --trace --diagram --check -h --help' ;;
+            run)
+                words='--window --prefetch --lose-confirm --lose-publish --restart-after --repeat --close --progress -h --help'
+                ;;
         esac
     fi
     # Where there is no such word, files are offered.

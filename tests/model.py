@@ -9,9 +9,13 @@ hundred lines.
     tests/model.py books FILE
     tests/model.py messages FILE
     tests/model.py simulate FILE STEPS [--window N]
+    tests/model.py run FILE [--lose-confirm N].. [--lose-publish N].. [--restart-after N].. [--repeat QUEUE:POSITION]..
+                            [--close SUBSCRIBER:N].. [--window N] [--prefetch N]
 
-FILE may be `-`. Output and exit status are those of `relayplum` with the same words.
+FILE may be `-`. Output and exit status are those of `relayplum` with the same words; under `run`, of a script with
+batches of two clients, what it prints where they come to the ledger in the order of the file.
 """
+import itertools
 import json
 import sys
 from dataclasses import dataclass, field, fields, replace
@@ -21,6 +25,7 @@ MOST_ITEMS = 1_000
 MOST_PAIRS = 10
 MOST_SUBSCRIBERS = 8
 CLIENTS = (1, 2)
+MOST_SUBSCRIBERS_OF_A_RUN = 2
 GREATEST_128 = 2**128 - 1
 GREATEST_MOMENT = 2**63 - 1
 SECOND = 1_000_000_000
@@ -915,6 +920,78 @@ class World:
         return 'closed already' if was_closed else 'closed'
 
 
+# ---------------------------------------------------------------- Runs
+
+
+@dataclass(frozen=True)
+class Plan:
+    """The faults of a run. Each count begins with 1 and is over the whole run.
+
+    How many events a window has, how many deliveries may be on their way, and which queues go back, shows nowhere.
+    """
+
+    lose_confirm: tuple = ()
+    lose_publish: tuple = ()
+    restart_after: tuple = ()
+    close: tuple = ()  # pairs of a subscriber and a number of applied events
+
+    def close_after(self, subscriber):
+        """After how many applied events a subscriber closes; None where it stays open."""
+        return min((count for number, count in self.close if number == subscriber), default=None)
+
+
+def published(events, plan, progress):
+    """What the broker takes of a connector with a window of one event, in order, and the progress saved in the end.
+
+    An item is sent again, by the next session, where the publish or its confirm was lost and where the connector was
+    to restart right after it; what was saved until then stays.
+    """
+    session, moment = (0, 0) if progress is None else progress
+    sent = 0
+    taken = []
+    is_done = False
+    while not is_done:
+        session += 1
+        for item in [event for event in events if event.timestamp > moment] + [END_MARK]:
+            sent += 1
+            is_confirmed = sent not in plan.lose_publish
+            if is_confirmed:
+                taken.append(item)
+                is_confirmed = len(taken) not in plan.lose_confirm
+            if sent in plan.restart_after or not is_confirmed:
+                break
+            if item is END_MARK:
+                is_done = True
+            else:
+                moment = item.timestamp
+    return taken, (session, moment)
+
+
+def heard(items, binding, close_after):
+    """A subscriber that was handed these items, as far as its binding lets them through."""
+    subscriber = Subscriber()
+    for item in items:
+        if item is END_MARK or binding.matches(item):
+            subscriber.take(item)
+        if close_after is not None and len(subscriber.applied) >= close_after:
+            subscriber.closed = True
+    return subscriber
+
+
+def orders(batches):
+    """Each order in which the batches of two clients can come to the ledger, as places in the file; its own first."""
+    places = range(len(batches))
+    of_first = [place for place in places if batches[place].client == CLIENTS[0]]
+    of_others = [place for place in places if batches[place].client != CLIENTS[0]]
+    found = [list(places)]
+    for turns in itertools.combinations(places, len(of_first)):
+        first, others = iter(of_first), iter(of_others)
+        order = [next(first) if turn in turns else next(others) for turn in places]
+        if order != found[0]:
+            found.append(order)
+    return found
+
+
 # ---------------------------------------------------------------- Scripts and step files
 
 SCRIPT_FAULTS = [
@@ -1139,6 +1216,7 @@ class Report:
     steps: list = field(default_factory=list)  # each with its answer
     refused: tuple = None  # the step that was refused, and the name of the refusal
     world: World = None  # what `simulate` came to
+    progress: tuple = None  # what `run` saved last
 
 
 def report_of_fault(file, fault):
@@ -1167,17 +1245,20 @@ def yes_or_no(value):
     return 'yes' if value else 'no'
 
 
-def run_batches(script):
-    """A ledger that was handed all batches in file order and then closed; each batch with its results."""
+def run_batches(script, order=None):
+    """A ledger that was handed all batches and then closed, and each batch with its results, in file order.
+
+    The batches come to it in file order too, or in the order of these places.
+    """
     ledger = Ledger()
-    batches = []
-    for batch in script.batches:
+    results = {}
+    for place in range(len(script.batches)) if order is None else order:
         try:
-            batches.append((batch, ledger.submit(batch)))
+            results[place] = ledger.submit(script.batches[place])
         except BatchRefused as refusal:
-            batches.append((batch, refusal.name))
+            results[place] = refusal.name
     ledger.closed = True
-    return ledger, batches
+    return ledger, [(batch, results[place]) for place, batch in enumerate(script.batches)]
 
 
 def batch_lines(batches):
@@ -1247,6 +1328,40 @@ def play(world, steps, report):
             return
 
 
+def run(script_data, plan=Plan(), progress=None):
+    """What a run may print, and save: a report for each order in which the batches can come to the ledger."""
+    try:
+        script = read_script(script_data)
+    except Fault as fault:
+        return [report_of_fault('script', fault)]
+    if len(script.bindings) > MOST_SUBSCRIBERS_OF_A_RUN:
+        return [Report('fault: too_many_subscribers\n', 2)]
+    return [run_in_order(script, order, plan, progress) for order in orders(script.batches)]
+
+
+def run_in_order(script, order, plan, progress):
+    ledger, batches = run_batches(script, order)
+    items, progress = published(ledger.events, plan, progress)
+    text = batch_lines(batches)
+    for number, binding in enumerate(script.bindings, start=1):
+        text += subscriber_lines(number, heard(items, binding, plan.close_after(number)))
+    return Report(text, 0, batches=batches, progress=progress)
+
+
+def plan_of(words):
+    """The plan that these words of the command line say."""
+    told = {'--lose-confirm': [], '--lose-publish': [], '--restart-after': [], '--close': []}
+    for word, value in zip(words[::2], words[1::2]):
+        if word == '--close':
+            subscriber, _, count = value.partition(':')
+            told[word].append((int(subscriber), int(count)))
+        elif word in told:
+            told[word].append(int(value))
+        elif word not in ('--repeat', '--window', '--prefetch'):
+            sys.exit(__doc__)
+    return Plan(*(tuple(counts) for counts in told.values()))
+
+
 def bytes_of(name):
     if name == '-':
         return sys.stdin.buffer.read()
@@ -1256,6 +1371,10 @@ def bytes_of(name):
 
 def main(words):
     window = 1
+    if words[:1] == ['run'] and len(words) >= 2:
+        report = run(bytes_of(words[1]), plan_of(words[2:]))[0]
+        sys.stdout.write(report.text)
+        return report.status
     if len(words) >= 2 and words[-2] == '--window':
         window = int(words[-1])
         words = words[:-2]

@@ -217,6 +217,11 @@ call ./link --unproved simulate books -
 check 'unproved: files with such names where files are meant' \
     "cdc_app: try --data 1-books=$room/elsewhere/books --data 2--=$room/elsewhere/- -- simulate 1-books 2--" "$calls"
 rm books 7 ./-
+touch 7 1:2
+call ./link --unproved run - --prefetch 7 --close 1:2 --progress 7
+check 'unproved: numbers are no files, and progress is saved where it is to be' \
+    "cdc_app: try -- run - --prefetch 7 --close 1:2 --progress $room/elsewhere/7" "$calls"
+rm 7 1:2
 touch 'a = b'
 call ./link --unproved books 'a = b'
 check 'unproved: a name with an equals sign' "cdc_app: try --data 1-a - b=$room/elsewhere/a = b -- books 1-a - b" "$calls"

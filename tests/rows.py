@@ -4,17 +4,20 @@
   tests/rows.py [PROGRAM] [WORD]    PROGRAM: crates/cdc_app/out/cdc_app; WORD: only rows with this in their names
 
 A row NAME is the files NAME.args, with a word of the command line on each line, NAME.stdout and NAME.status, and as far
-as it needs them NAME.script and NAME.steps. A word FILE or STEPS stands for the path of the script or of the step file.
-The word `-`, and a row without words, have the script on standard input. Prints each row that fails, and what differs.
+as it needs them NAME.script, NAME.steps and NAME.progress. A word FILE or STEPS stands for the path of the script or of
+the step file, and PROGRESS for that of a file that holds what NAME.progress does, or that isn't there where there is no
+such part. The word `-`, and a row without words, have the script on standard input. Prints each row that fails, and
+what differs.
 """
 import os
+import shutil
 import subprocess
 import sys
 import tempfile
 
 HERE = os.path.dirname(os.path.realpath(__file__))
 ROWS = f"{HERE}/rows"
-PARTS = ("args", "script", "steps", "stdout", "status")
+PARTS = ("args", "script", "steps", "progress", "stdout", "status")
 SECONDS = 60
 
 
@@ -53,7 +56,10 @@ def complaint(program, name, parts, folder):
         if word in words and part not in parts:
             return f"it has no file .{part}"
     given = read(name, "script") if "script" in parts and ("-" in words or not words) else b""
-    paths = {"FILE": f"{ROWS}/{name}.script", "STEPS": f"{ROWS}/{name}.steps"}
+    saved = f"{folder}/{name}.progress"
+    if "progress" in parts:
+        shutil.copyfile(f"{ROWS}/{name}.progress", saved)
+    paths = {"FILE": f"{ROWS}/{name}.script", "STEPS": f"{ROWS}/{name}.steps", "PROGRESS": saved}
     words = [paths.get(it, it) for it in words]
     try:
         ran = subprocess.run([program, *words], input=given, capture_output=True, timeout=SECONDS, cwd=folder)

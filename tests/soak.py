@@ -4,11 +4,12 @@
     tests/soak.py --seed S --count N [--seconds T] [--program PATH] [--jobs J]
     tests/soak.py --seed S --case K
 
-A case is a script and a step file, made of the seed and the case's number alone. The program runs on it under
-`books`, `messages` and `simulate`; output and exit status have to be the model's. Where they aren't, lines are left
-out while the difference stays, and what is left is printed with the words that bring it back. In the end, and where
-the soak is stopped (SIGTERM, Ctrl-C), it prints how often each result, fault, step and answer came up, and which
-never did.
+A case is a script, a step file and the words of a run, made of the seed and the case's number alone. The program runs
+on it under `books`, `messages`, `simulate` and `run`; output and exit status have to be the model's, and under `run`
+the progress that is saved. Batches of two clients may come to the ledger in any order that keeps each client's: `run`
+then has to do what the model does in one of them. Where they differ, lines are left out while the difference stays, and
+what is left is printed with the words that bring it back; of a run it may take some tries. In the end, and where the
+soak is stopped (SIGTERM, Ctrl-C), it prints how often each result, fault, step and answer came up, and which never did.
 
 Without --count it goes on for --seconds; with neither, 1,000 cases. Exit status 1 where there was a difference.
 """
@@ -25,11 +26,13 @@ import time
 from dataclasses import asdict, dataclass, replace
 
 import model
+import rooms
 
 PROGRAM = pathlib.Path(__file__).resolve().parent.parent / 'crates/cdc_app/out/cdc_app'
 CHUNK = 20  # cases that a worker takes at once
 LONGEST = 60  # seconds that a run may take
 MOST_TRIES = 2000  # runs while a difference is shrunk
+LONGEST_SHRINKING = 120  # seconds
 MOST_SHOWN = 3  # differences that are shrunk and shown
 MAX = model.GREATEST_128
 END_OF_TIME = model.GREATEST_MOMENT
@@ -64,19 +67,20 @@ class ScriptMaker:
         self.has_huge_amounts = rng.random() < 0.35
         self.is_late = rng.random() < 0.2
         self.limited = rng.choice([0.1, 0.1, 0.7])  # the share of accounts with flags
+        self.has_two_clients = rng.random() < 0.3
 
     def chance(self, share):
         return self.rng.random() < share
 
     def script(self):
-        for _ in range(self.rng.choice([1, 1, 1, 2, 2, 3, 8])):
+        for _ in range(self.rng.choice([1, 1, 1, 2, 2, 2, 3, 8])):
             self.lines.append(self.subscriber())
         self.batch('accounts', self.rng.randint(2, 6))
-        for _ in range(self.rng.choice([0, 1, 2, 2, 3, 3, 4, 5, 7])):
+        for _ in range(self.rng.choice([1, 2, 3, 4, 5] if self.has_two_clients else [0, 1, 2, 2, 3, 3, 4, 5, 7])):
+            if self.has_two_clients and self.chance(0.6):
+                self.lines.append(f'client {self.rng.choice([1, 2, 2])}')
             kind = self.rng.choices(['transfers', 'pulse', 'accounts'], [8, 3, 1])[0]
             self.batch(kind, self.rng.choice([0, 1, 1, 2, 2, 3, 3, 4, 5, 6, 8, 12]))
-            if self.chance(0.05):
-                self.lines.append(f'client {self.rng.randint(1, 2)}')
             if self.chance(0.03) and self.subscribers() < model.MOST_SUBSCRIBERS:
                 self.lines.append(self.subscriber())
         return self.lines
@@ -546,6 +550,51 @@ def last_of(ledger):
 FAULTY = ('crash', 'rewind', 'break', 'ack', 'close')
 
 
+# ---------------------------------------------------------------- Random runs
+
+
+class PlanMaker:
+    """Chooses the words of a run. Most counts name something that there is."""
+
+    def __init__(self, rng, script):
+        self.rng = rng
+        self.events = model.run_batches(script)[0].events
+        self.subscribers = len(script.bindings)
+
+    def words(self):
+        words = self.rng.choice([(), (), ('--window', '1')]) + self.prefetch()
+        for option in ('--lose-confirm', '--lose-publish', '--restart-after'):
+            for _ in range(self.rng.choice([0, 0, 1, 1, 2, 4])):
+                words += (option, f'{zeros(self.rng)}{self.count()}')
+        for _ in range(self.rng.choice([0, 0, 1, 2, 4])):
+            words += ('--repeat', f'{self.subscriber()}:{self.count()}')
+        for _ in range(self.rng.choice([0, 0, 0, 1, 2])):
+            words += ('--close', f'{self.subscriber()}:{self.count()}')
+        return words
+
+    def prefetch(self):
+        if self.rng.random() < 0.5:
+            return ()
+        return ('--prefetch', str(self.rng.choice([1, 1, 2, 3, 8, 64])))
+
+    def count(self):
+        """A count of events or packets, or a position."""
+        if self.rng.random() < 0.03:
+            return self.rng.choice([2**32, 2**64 - 1])
+        return self.rng.randint(1, len(self.events) + 3)
+
+    def subscriber(self):
+        return self.rng.randint(1, self.subscribers + (self.rng.random() < 0.05))
+
+    def progress(self):
+        """What was saved by an earlier run, if anything was."""
+        if self.rng.random() < 0.5:
+            return None
+        moments = [0] + [event.timestamp + self.rng.choice([0, 0, 0, -1]) for event in self.events]
+        moments += [END_OF_TIME] * (self.rng.random() < 0.05)
+        return self.rng.choice([0, 1, 7, 2**63]), min(max(self.rng.choice(moments), 0), END_OF_TIME)
+
+
 # ---------------------------------------------------------------- Broken lines and odd layouts
 
 NO_NUMBERS = ['x', '-1', '+1', '1.0', '0x1', '1e3', '1_0', '12a', '"1"', '=']
@@ -693,6 +742,9 @@ class Case:
     script: bytes
     steps: bytes
     words_of_window: tuple
+    plan: tuple  # words of a run
+    saves: bool  # whether it keeps its progress in a file
+    progress: tuple  # what stands there before, if anything does
 
 
 def case_of(seed, number):
@@ -700,12 +752,17 @@ def case_of(seed, number):
     lines = ScriptMaker(rng).script()
     spoiler = Spoiler(rng)
     steps = StepMaker(rng, script_of(lines)).steps()
+    runs = PlanMaker(rng, script_of(lines))
+    plan = runs.words()
+    saves = rng.random() < 0.5
+    progress = runs.progress() if saves else None
     spoilt = rng.random()
     if spoilt < 0.15:
         lines = spoiler.spoilt_script(lines)
     elif spoilt < 0.25:
         steps = spoiler.spoilt_steps(steps)
-    return Case(spoiler.lay_out(lines), spoiler.lay_out(steps), rng.choice([(), ('--window', '1')]))
+    script, step_file = spoiler.lay_out(lines), spoiler.lay_out(steps)
+    return Case(script, step_file, rng.choice([(), ('--window', '1')]), plan, saves, progress)
 
 
 def script_of(lines):
@@ -713,11 +770,12 @@ def script_of(lines):
 
 
 def reports_of(case):
-    """What the model says, by command."""
+    """What the model says, by command: one report, under `run` of two clients one for each order of their batches."""
     return {
-        'books': model.books(case.script),
-        'messages': model.messages(case.script),
-        'simulate': model.simulate(case.script, case.steps),
+        'books': [model.books(case.script)],
+        'messages': [model.messages(case.script)],
+        'simulate': [model.simulate(case.script, case.steps)],
+        'run': model.run(case.script, model.plan_of(case.plan), case.progress),
     }
 
 
@@ -725,7 +783,23 @@ def words_of(command, case):
     """The words of the program for a command over the files in the folder where it runs."""
     if command == 'simulate':
         return ['simulate', 'soak.script', 'soak.steps', *case.words_of_window]
+    if command == 'run':
+        return ['run', 'soak.script', *case.plan, *(['--progress', 'soak.progress'] if case.saves else [])]
     return [command, 'soak.script']
+
+
+def record_of(progress):
+    """The bytes of saved progress."""
+    return None if progress is None else b'tb-cdc 1 %d %d\n' % progress
+
+
+@dataclass(frozen=True)
+class Found:
+    """What the program printed, its exit status, and what it left in the file of progress."""
+
+    text: bytes
+    status: object
+    record: bytes
 
 
 class Runner:
@@ -738,9 +812,12 @@ class Runner:
     def write(self, case):
         (self.folder / 'soak.script').write_bytes(case.script)
         (self.folder / 'soak.steps').write_bytes(case.steps)
+        self.progress = self.folder / 'soak.progress'
+        self.progress.unlink(missing_ok=True)
+        if case.progress is not None:
+            self.progress.write_bytes(record_of(case.progress))
 
     def run(self, command, case):
-        """Standard output and exit status."""
         try:
             run = subprocess.run(
                 [self.program, *words_of(command, case)],
@@ -751,12 +828,19 @@ class Runner:
                 timeout=LONGEST,
             )
         except subprocess.TimeoutExpired:
-            return b'', f'none within {LONGEST} seconds'
-        return run.stdout, run.returncode
+            return Found(b'', f'none within {LONGEST} seconds', None)
+        record = self.progress.read_bytes() if self.progress.exists() else None
+        return Found(run.stdout, run.returncode, record)
 
 
-def is_same(report, found):
-    return (report.text.encode('ascii'), report.status) == found
+def wanted(report, case):
+    """What the program has to come to, by a report of the model."""
+    left = case.progress if report.progress is None or not case.saves else report.progress
+    return Found(report.text.encode('ascii'), report.status, record_of(left))
+
+
+def is_allowed(reports, case, found):
+    return any(wanted(report, case) == found for report in reports)
 
 
 # ---------------------------------------------------------------- A difference made small
@@ -765,13 +849,14 @@ def is_same(report, found):
 def shrunk(runner, command, case):
     """The case with as many lines left out as the difference allows."""
     tries = [MOST_TRIES]
+    until = time.monotonic() + LONGEST_SHRINKING
 
     def differs(candidate):
         tries[0] -= 1
-        if tries[0] < 0:
+        if tries[0] < 0 or time.monotonic() > until:
             return False
         runner.write(candidate)
-        return not is_same(reports_of(candidate)[command], runner.run(command, candidate))
+        return not is_allowed(reports_of(candidate)[command], candidate, runner.run(command, candidate))
 
     plain = replace(case, script=without_layout(case.script), steps=without_layout(case.steps))
     if differs(plain):
@@ -780,7 +865,21 @@ def shrunk(runner, command, case):
     while size != (size := len(case.script) + len(case.steps)):
         if command == 'simulate':
             case = without_lines(case, 'steps', differs)
+        if command == 'run':
+            case = without_faults(case, differs)
         case = without_lines(case, 'script', differs)
+    return case
+
+
+def without_faults(case, differs):
+    """The case with as few options of the run as the difference allows."""
+    place = 0
+    while place < len(case.plan):
+        fewer = replace(case, plan=case.plan[:place] + case.plan[place + 2 :])
+        if differs(fewer):
+            case = fewer
+        else:
+            place += 2
     return case
 
 
@@ -815,7 +914,7 @@ def file_in_words(name, data):
     return f"printf '{escaped}' >{name}\n"
 
 
-def told(seed, number, command, case, report, found):
+def told(seed, number, command, case, reports, found):
     """A difference, and how to bring it back."""
     text = f'case {number} of seed {seed} differs under {command}; it comes back with\n'
     text += f'    tests/soak.py --seed {seed} --case {number}\n'
@@ -823,9 +922,14 @@ def told(seed, number, command, case, report, found):
     text += file_in_words('soak.script', case.script)
     if command == 'simulate':
         text += file_in_words('soak.steps', case.steps)
+    if command == 'run' and case.progress is not None:
+        text += file_in_words('soak.progress', record_of(case.progress))
     text += ' '.join(['relayplum', *words_of(command, case)]) + '\n'
-    text += f'wanted, with exit status {report.status}:\n{report.text}'
-    text += f'found, with exit status {found[1]}:\n{found[0].decode("utf-8", "backslashreplace")}'
+    outcomes = dict.fromkeys(wanted(report, case) for report in reports)
+    for name, outcome in [('wanted', one) for one in outcomes] + [('found', found)]:
+        text += f'{name}, with exit status {outcome.status}'
+        text += f' and progress {outcome.record}' if command == 'run' else ''
+        text += f':\n{outcome.text.decode("utf-8", "backslashreplace")}'
     return text
 
 
@@ -886,6 +990,27 @@ EXPECTED = {
     'faults of step files': model.STEP_FAULTS,
     'plays': ['done to the end', 'refused'],
     'subscribers after a play': ['ended', 'closed', 'with all events', 'with some events', 'with none'],
+    'runs': [
+        'of one client',
+        'of two clients with one outcome',
+        'of two clients with several outcomes',
+        'in another order than the file',
+        'of one session',
+        'of several sessions',
+        'from saved progress',
+        'of too many subscribers',
+    ],
+    'options of runs': [
+        '--window',
+        '--prefetch',
+        '--lose-confirm',
+        '--lose-publish',
+        '--restart-after',
+        '--repeat',
+        '--close',
+        '--progress',
+    ],
+    'subscribers after a run': ['ended', 'closed'],
 }
 for word in model.STEPS:
     EXPECTED[f'step {word}'] = ANSWERS[word] + ['refused: ' + name for name in REFUSALS.get(word, [])]
@@ -893,11 +1018,11 @@ for word in model.STEPS:
 
 def count(reports, counts):
     """Adds what came up in a case."""
-    for batch, results in reports['books'].batches:
+    for batch, results in reports['books'][0].batches:
         count_batch(batch, results, counts)
     for kind in model.EVENT_TYPES:
-        counts['events', kind] += reports['messages'].text.count(f'event_type={kind} ')
-    report = reports['simulate']
+        counts['events', kind] += reports['messages'][0].text.count(f'event_type={kind} ')
+    report = reports['simulate'][0]
     if report.fault is not None:
         file, name = report.fault
         counts['faults of scripts' if file == 'script' else 'faults of step files', name] += 1
@@ -947,6 +1072,28 @@ def count_subscriber(binding, subscriber, ledger, counts):
         counts[group, 'with all events' if subscriber.applied == feed else 'with some events'] += 1
 
 
+def count_run(case, reports, found, counts):
+    """Adds what came up in a run."""
+    report = reports[0]
+    if 'too_many_subscribers' in report.text and report.fault is None:
+        counts['runs', 'of too many subscribers'] += 1
+    if report.status != 0:
+        return
+    for option in case.plan[::2] + ('--progress',) * case.saves:
+        counts['options of runs', option] += 1
+    outcomes = {wanted(one, case) for one in reports}
+    clients = 'one client'
+    if len(reports) > 1:
+        clients = 'two clients with ' + ('one outcome' if len(outcomes) == 1 else 'several outcomes')
+    counts['runs', f'of {clients}'] += 1
+    counts['runs', 'in another order than the file'] += found != wanted(report, case)
+    sessions = report.progress[0] - (case.progress[0] if case.progress else 0)
+    counts['runs', 'of one session' if sessions == 1 else 'of several sessions'] += 1
+    counts['runs', 'from saved progress'] += case.progress is not None
+    for state in ('ended', 'closed'):
+        counts['subscribers after a run', state] += found.text.count(b' %s yes' % state.encode('ascii'))
+
+
 def summary(counts):
     """A line for each group, and what never came up."""
     text = ''
@@ -974,9 +1121,12 @@ def run_chunk(program, room, seed, numbers):
             reports = reports_of(case)
             count(reports, counts)
             runner.write(case)
-            for command, report in reports.items():
+            for command, allowed in reports.items():
                 runs += 1
-                if not is_same(report, runner.run(command, case)):
+                found = runner.run(command, case)
+                if command == 'run':
+                    count_run(case, allowed, found, counts)
+                if not is_allowed(allowed, case, found):
                     differing.append((number, command))
     return counts, runs, differing
 
@@ -987,8 +1137,8 @@ def show(program, room, seed, number, command):
         runner = Runner(program, folder)
         case = shrunk(runner, command, case_of(seed, number))
         runner.write(case)
-        report = reports_of(case)[command]
-        print(told(seed, number, command, case, report, runner.run(command, case)), flush=True)
+        reports = reports_of(case)[command]
+        print(told(seed, number, command, case, reports, runner.run(command, case)), flush=True)
 
 
 class Stopped(Exception):
@@ -1062,7 +1212,9 @@ def ignore_signals():
 def run_case(options):
     """One case alone: its files and what it prints, and the difference where there is one."""
     case = case_of(options.seed, options.case)
-    print(file_in_words('soak.script', case.script) + file_in_words('soak.steps', case.steps))
+    files = {'soak.script': case.script, 'soak.steps': case.steps, 'soak.progress': record_of(case.progress)}
+    print(''.join(file_in_words(name, data) for name, data in files.items() if data is not None))
+    print('\n'.join(' '.join(['relayplum', *words_of(command, case)]) for command in reports_of(case)) + '\n')
     _, runs, differing = run_chunk(options.program, None, options.seed, [options.case])
     for number, command in differing:
         show(options.program, None, options.seed, number, command)
@@ -1091,7 +1243,7 @@ def main(words):
     options = options_of(words)
     if options.case is not None:
         return run_case(options)
-    with tempfile.TemporaryDirectory(prefix='soak-') as room:
+    with rooms.room('soak-') as room:
         soak = Soak(options, room)
         signal.signal(signal.SIGTERM, stop)
         signal.signal(signal.SIGINT, stop)

@@ -70,7 +70,7 @@ printf '%s' "$one_transfer" >one.script
 printf '%s' "$one_transfer" >input
 
 # Where the script comes from.
-for words in '' 'books -' 'books one.script' 'books ./one.script' "books $folder/one.script"; do
+for words in '' 'run -' 'run one.script' 'books -' 'books one.script' 'books ./one.script' "books $folder/one.script"; do
     run $words
     same "words '$words'" "$its_book" "$out"
     ends_well "words '$words'"
@@ -90,7 +90,8 @@ run books 'two words'
 same 'a file whose name has a space' "$its_book" "$out"
 
 # Help and the version stand on standard output.
-for words in '--help' '-h' 'help' 'books --help' 'messages --help' 'simulate --help' 'help books' 'help messages' 'help simulate'; do
+for words in '--help' '-h' 'help' 'books --help' 'messages --help' 'simulate --help' 'run --help' 'help books' 'help messages' \
+    'help simulate' 'help run'; do
     run $words
     ends_well "words '$words'"
     has "words '$words': usage" 'Usage: ' "$out"
@@ -103,6 +104,7 @@ for words in '--help' 'help'; do
     has "words '$words': books" '  books ' "$out"
     has "words '$words': messages" '  messages ' "$out"
     has "words '$words': simulate" '  simulate ' "$out"
+    has "words '$words': run" '  run ' "$out"
 done
 for words in 'books --help' 'messages --help' 'simulate --help'; do
     run $words
@@ -144,7 +146,28 @@ bad_words "'--explain'" messages one.script --explain
 bad_words "'--trace'" books one.script --trace
 bad_words "'--diagram" messages one.script --diagram=out
 bad_words "'--check" simulate one.script three.steps --check=yes
+bad_words "'--check'" run one.script --check
+bad_words "'--progress" run one.script --progress
+bad_words "'--progress" run one.script --progress a --progress b
+bad_words "'--prefetch" run one.script --prefetch 1 --prefetch 1
+bad_words "'--lose-confirm'" books one.script --lose-confirm 1
+for prefetch in 0 65 18446744073709551617 x 8: -1 ''; do
+    bad_words 'a prefetch is 1 to 64' run one.script --prefetch="$prefetch"
+done
+for option in --lose-confirm --lose-publish --restart-after; do
+    bad_words "'$option" run one.script "$option"
+    for count in 0 00 18446744073709551616 x 1:1 +1 -1 ''; do
+        bad_words 'is a number from 1' run one.script "$option" 1 "$option=$count"
+    done
+done
+for option in --repeat --close; do
+    bad_words "'$option" run one.script "$option"
+    for pair in 0:1 1:0 1 1: :1 : 1:1:1 1-1 x:1 1:x 18446744073709551616:1 1:18446744073709551616 ''; do
+        bad_words 'two numbers from 1' run one.script "$option=1:1" "$option=$pair"
+    done
+done
 for window in 0 2 64 65 x ''; do
+    bad_words 'a window is 1' run one.script --window "$window"
     bad_words 'a window is 1' simulate one.script three.steps --window "$window"
     bad_words 'a window is 1' simulate one.script three.steps --check --window "$window"
 done
@@ -156,6 +179,82 @@ run books ''
 same 'an empty name: status' 1 "$status"
 same 'an empty name: standard output' 'fault: read_fault
 ' "$out"
+
+# A run: what it saves, what it goes on from, and what it has no place for.
+for words in 'run one.script --progress=saved' 'run --progress saved - --prefetch 064' 'run --window=01 one.script --progress ./saved'; do
+    rm -f saved
+    run $words
+    same "words '$words'" "$its_book" "$out"
+    ends_well "words '$words'"
+    same "words '$words': saved" 'tb-cdc 1 1 2000' "$(cat saved)"
+done
+run run one.script --progress saved
+same 'a run that goes on: standard output' 'batch 1: 0 0
+batch 2: 0
+subscriber 1 applied 0 last 0 ended yes closed no
+' "$out"
+ends_well 'a run that goes on'
+same 'a run that goes on: saved' 'tb-cdc 1 2 2000' "$(cat saved)"
+printf 'subscriber all\nsubscriber all\nsubscriber all\n' >three.script
+run run three.script
+same 'too many subscribers of a run: status' 2 "$status"
+same 'too many subscribers of a run: standard output' 'fault: too_many_subscribers
+' "$out"
+same 'too many subscribers of a run: standard error' 'three.script: too_many_subscribers: a run has at most 2 subscribers
+' "$err"
+run run no-such.script
+same 'a run of no file: status' 1 "$status"
+same 'a run of no file: standard output' 'fault: read_fault
+' "$out"
+has 'a run of no file: standard error' 'no-such.script: read_fault: No such file' "$err"
+printf '%stransfer id=1\n' "$one_transfer" >refused.script
+run run refused.script
+same 'a run that refuses: standard error' 'relayplum: items not accepted: 1, batches refused: 0
+' "$err"
+printf 'subscriber all\nclient 3\n' >third.script
+run run third.script
+same 'a run of a third client: standard output' 'fault: script line 2: bad_client
+' "$out"
+
+# Two clients at once: which of them comes first isn't fixed, but each one's own order is, and both books are told by the
+# ledger's events. Ten times over.
+cat >clients.script <<'SCRIPT'
+subscriber all
+subscriber all ledger=800
+accounts 1000
+account id=1 ledger=700 code=10
+account id=2 ledger=700 code=10
+transfers 2000
+transfer id=1 debit_account_id=1 credit_account_id=2 amount=5 ledger=700 code=1
+client 2
+accounts 1000
+account id=3 ledger=800 code=10
+account id=4 ledger=800 code=10
+transfers 2000
+transfer id=2 debit_account_id=3 credit_account_id=4 amount=7 ledger=800 code=1
+SCRIPT
+for _ in 1 2 3 4 5 6 7 8 9 10; do
+    run run clients.script --restart-after 2
+    ends_well 'two clients'
+    same 'two clients: their batches' 'batch 1: 0 0
+batch 2: 0
+batch 3: 0 0
+batch 4: 0' "$(head -n 4 output)"
+    same 'two clients: their accounts' 'account 1 0 5 0 0
+account 2 0 0 0 5
+account 3 0 7 0 0
+account 4 0 0 0 7' "$(sed -n '/^subscriber 1/,/^subscriber 2/p' output | grep '^account' | sort)"
+    same 'two clients: the second book' 'account 3 0 7 0 0
+account 4 0 0 0 7' "$(sed '1,/^subscriber 2/d' output)"
+    last=$(sed -n 's/^subscriber 1 applied 2 last \([0-9]*\) ended yes closed no$/\1/p' output)
+    eight=$(sed -n 's/^subscriber 2 applied 1 last \([0-9]*\) ended yes closed no$/\1/p' output)
+    checks=$((checks + 1))
+    case "$last $eight" in
+    # the second transfer comes right behind the first, or behind the other client's accounts
+    '2001 2001' | '2001 2000' | '2003 2003' | '2003 2000') ;;
+    *) wrong 'two clients: the moments of the last events' '2001 or 2003, and 2000 or the same' "$last $eight" ;;
+    esac
+done
 
 # A bad script: the fault's line on standard output, and one line for a person on standard error.
 bad_script() {

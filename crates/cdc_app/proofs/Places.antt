@@ -1,5 +1,5 @@
 -- The elements of a list, one place after another.
-use Rattle.std.proofs.Common.{◌≡◌, ℕ, ◌+◌, ◌<◌, List, [], ◌∷◌, ◌++◌, Some, None, zero, suc, refl, ap, ◌∙◌, length, take, arith}
+use Rattle.std.proofs.Common.{◌≡◌, ℕ, ◌+◌, ◌<◌, List, [], ◌∷◌, ◌++◌, Some, None, zero, suc, refl, ap, ◌∙◌, length, take, drop, arith}
 use Rattle.std.specs.List.{slice_get}
 use Rattle.std.proofs.lemmas.List.{take_more}
 use Rattle.std.proofs.lemmas.Option.{slice_get_within, get_or_from_slice_get}
@@ -21,3 +21,11 @@ pub found_at : {X : Type 0} (xs : List X) (i : ℕ) → i < length xs → (x : X
 found_at [] i below = absurd (omega arith)
 found_at (x ∷ xs) zero below = (x, refl)
 found_at (x ∷ xs) (suc i) below = found_at xs i (omega arith)
+
+-- what is left behind the elements before one that was found: it, and what is left behind it
+pub drop_found : {X : Type 0} (xs : List X) (i : ℕ) (x : X) → slice_get xs i ≡ Some x
+    → drop i xs ≡ x ∷ drop (i + 1) xs
+drop_found [] i x h = cc
+drop_found (y ∷ xs) zero x h = let same : y ≡ x = cc in ap (λ z. z ∷ xs) same
+drop_found (y ∷ xs) (suc i) x h =
+    drop_found xs i x h ∙ ap (λ n. x ∷ drop n (y ∷ xs)) (let e : suc (i + 1) ≡ suc i + 1 = omega arith in e)

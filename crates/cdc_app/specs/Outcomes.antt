@@ -2,7 +2,7 @@
 use Rattle.std.specs.Prelude.{◌≡◌, ◌⊎◌, ℕ, List, Option, IfSome}
 use Rattle.std.specs.Io.KnownBytes.{Appends}
 use Rattle.cdc_app.specs.declared.endings.Ending.{Ending}
-use Rattle.cdc_app.specs.declared.endings.Ending.TheVariants.{Done, Failed, Refused, BadScript, BadSteps, BadWords}
+use Rattle.cdc_app.specs.declared.endings.Ending.TheVariants.{Done, Failed, Refused, BadScript, BadSteps, TooManySubscribers, BadWords}
 use Rattle.cdc_app.specs.declared.faults.ProgramFault.{ProgramFault}
 use Rattle.cdc_app.specs.declared.faults.ProgramFault.TheVariants as fault
 use Rattle.cdc_app.specs.declared.output.Output.{Output}
@@ -15,6 +15,7 @@ status_of (Failed why) = 1
 status_of (Refused why) = 1
 status_of (BadScript at) = 2
 status_of (BadSteps at) = 2
+status_of TooManySubscribers = 2
 status_of BadWords = 2
 
 -- what is printed, and how the command ends
@@ -47,6 +48,7 @@ IsScriptEnding (Failed why) = ⊥
 IsScriptEnding (Refused why) = ⊥
 IsScriptEnding (BadScript at) = Unit {0}
 IsScriptEnding (BadSteps at) = ⊥
+IsScriptEnding TooManySubscribers = ⊥
 IsScriptEnding BadWords = ⊥
 
 -- a command that reads a script, alone or with steps, gives up where a read or memory failed
@@ -55,6 +57,19 @@ MayFailScript (fault.ReadFault why) = Unit {0}
 MayFailScript (fault.WriteFault why) = ⊥
 MayFailScript (fault.Store why) = ⊥
 MayFailScript fault.OutOfMemory = Unit {0}
+MayFailScript fault.PeerGone = ⊥
+MayFailScript fault.SessionsExhausted = ⊥
+MayFailScript fault.NotOneSystem = ⊥
+
+-- a command that runs a script on threads gives up where a read, memory or the run failed
+abbrev pub MayFailRun : ProgramFault → Type 0
+MayFailRun (fault.ReadFault why) = Unit {0}
+MayFailRun (fault.WriteFault why) = ⊥
+MayFailRun (fault.Store why) = Unit {0}
+MayFailRun fault.OutOfMemory = Unit {0}
+MayFailRun fault.PeerGone = Unit {0}
+MayFailRun fault.SessionsExhausted = Unit {0}
+MayFailRun fault.NotOneSystem = Unit {0}
 
 -- this is printed by a command that ends so, and makes such an outcome of the bytes of its script, which are known or
 -- not
@@ -66,4 +81,5 @@ PrintsOutcome outcome script (BadScript at) printed =
 PrintsOutcome outcome script (Failed why) printed = MayFailScript why × (printed ≡ program_fault_line why)
 PrintsOutcome outcome script (Refused why) printed = ⊥
 PrintsOutcome outcome script (BadSteps at) printed = ⊥
+PrintsOutcome outcome script TooManySubscribers printed = ⊥
 PrintsOutcome outcome script BadWords printed = ⊥

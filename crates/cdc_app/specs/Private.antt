@@ -1,4 +1,6 @@
 -- What the contracts of private functions alone cite: a reader has to believe none of it.
+pub mod Merging
 pub mod Outcomes
 pub mod Queues
+pub mod Runnable
 pub mod Stages

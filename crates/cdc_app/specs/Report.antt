@@ -7,7 +7,7 @@ use Rattle.cdc_types.specs.Results.{account_number, transfer_number}
 use Rattle.cdc_ledger.specs.declared.errors.BatchError.{BatchError}
 use Rattle.cdc_ledger.specs.BatchErrors.{batch_error_number, batch_error_name}
 use Rattle.cdc_app.specs.declared.endings.Ending.{Ending}
-use Rattle.cdc_app.specs.declared.endings.Ending.TheVariants.{BadScript, BadSteps}
+use Rattle.cdc_app.specs.declared.endings.Ending.TheVariants.{BadScript, BadSteps, TooManySubscribers}
 use Rattle.cdc_app.specs.declared.faults.ProgramFault.{ProgramFault}
 use Rattle.cdc_app.specs.declared.faults.ProgramFault.TheVariants as fault
 use Rattle.cdc_script.specs.declared.faults.ScriptFault.{ScriptFault}
@@ -35,10 +35,15 @@ abbrev pub steps_fault_line : ScriptFault → List ℕ
 steps_fault_line at = codes "fault: steps line"
     ++ (spaced at.line ++ (codes ": " ++ (kind_name at.kind ++ codes "\n")))
 
--- the line of the bad file that a command ends with
+-- the line of a script that has more subscribers than a run may have
+abbrev pub subscribers_fault_line : List ℕ
+subscribers_fault_line = codes "fault: too_many_subscribers\n"
+
+-- the line of the file that a command doesn't take
 abbrev pub file_fault_line : Ending → List ℕ
 file_fault_line (BadScript at) = script_fault_line at
 file_fault_line (BadSteps at) = steps_fault_line at
+file_fault_line TooManySubscribers = subscribers_fault_line
 file_fault_line _ = []
 
 -- the line of a command that gave up
@@ -47,3 +52,6 @@ program_fault_line (fault.ReadFault why) = codes "fault: read_fault\n"
 program_fault_line (fault.WriteFault why) = codes "fault: write_fault\n"
 program_fault_line (fault.Store why) = codes "fault: store\n"
 program_fault_line fault.OutOfMemory = codes "fault: out_of_memory\n"
+program_fault_line fault.PeerGone = codes "fault: peer_gone\n"
+program_fault_line fault.SessionsExhausted = codes "fault: sessions_exhausted\n"
+program_fault_line fault.NotOneSystem = codes "fault: not_one_system\n"

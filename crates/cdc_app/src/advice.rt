@@ -3,6 +3,7 @@
 use crate::endings::Ending;
 use crate::faults::ProgramFault;
 use crate::sources::STANDARD_INPUT;
+use cdc_run::RunLimits;
 use cdc_script::ScriptFault;
 use cdc_telling::{Sentence, script_sentence, steps_sentence};
 use std::io;
@@ -40,6 +41,10 @@ fn advice(rt: &HostRuntime, place: &str, ending: Ending) -> io::Result<()> {
         Ending::Done | Ending::BadWords => Ok(()),
         Ending::BadScript(fault) => advice_on_file(rt, place, fault, script_sentence(fault.kind)),
         Ending::BadSteps(fault) => advice_on_file(rt, place, fault, steps_sentence(fault.kind)),
+        Ending::TooManySubscribers => {
+            let most = RunLimits::SUBSCRIBERS;
+            eprintln!(rt; "{place}: too_many_subscribers: a run has at most {most} subscribers")
+        }
         Ending::Refused(refusal) => {
             let name = refusal.name();
             eprintln!(rt; "relayplum: a step was refused: {name}")
@@ -56,6 +61,21 @@ fn advice(rt: &HostRuntime, place: &str, ending: Ending) -> io::Result<()> {
         }
         Ending::Failed(ProgramFault::OutOfMemory) => {
             eprintln!(rt; "relayplum: out_of_memory: no memory was left")
+        }
+        Ending::Failed(ProgramFault::PeerGone) => {
+            eprintln!(rt;
+                "relayplum: peer_gone: an end of the run was gone while another one talked to it"
+            )
+        }
+        Ending::Failed(ProgramFault::SessionsExhausted) => {
+            eprintln!(rt;
+                "relayplum: sessions_exhausted: the saved session has the greatest number there is"
+            )
+        }
+        Ending::Failed(ProgramFault::NotOneSystem) => {
+            eprintln!(rt;
+                "relayplum: not_one_system: the ends of the run weren't those of one system"
+            )
         }
     }
 }

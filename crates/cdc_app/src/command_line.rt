@@ -3,6 +3,7 @@
 ghost use Rattle.std.specs.Prelude.{◌≡◌};
 ghost use Rattle.cdc_app.specs.Options.{options_fault_number, options_fault_name};
 
+use cdc_run::Faults;
 use std::alloc::AllocError;
 use thiserror::Error;
 
@@ -27,6 +28,14 @@ pub enum Options<'a> {
         window: usize,
         telling: Telling<'a>,
     },
+    /// The results of a script's batches and the books of its subscribers, of the script in this file, which is run on
+    /// threads; `-` is standard input. The connector saves its progress in the second file, or, where none is named, in
+    /// memory.
+    Run {
+        file: &'a str,
+        plan: RunPlan,
+        progress: Option<&'a str>,
+    },
     /// Whether the script in the first file is good, and the step file, where one is named; `-` as the script is standard
     /// input.
     Check {
@@ -48,6 +57,17 @@ pub struct Telling<'a> {
     pub trace: bool,
     /// The file that gets the steps as a diagram; `-` is standard error.
     pub diagram: Option<&'a str>,
+}
+
+/// How a script is run on threads.
+#[derive(Drop)]
+pub struct RunPlan {
+    /// For how many events the connector's session waits at a time.
+    pub window: usize,
+    /// How many deliveries of a queue may be without an acknowledgement.
+    pub prefetch: u64,
+    /// What goes wrong in the run.
+    pub faults: Faults,
 }
 
 /// Why words ask for nothing.

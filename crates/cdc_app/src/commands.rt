@@ -4,4 +4,5 @@
 pub mod books;
 pub mod check;
 pub mod messages;
+pub mod run;
 pub mod simulate;

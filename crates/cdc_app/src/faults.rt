@@ -3,6 +3,7 @@
 ghost use Rattle.std.specs.Prelude.{◌≡◌};
 ghost use Rattle.cdc_app.specs.Report.{program_fault_line};
 
+use cdc_ends::RunFault;
 use cdc_progress::StoreError;
 use cdc_script::ReadError;
 use std::alloc::AllocError;
@@ -21,9 +22,18 @@ pub enum ProgramFault {
     /// The store of progress failed.
     #[error("store: {}", .0.name())]
     Store(StoreError),
-    /// No memory was left.
+    /// No memory was left, or a thread couldn't be started.
     #[error("out_of_memory")]
     OutOfMemory,
+    /// An end of a run was gone while another one was talking to it.
+    #[error("peer_gone")]
+    PeerGone,
+    /// There is no further number for a session.
+    #[error("sessions_exhausted")]
+    SessionsExhausted,
+    /// The ends of a run weren't those of one system.
+    #[error("not_one_system")]
+    NotOneSystem,
 }
 
 impl ProgramFault {
@@ -36,6 +46,9 @@ impl ProgramFault {
             ProgramFault::WriteFault(_) => "fault: write_fault\n",
             ProgramFault::Store(_) => "fault: store\n",
             ProgramFault::OutOfMemory => "fault: out_of_memory\n",
+            ProgramFault::PeerGone => "fault: peer_gone\n",
+            ProgramFault::SessionsExhausted => "fault: sessions_exhausted\n",
+            ProgramFault::NotOneSystem => "fault: not_one_system\n",
         }
     }
 }
@@ -49,6 +62,22 @@ impl From<StoreError> for ProgramFault {
         match error {
             StoreError::OutOfMemory => ProgramFault::OutOfMemory,
             _ => ProgramFault::Store(error),
+        }
+    }
+}
+
+impl From<RunFault> for ProgramFault {
+    ghost use Rattle.cdc_app.specs.Private.Outcomes.{run_fault};
+
+    ghost from_gives = { λ why e. e ≡ run_fault why };
+
+    fn from(fault: RunFault) -> ProgramFault {
+        match fault {
+            RunFault::PeerGone => ProgramFault::PeerGone,
+            RunFault::OutOfMemory => ProgramFault::OutOfMemory,
+            RunFault::Store(error) => ProgramFault::from(error),
+            RunFault::SessionsExhausted => ProgramFault::SessionsExhausted,
+            RunFault::NotOneSystem => ProgramFault::NotOneSystem,
         }
     }
 }

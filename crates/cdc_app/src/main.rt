@@ -1,7 +1,7 @@
 //! The program: a script in, and a report of its ledger, its messages or a subscriber's book out.
 #![tactic(auto)]
 
-ghost use Rattle.cdc_app.specs.Options.{IsWindow};
+ghost use Rattle.cdc_app.specs.Options.{IsPlan, IsWindow};
 
 mod advice;
 mod batches;
@@ -11,33 +11,42 @@ mod endings;
 mod faults;
 mod feeding;
 mod kept;
+mod lone_runs;
 mod options;
 mod output;
 mod report;
+mod run_options;
+mod run_report;
+mod shares;
 mod simulation_report;
 mod simulations;
 mod sources;
 mod telling;
 
 use advice::{advise, advise_on_steps};
+use cdc_progress::{FileStore, MemoryStore};
+use cdc_run::OpenGate;
 use commands::books::books;
 use commands::check::{check, check_files};
 use commands::messages::messages;
+use commands::run::run_command;
 use commands::simulate::simulate_command;
 use endings::Ending;
 use faults::ProgramFault;
 use kept::Kept;
-use options::{Options, OptionsFault, Telling, options};
+use options::{Options, OptionsFault, RunPlan, Telling, options};
 use output::{print_fault, print_text};
 use sources::{STANDARD_INPUT, Source};
 use std::alloc::AllocError;
 use std::process::ExitCode;
+use std::sync::Wait;
+use std::thread::Threads;
 use std::{env, io};
-use telling::{Inputs, explain_books, hint, tell_simulation};
+use telling::{EXPLAIN, Inputs, explain_books, hint, tell_simulation};
 
 fn main(rt: HostRuntime) -> ExitCode {
     let ending = match words_of(&rt) {
-        Ok(words) => run_words(&rt, words.as_slice()),
+        Ok(words) => run_words(&rt, &rt, words.as_slice()),
         Err(error) if error.kind() == io::ErrorKind::InvalidData => {
             refuse_words(&rt, "error: a word is no UTF-8 text\n")
         }
@@ -52,8 +61,8 @@ fn words_of(rt: &HostRuntime) -> io::Result<Vec<String>> {
     Ok(words)
 }
 
-/// Does what the words ask for.
-fn run_words(rt: &HostRuntime, words: &[String]) -> Ending {
+/// Does what the words ask for, where they ask for threads by `threads`.
+fn run_words<T: Threads + Wait + Sync>(rt: &HostRuntime, threads: &T, words: &[String]) -> Ending {
     let texts: Result<Vec<&str>, AllocError> = words
         .iter()
         .map(|word| word.as_str())
@@ -72,6 +81,13 @@ fn run_words(rt: &HostRuntime, words: &[String]) -> Ending {
                 telling,
             },
         ) => run_simulation(rt, file, steps, window, telling),
+        Ok(
+            Options::Run {
+                file,
+                plan,
+                progress,
+            },
+        ) => run_on_threads(rt, threads, file, plan, progress),
         Ok(Options::Check { file, steps }) => run_check(rt, file, steps),
         Ok(Options::Explain { text }) => explain(rt, text.as_str()),
         Err(OptionsFault::BadWords { message }) => refuse_words(rt, message.as_str()),
@@ -86,7 +102,7 @@ fn run_books(rt: &HostRuntime, file: &str, explain: bool) -> Ending {
     let ending = books(rt.alloc(), &mut script, &mut printed);
     match (ending, script.bytes(), printed.bytes()) {
         (Ending::Done, Some(script), _) if explain => explain_books(rt, file, script),
-        (Ending::Done, _, Some(printed)) => hint(rt, printed),
+        (Ending::Done, _, Some(printed)) => hint(rt, printed, EXPLAIN),
         _ => advise(rt, file, ending),
     }
     ending
@@ -140,7 +156,54 @@ fn run_simulation(
         printed.bytes(),
         telling.explain,
     ) {
-        hint(rt, printed);
+        hint(rt, printed, EXPLAIN);
+    }
+    ending
+}
+
+/// Runs the script of this name on threads, with its progress in the file of that name or in memory, and says on
+/// standard error why the command gave up, or how much wasn't accepted.
+fn run_on_threads<T: Threads + Wait + Sync>(
+    rt: &HostRuntime,
+    threads: &T,
+    file: &str,
+    plan: RunPlan,
+    progress: Option<&str>,
+) -> Ending
+    requires { IsPlan plan }
+{
+    let alloc = rt.alloc();
+    let mut script = Source::of_script(rt, file);
+    let mut printed = Kept::new(alloc, io::writer(rt));
+    let ending = match progress {
+        None => {
+            let store = MemoryStore::new();
+            run_command(
+                threads,
+                alloc,
+                &mut script,
+                plan,
+                store,
+                &OpenGate,
+                &mut printed,
+            )
+        }
+        Some(path) => {
+            let store = FileStore::at(rt, path);
+            run_command(
+                threads,
+                alloc,
+                &mut script,
+                plan,
+                store,
+                &OpenGate,
+                &mut printed,
+            )
+        }
+    };
+    match (ending, printed.bytes()) {
+        (Ending::Done, Some(printed)) => hint(rt, printed, ""),
+        _ => advise(rt, file, ending),
     }
     ending
 }

@@ -1,9 +1,10 @@
 //! The words of the command line.
 
 ghost use Rattle.std.specs.Prelude.{◌≡◌, length, codes, IfOk, IfSome, IsOkAnd};
-ghost use Rattle.cdc_app.specs.Options.{IsBooks, IsWindow, IsWithinLimits};
+ghost use Rattle.cdc_app.specs.Options.{IsRun, IsWindow, IsWithinLimits};
 
-pub use crate::command_line::{Options, OptionsFault, Telling};
+pub use crate::command_line::{Options, OptionsFault, RunPlan, Telling};
+use crate::run_options::{default_plan, run_plan, run_words};
 use crate::sources::STANDARD_INPUT;
 use cdc_message::decimal_up_to;
 use cdc_types::Limits;
@@ -19,8 +20,8 @@ const ABOUT: &str =
     "Change data capture: a script's batches go to a double-entry ledger, and its events are reported";
 
 /// What else a newcomer has to know.
-const MORE: &str = "\
-FILE is a script, and - is standard input. Without words the program acts as `books -`.
+pub const MORE: &str = "\
+FILE is a script, and - is standard input. Without words the program acts as `run -`.
 
 A script is a text of lines:
   subscriber all
@@ -32,6 +33,9 @@ A script is a text of lines:
 A subscriber's binding is all or any, and up to ten pairs of a header and its value, as in
   subscriber any event_type=two_phase_posted ledger=700
 
+A script is run on threads: the ledger, each client, the connector, the broker and each subscriber have one each. What
+goes wrong on the way is counted over the whole run, from 1.
+
 STEPS is a file with one step of a simulation in each line: batch, close_ledger, start, crash, poll, publish,
 arrive K, answer K, save, send I, rewind I, break I, take I, ack I K or close I. I is a subscriber and its queue,
 and K counts the packets, the confirms or a subscriber's acknowledgements ever sent, from 1.
@@ -40,22 +44,24 @@ Examples:
   relayplum books examples/two-phase.script
   relayplum messages examples/first-transfer.script
   relayplum simulate examples/two-phase.script examples/two-phase.steps
+  relayplum run examples/first-transfer.script --lose-confirm 1
 
 Exit status:
   0  all was done
-  1  a read, a write or memory failed: the last line of standard output names the fault;
-     or a step of a simulation was refused
+  1  a read, a write, memory, the store of progress or a thread failed: the last line of standard output names the
+     fault; or a step of a simulation was refused
   2  the words, the script or the steps are bad: standard error says what was expected, and where";
 
-/// What the words of the program ask for, its own name not being one. Without words it is `books -`.
+/// What the words of the program ask for, its own name not being one. Without words it is `run -`.
 pub fn options<'a>(alloc: Global, words: &'a [&'a str]) -> Result<Options<'a>, OptionsFault>
-    ensures none { length words.entry.now ≡ 0 → IsOkAnd result (IsBooks (codes "-")) }
+    ensures none { length words.entry.now ≡ 0 → IsOkAnd result (IsRun (codes "-")) }
     ensures limits { IfOk result IsWithinLimits }
 {
     if words.is_empty() {
-        return Ok(Options::Books {
+        return Ok(Options::Run {
             file: STANDARD_INPUT,
-            explain: false,
+            plan: default_plan(alloc),
+            progress: None,
         });
     }
     match read_words(alloc, words) {
@@ -75,7 +81,8 @@ fn read_words<'a>(alloc: Global, words: &'a [&'a str]) -> Result<ArgMatches<'a>,
         .subcommand_required(true)
         .subcommand(books_words(alloc)?)?
         .subcommand(messages_words(alloc)?)?
-        .subcommand(simulate_words(alloc)?)?;
+        .subcommand(simulate_words(alloc)?)?
+        .subcommand(run_words(alloc)?)?;
     program.try_get_matches_from(words)
 }
 
@@ -106,11 +113,6 @@ fn simulate_words<'a>(alloc: Global) -> Result<Command<'a>, AllocError> {
         .required(true)
         .action(ArgAction::Set)
         .help("The file of the steps");
-    let window = Arg::new(alloc, "window")
-        .long("window")
-        .value_name("N")
-        .action(ArgAction::Set)
-        .help("For how many events a session waits at a time: 1");
     Command::new(alloc, "simulate")
         .about(
             "Take a script's batches and a session's packets step by step, and print the world that the steps lead to",
@@ -118,7 +120,7 @@ fn simulate_words<'a>(alloc: Global) -> Result<Command<'a>, AllocError> {
         .after_help(MORE)
         .arg(script_argument(alloc))?
         .arg(steps)?
-        .arg(window)?
+        .arg(window_option(alloc))?
         .arg(explain_flag(alloc))?
         .arg(trace_flag(alloc))?
         .arg(diagram_option(alloc))?
@@ -126,11 +128,20 @@ fn simulate_words<'a>(alloc: Global) -> Result<Command<'a>, AllocError> {
 }
 
 /// The file of a script.
-fn script_argument<'a>(alloc: Global) -> Arg<'a> {
+pub fn script_argument<'a>(alloc: Global) -> Arg<'a> {
     Arg::new(alloc, "FILE")
         .required(true)
         .action(ArgAction::Set)
         .help("The script; - is standard input")
+}
+
+/// The option `--window`.
+pub fn window_option<'a>(alloc: Global) -> Arg<'a> {
+    Arg::new(alloc, "window")
+        .long("window")
+        .value_name("N")
+        .action(ArgAction::Set)
+        .help("For how many events a session waits at a time: 1")
 }
 
 /// The flag `--explain`.
@@ -202,6 +213,11 @@ fn asked_of<'a>(
             explain: arguments.get_flag("explain"),
         }),
         ("messages", _) => Ok(Options::Messages { file }),
+        ("run", _) => Ok(Options::Run {
+            file,
+            plan: run_plan(alloc, arguments)?,
+            progress: arguments.get_str("progress"),
+        }),
         _ => Err(bad_words(alloc, "error: no command has such words\n")?),
     }
 }
@@ -216,12 +232,7 @@ fn simulation<'a>(
 ) -> Result<Options<'a>, OptionsFault>
     ensures { IfOk result IsWithinLimits }
 {
-    let Some(window) = read_window(arguments.get_str("window")) else {
-        return Err(bad_words(
-            alloc,
-            "error: a window is 1\n\nFor more information, try '--help'.\n",
-        )?);
-    };
+    let window = asked_window(alloc, arguments)?;
     if arguments.get_flag("check") {
         return Ok(Options::Check {
             file,
@@ -241,6 +252,19 @@ fn simulation<'a>(
     })
 }
 
+/// The window that the words say, or that of one event.
+pub fn asked_window(alloc: Global, arguments: &ArgMatches<'_>) -> Result<usize, OptionsFault>
+    ensures { IfOk result IsWindow }
+{
+    match read_window(arguments.get_str("window")) {
+        Some(window) => Ok(window),
+        None => Err(bad_words(
+            alloc,
+            "error: a window is 1\n\nFor more information, try '--help'.\n",
+        )?),
+    }
+}
+
 /// The window that a word says; where there is none, that of one event.
 fn read_window(word: Option<&str>) -> Option<usize>
     ensures { IfSome result IsWindow }
@@ -257,7 +281,7 @@ fn read_window(word: Option<&str>) -> Option<usize>
 }
 
 /// The fault of words that ask for nothing.
-fn bad_words(alloc: Global, message: &str) -> Result<OptionsFault, AllocError> {
+pub fn bad_words(alloc: Global, message: &str) -> Result<OptionsFault, AllocError> {
     let message = String::from_str(alloc, message)?;
     Ok(OptionsFault::BadWords { message })
 }

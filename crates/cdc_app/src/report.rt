@@ -102,7 +102,7 @@ fn push_refusal(text: &mut String, refusal: BatchError) -> Result<(), AllocError
     text.push_str(refusal.name())
 }
 
-/// The line of the bad file that a command ends with; nothing where it ends otherwise.
+/// The line of the file that a command doesn't take; nothing where it ends otherwise.
 pub fn push_file_fault(text: &mut String, ending: Ending) -> Result<(), AllocError>
     ensures { OnOk result (string_bytes text.new ≡
         string_bytes text.old ++ file_fault_line ending) }
@@ -110,6 +110,7 @@ pub fn push_file_fault(text: &mut String, ending: Ending) -> Result<(), AllocErr
     match ending {
         Ending::BadScript(fault) => push_fault(text, "fault: script line", fault),
         Ending::BadSteps(fault) => push_fault(text, "fault: steps line", fault),
+        Ending::TooManySubscribers => text.push_str("fault: too_many_subscribers\n"),
         _ => Ok(()),
     }
 }

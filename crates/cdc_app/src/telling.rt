@@ -31,14 +31,17 @@ pub fn explain_books(rt: &HostRuntime, file: &str, script: &[u8]) {
     }
 }
 
-/// Says how many items weren't accepted and how many batches were refused, if any was, and how to hear why.
-pub fn hint(rt: &HostRuntime, printed: &[u8]) {
+/// How to hear of a command why items weren't accepted.
+pub const EXPLAIN: &str = "; --explain says why";
+
+/// Says how many items weren't accepted and how many batches were refused, if any was, and then how to hear why.
+pub fn hint(rt: &HostRuntime, printed: &[u8], why: &str) {
     let Tally { items, batches } = count_lines(printed);
     if items == 0 && batches == 0 {
         return;
     }
     let _ = eprintln!(rt;
-        "relayplum: items not accepted: {items}, batches refused: {batches}; --explain says why"
+        "relayplum: items not accepted: {items}, batches refused: {batches}{why}"
     );
 }
 

@@ -66,6 +66,7 @@ impl<S: ProgressStore> Model for Publishing<S> {
 }
 
 /// What an end that has finished leaves behind.
+#[derive(Drop)]
 pub struct ConnectorParts<S: ProgressStore> {
     /// Its end of the link to the connector.
     pub inbox: LinkIn<ToConnector>,

@@ -1,6 +1,7 @@
 -- What goes from the ledger to the subscribers of a run, once all have finished.
 use Rattle.std.proofs.Common.{◌≡◌, ℕ, suc, ◌+◌, true, List, [], ◌∷◌, ◌++◌, refl, sym, ap, ◌∙◌, subst, map, arith}
-use Rattle.std.specs.Prelude.{All, Option, Some, slice_get}
+use Rattle.std.specs.Prelude.{All, Option, Some, is_none, slice_get}
+use Rattle.std.proofs.lemmas.Bool.{and_parts}
 use Rattle.std.specs.List.{AllZip}
 use Rattle.std.proofs.lemmas.List.Elements.{All-head, All-tail}
 use Rattle.cdc_ends.specs.BrokerEnds.{Desk as BrokerDesk, IsBrokerEnd}
@@ -88,7 +89,11 @@ all_come law d c b are place system number (s ∷ subscribers) (x ∷ consumers)
     let first : slice_get b.consumers place ≡ Some x =
     subst (λ (k : ℕ). slice_get b.consumers k ≡ Some x) here (there 0 x refl) in (
       law d c b place x s.intake are first
-          (record { is = of_system.2; finished = of_system.3; account = accounts.0 }),
+          (record {
+            is = of_system.2;
+            finished = (and_parts (is_none s.fault) s.intake.finished of_system.3).1;
+            account = accounts.0;
+          }),
       all_come law d c b are (place + 1) system (number + 1) subscribers consumers of_system.4 accounts.1
           (λ k y found.
           let same : place + suc k ≡ place + 1 + k = omega arith in

@@ -1,6 +1,9 @@
 -- What the subscribers of a run leave behind, one after another.
-use Rattle.std.proofs.Common.{◌≡◌, ℕ, ◌+◌, true, List, [], ◌∷◌, ◌++◌, sym, ap, ◌∙◌, ap₂, length, map, arith}
+use Rattle.std.proofs.Common.{◌≡◌, ℕ, zero, suc, ◌+◌, ◌<◌, true, List, [], ◌∷◌, ◌++◌, refl, sym, ap, ◌∙◌, ap₂, subst, get_or, length, map, arith}
+use Rattle.std.specs.Prelude.{◌&&◌, ◌↔◌, Bool, IsTrue, None, Option, Some, is_none, slice_get}
+use Rattle.std.proofs.lemmas.Bool.{and_parts}
 use Rattle.std.proofs.lemmas.List.{map-append}
+use Rattle.std.proofs.lemmas.Option.{slice_get_read}
 use Rattle.cdc_ends.specs.SubscriberEnds.{Intake, IsSubscriberEnd, SubscriberState, parts_of}
 use Rattle.cdc_ends.specs.declared.subscriber_parts.SubscriberParts.{SubscriberParts}
 use Rattle.cdc_run.specs.SubscriberMail.{AreSubscribersOf, IsLeftBy, IsMoreLeft, intakes_of}
@@ -9,7 +12,8 @@ use Rattle.cdc_run.specs.declared.subscribers.SubscriberMail.{SubscriberMail}
 -- one more of them
 pub subscribers_push : (system number : ℕ) (subscribers : List SubscriberState) (s : SubscriberState)
     → AreSubscribersOf system number subscribers → s.system ≡ system
-    → s.intake.number ≡ number + length subscribers → IsSubscriberEnd s.intake → s.intake.finished ≡ true
+    → s.intake.number ≡ number + length subscribers → IsSubscriberEnd s.intake
+    → (is_none s.fault && s.intake.finished) ≡ true
     → AreSubscribersOf system number (subscribers ++ s ∷ [])
 subscribers_push system number [] s are its named is finished =
     let same : number + 0 ≡ number = omega arith in
@@ -45,3 +49,44 @@ left_push subscribers s old parts new mail are more =
           ∙ sym (ap (map (λ (t : Intake). t.subscriber)) all
           ∙ map-append (λ (t : Intake). t.subscriber) (intakes_of subscribers) (s.intake ∷ []));
     }
+
+-- what holds of the subscriber at a place
+subscriber_at : (system number : ℕ) (subscribers : List SubscriberState) (place : ℕ) (s : SubscriberState)
+    → AreSubscribersOf system number subscribers → slice_get subscribers place ≡ Some s
+    → (s.system ≡ system) × (s.intake.number ≡ number + place) × ((is_none s.fault && s.intake.finished) ≡ true)
+subscriber_at system number [] place s are found = cc
+subscriber_at system number (first ∷ subscribers) zero s are found =
+    let same : first ≡ s = cc in
+    let here : number ≡ number + 0 = omega arith in (
+      subst (λ (x : SubscriberState). x.system ≡ system) same are.0,
+      subst (λ (x : SubscriberState). x.intake.number ≡ number) same are.1 ∙ here,
+      subst (λ (x : SubscriberState). (is_none x.fault && x.intake.finished) ≡ true) same are.3,
+    )
+subscriber_at system number (first ∷ subscribers) (suc place) s are found =
+    let rest = subscriber_at system (number + 1) subscribers place s are.4 found in
+    let same : number + 1 + place ≡ number + suc place = omega arith in
+    (rest.0, rest.1 ∙ same, rest.2)
+
+-- the one after those that were taken apart isn't as it has to be
+pub unfit_subscriber : (system : ℕ) (subscribers before : List SubscriberState) (s : SubscriberState)
+    → (length before < length subscribers) × (s ≡ get_or subscribers (length before) s)
+    → (s.system ≡ system → s.intake.number ≡ 1 + length before → (is_none s.fault && s.intake.finished) ≡ true → ⊥)
+    → AreSubscribersOf system 1 subscribers → ⊥
+unfit_subscriber system subscribers before s next unfit are =
+    let all : length subscribers ≡ length subscribers = refl in
+    let its = subscriber_at system 1 subscribers (length before) s are
+    (slice_get_read subscribers (length subscribers) (length before) s all next.0 next.1) in
+    unfit its.0 its.1 its.2
+
+-- no fault was met
+none_of : {A : Type 0} (fault : Option A) → is_none fault ≡ true → fault ≡ None
+none_of None none = refl
+none_of (Some fault) none = cc
+
+-- where it is asked whether an end has finished, that is the answer for one that has met no fault
+pub answered : (s : SubscriberState) (answer : Bool)
+    → (IsTrue answer ↔ ((s.fault ≡ None) × (s.intake.finished ≡ true)))
+    → (is_none s.fault && s.intake.finished) ≡ true → answer ≡ true
+answered s answer says over =
+    let both = and_parts (is_none s.fault) s.intake.finished over in
+    says.1 (none_of s.fault both.0, both.1)

@@ -1,5 +1,8 @@
--- The two ends of a link that has one sender, and what is known of them once they are put together.
-use Rattle.std.specs.Prelude.{◌≡◌, ℕ, List, [], ◌∷◌}
+-- The two ends of a link that has one sender, and what is known of them once they are put together; and when ends are
+-- refused that were to be put together.
+use Rattle.std.specs.Prelude.{◌⊎◌, ◌≡◌, ℕ, List, [], ◌∷◌}
+use Rattle.cdc_ends.specs.declared.faults.RunFault.{RunFault}
+use Rattle.cdc_ends.specs.declared.faults.RunFault.TheVariants.{NotOneSystem, OutOfMemory}
 use Rattle.cdc_links.specs.Links.{IsAccount, Incoming, Outgoing}
 
 module _ {M N : Type 0} where
@@ -12,3 +15,7 @@ module _ {M N : Type 0} where
   pub record IsAccounted (into : Incoming M N) (out : Outgoing M N) : Type 0 where
     pub left : List (ℕ × (M × N))
     pub account : IsAccount into (out ∷ []) left
+
+-- there was no memory to put ends together, or they aren't what they have to be
+abbrev pub IsRefused : Type 0 → RunFault → Type 0
+IsRefused AreFit fault = (fault ≡ OutOfMemory) ⊎ ((fault ≡ NotOneSystem) × (AreFit → ⊥))

@@ -1,19 +1,19 @@
 -- What the clients of a run leave behind, once they have finished.
 use Rattle.std.specs.Prelude.{◌≡◌, ℕ, ◌+◌, true, List, [], ◌∷◌, ◌++◌, All, length, map}
 use Rattle.std.specs.List.{AllZip}
-use Rattle.cdc_ends.specs.Clients.{ClientState, IsClient, Talk}
-use Rattle.cdc_ends.specs.LedgerEnds.{LedgerEndState}
+use Rattle.cdc_ends.specs.Clients.{ClientState, IsClient, Talk, has_finished}
+use Rattle.cdc_ends.specs.LedgerEnds.{LedgerEndState, has_finished as ledger_has_finished}
 use Rattle.cdc_ends.specs.declared.conversations.ClientParts.{ClientParts}
 use Rattle.cdc_links.specs.Links.{Outgoing}
 use Rattle.cdc_traffic.specs.declared.messages.ToLedger.{ToLedger}
 use Rattle.cdc_run.specs.Accounts.{IsOnlySender}
 use Rattle.cdc_run.specs.declared.books.ClientMail.{ClientMail}
 
--- clients of a system that have finished, with these numbers one after another
+-- clients of a system that have finished and have met no fault, with these numbers one after another
 abbrev pub AreClientsOf : ℕ → ℕ → List ClientState → Type 0
 AreClientsOf system number [] = Unit {0}
 AreClientsOf system number (c ∷ clients) =
-    (c.system ≡ system) × (c.talk.number ≡ number) × IsClient c.talk × (c.talk.finished ≡ true)
+    (c.system ≡ system) × (c.talk.number ≡ number) × IsClient c.talk × (has_finished c ≡ true)
     × AreClientsOf system (number + 1) clients
 
 -- their conversations
@@ -42,3 +42,9 @@ pub record AreWiredTo (ledger : LedgerEndState) (clients : List ClientState) : T
   pub requests : All (λ c. c.talk.requests.link ≡ ledger.desk.inbox.link) clients
   pub answers : length clients ≡ length ledger.desk.clients
       → AllZip IsOnlySender (map (λ c. c.answers) (talks_of clients)) ledger.desk.clients
+
+-- a ledger's end and all its clients, of one system, have finished and have met no fault
+pub record HasFinishedWith (ledger : LedgerEndState) (clients : List ClientState) : Type 0 where
+  pub over : ledger_has_finished ledger ≡ true
+  pub count : length clients ≡ length ledger.desk.clients
+  pub clients_are : AreClientsOf ledger.system 1 clients

@@ -2,10 +2,13 @@ pub mod Accounts
 pub mod Books
 pub mod ClientMail
 pub mod Configs
+pub mod Determined
 pub mod Jobs
+pub mod Made
 pub mod Outcomes
 pub mod Passing
 pub mod Plans
+pub mod Reports
 pub mod Scripted
 pub mod Seats
 pub mod Settling
@@ -15,4 +18,5 @@ pub mod SubscriberMail
 pub mod Subscribing
 pub mod Tasks
 pub mod Wires
+pub mod Wirings
 pub mod Worked

@@ -1,5 +1,6 @@
 -- What each end of a run leaves once it has worked: it has finished, and stands where it stood.
-use Rattle.std.specs.Prelude.{◌≡◌, true, ◌++◌, ◌&&◌, is_none, map}
+use Rattle.std.specs.Prelude.{◌≡◌, ℕ, ◌+◌, true, List, [], ◌∷◌, ◌++◌, ◌&&◌, is_none, map}
+use Rattle.std.specs.List.{AllZip}
 use Rattle.cdc_ends.specs.BrokerEnds.{BrokerEndState}
 use Rattle.cdc_ends.specs.BrokerTurns.{has_finished as broker_has_finished}
 use Rattle.cdc_ends.specs.Clients.{ClientState, has_finished as client_has_finished}
@@ -8,10 +9,57 @@ use Rattle.cdc_ends.specs.LedgerEnds.{LedgerEndState, has_finished as ledger_has
 use Rattle.cdc_ends.specs.SubscriberEnds.{SubscriberState}
 use Rattle.cdc_run.specs.Scripted.{ScriptedState}
 use Rattle.cdc_run.specs.Seats.{broker_seat, client_seat, connector_seat, ledger_seat, subscriber_seat}
+use Rattle.cdc_run.specs.declared.ends.Ends.{Ends}
 use Rattle.cdc_run.specs.declared.placed.Left.{Left}
 use Rattle.cdc_run.specs.declared.placed.Left.TheVariants as left
 use Rattle.cdc_run.specs.declared.placed.Task.{Task}
 use Rattle.cdc_run.specs.declared.placed.Task.TheVariants as task
+use Rattle.cdc_types.specs.declared.batches.Batch.{Batch}
+
+-- ---- their places
+
+-- the ends of a run, clients and subscribers by place
+pub record Placed : Type 0 where
+  pub ledger : LedgerEndState
+  pub clients : List ClientState
+  pub connector : ConnectorEndState
+  pub broker : BrokerEndState
+  pub subscribers : List SubscriberState
+
+abbrev pub places_of : {S : Type 0} → Ends S → Placed
+places_of ends = record {
+  ledger = ends.ledger;
+  clients = ends.clients.items;
+  connector = ends.connector;
+  broker = ends.broker;
+  subscribers = ends.subscribers.items;
+}
+
+-- each client with its script
+abbrev pub with_scripts : List ClientState → List (List Batch) → List ScriptedState
+with_scripts [] scripts = []
+with_scripts (client ∷ clients) [] = []
+with_scripts (client ∷ clients) (script ∷ scripts) =
+    record { end = client; script = script } ∷ with_scripts clients scripts
+
+-- each subscriber with its number, from this number on
+abbrev pub numbered : {S : Type 0} → ℕ → List SubscriberState → List (Task S)
+numbered number [] = []
+numbered number (s ∷ subscribers) = task.Subscriber number s ∷ numbered (number + 1) subscribers
+
+-- ends before they work, in the order of their places, each client with its script
+abbrev pub tasks_at : {S : Type 0} → Placed → List (List Batch) → List (Task S)
+tasks_at p scripts =
+    task.Ledger p.ledger ∷ map task.Client (with_scripts p.clients scripts)
+    ++ task.Connector p.connector ∷ task.Broker p.broker ∷ numbered 1 p.subscribers
+
+-- ends once they have finished, in the order of their places
+abbrev pub left_at : {S : Type 0} → Placed → List (Left S)
+left_at p =
+    left.Ledger p.ledger ∷ map left.Client p.clients
+    ++ left.Connector p.connector ∷ left.Broker p.broker ∷ map left.Subscriber p.subscribers
+
+-- ---- what each leaves
 
 pub record LedgerLeaves (old new : LedgerEndState) : Type 0 where
   pub seat : ledger_seat new ≡ ledger_seat old
@@ -62,3 +110,11 @@ Leaves (task.Subscriber number old) (left.Client new) = ⊥
 Leaves (task.Subscriber number old) (left.Connector new) = ⊥
 Leaves (task.Subscriber number old) (left.Broker new) = ⊥
 Leaves (task.Subscriber number old) (left.Subscriber new) = SubscriberLeaves old new
+
+-- each end of a run has left what it was to leave, at its place
+pub record AreLeft (old : Placed) (scripts : List (List Batch)) (new : Placed) : Type 0 where
+  pub ledger : LedgerLeaves old.ledger new.ledger
+  pub clients : AllZip ClientLeaves (with_scripts old.clients scripts) new.clients
+  pub connector : ConnectorLeaves old.connector new.connector
+  pub broker : BrokerLeaves old.broker new.broker
+  pub subscribers : AllZip SubscriberLeaves old.subscribers new.subscribers

@@ -1,9 +1,10 @@
 //! The ledger and the clients of a run, put together once they have finished.
 
-ghost use Rattle.std.specs.Prelude.{◌≡◌, ◌++◌, ◌∷◌, [], All, IfOk, OnOk, length, map};
-ghost use Rattle.cdc_ends.specs.LedgerEnds.{order_of};
+ghost use Rattle.std.specs.Prelude.{◌≡◌, ◌++◌, ◌∷◌, [], All, IfErr, IfOk, OnOk, length, map};
+ghost use Rattle.cdc_ends.specs.LedgerEnds.{IsDesk, order_of};
+ghost use Rattle.cdc_run.specs.Accounts.{IsRefused};
 ghost use Rattle.cdc_run.specs.Books.{AreBooks};
-ghost use Rattle.cdc_run.specs.ClientMail.{AreClientsOf, ArePollsTo, AreWiredTo, IsMailOf, IsMoreMail};
+ghost use Rattle.cdc_run.specs.ClientMail.{AreClientsOf, ArePollsTo, AreWiredTo, HasFinishedWith, IsMailOf, IsMoreMail};
 
 use crate::accounts::{hand_back_all, settle_each};
 use crate::settling::settle_laws;
@@ -61,6 +62,7 @@ pub(crate) fn part_clients(
 ) -> Result<ClientMail, RunFault>
     ensures clients { IfOk result (λ _. AreClientsOf system 1 clients.items) }
     ensures mail { IfOk result (λ mail. IsMailOf clients.items mail) }
+    ensures refused { IfErr result (IsRefused (AreClientsOf system 1 clients.items)) }
 {
     let mut mail = ClientMail::new(alloc);
     for client in clients {
@@ -101,7 +103,13 @@ pub(crate) fn settle_books(
     ensures books { IfOk result (λ books.
         AreBooks (order_of ledger.desk.inbox.received) books.ledger
         (map (λ v. v.items) books.replies.items)) }
+    ensures ledger { IfOk result (λ books. books.ledger ≡ ledger.desk.ledger) }
+    ensures replies { IfOk result (λ books.
+        map (λ v. v.items) books.replies.items ≡ map (λ c. c.talk.replies) clients.items) }
     ensures connector { IfOk result (λ books. books.connector ≡ ledger.desk.connector) }
+    ensures desk { IfOk result (λ _. IsDesk ledger.desk) }
+    ensures finished { IfOk result (λ _. HasFinishedWith ledger clients.items) }
+    ensures refused { IfErr result (IsRefused (HasFinishedWith ledger clients.items)) }
 {
     let system = ledger.system();
     let Some(parts) = ledger.into_parts() else {

@@ -1,10 +1,12 @@
 //! The connector's, the broker's and the subscribers' ends of a run, put together once they have finished.
 
-ghost use Rattle.std.specs.Prelude.{◌≡◌, IfOk, map};
+ghost use Rattle.std.specs.Prelude.{◌≡◌, IfErr, IfOk, map};
+ghost use Rattle.cdc_ends.specs.BrokerEnds.{IsBrokerEnd};
 ghost use Rattle.cdc_ends.specs.ConnectorEnds.{Publishing};
 ghost use Rattle.cdc_ends.specs.LedgerEnds.{Desk as LedgerDesk};
+ghost use Rattle.cdc_run.specs.Accounts.{IsRefused};
 ghost use Rattle.cdc_run.specs.Streams.{AllCome, AreJoined, AreLeftBy};
-ghost use Rattle.cdc_run.specs.SubscriberMail.{AreSubscribersOf, intakes_of};
+ghost use Rattle.cdc_run.specs.SubscriberMail.{AreSubscribersOf, HasFinishedWith, intakes_of};
 
 use crate::accounts::{settle_each, settle_link, settle_pair};
 use crate::settling::passing_laws;
@@ -54,6 +56,9 @@ pub(crate) fn settle_streams(
         → AllCome d broker.desk 0 (intakes_of subscribers.items)) }
     ensures keeps { IfOk result (λ kept.
         kept.items ≡ map (λ s. s.subscriber) (intakes_of subscribers.items)) }
+    ensures desk { IfOk result (λ _. IsBrokerEnd broker.desk) }
+    ensures finished { IfOk result (λ _. HasFinishedWith system broker subscribers.items) }
+    ensures refused { IfErr result (IsRefused (HasFinishedWith system broker subscribers.items)) }
 {
     if broker.system() != system {
         return Err(RunFault::NotOneSystem);

@@ -1,6 +1,7 @@
 //! The subscribers of a run, taken apart once they have finished.
 
-ghost use Rattle.std.specs.Prelude.{[], IfOk, OnOk};
+ghost use Rattle.std.specs.Prelude.{[], IfErr, IfOk, OnOk};
+ghost use Rattle.cdc_run.specs.Accounts.{IsRefused};
 ghost use Rattle.cdc_run.specs.SubscriberMail.{AreSubscribersOf, IsLeftBy, IsMoreLeft};
 
 use cdc_ends::{RunFault, SubscriberEnd, SubscriberParts};
@@ -58,6 +59,7 @@ pub(crate) fn part_subscribers(
 ) -> Result<SubscriberMail, RunFault>
     ensures are { IfOk result (λ _. AreSubscribersOf system 1 subscribers.items) }
     ensures mail { IfOk result (λ mail. IsLeftBy subscribers.items mail) }
+    ensures refused { IfErr result (IsRefused (AreSubscribersOf system 1 subscribers.items)) }
 {
     let mut mail = SubscriberMail::new(alloc);
     for subscriber in subscribers {

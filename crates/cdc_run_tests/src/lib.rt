@@ -12,6 +12,8 @@ mod ledger_ends;
 #[cfg(test)]
 mod links;
 #[cfg(test)]
+mod overlap;
+#[cfg(test)]
 mod runs;
 #[cfg(test)]
 mod traffic;

@@ -32,6 +32,9 @@ IsSimulationFault (fault.ReadFault why) = ⊥
 IsSimulationFault (fault.WriteFault why) = ⊥
 IsSimulationFault (fault.Store why) = ⊥
 IsSimulationFault fault.OutOfMemory = Unit {0}
+IsSimulationFault fault.PeerGone = ⊥
+IsSimulationFault fault.SessionsExhausted = ⊥
+IsSimulationFault fault.NotOneSystem = ⊥
 
 -- a step was done at a stage, and the simulation's world stands for the one after it
 abbrev pub HasDoneAt : Stage → Step → SimulationParts → Type 0

@@ -1,8 +1,9 @@
-use Rattle.std.proofs.Common.{◌≡◌, ◌∙◌, ℕ, List, ◌∷◌, sym, ap, subst, length, map, rules, arith}
+use Rattle.std.proofs.Common.{◌≡◌, ◌∙◌, ℕ, true, false, List, ◌∷◌, refl, sym, ap, subst, length, map, inr, rules, arith}
 use Rattle.std.specs.Prelude.{All}
 use Rattle.std.specs.List.{AllZip}
+use Rattle.std.proofs.lemmas.Simd.{map-map}
 use Rattle.cdc_ends.specs.Clients.{ClientState, Talk}
-use Rattle.cdc_ends.specs.LedgerEnds.{LedgerEndState, order_of}
+use Rattle.cdc_ends.specs.LedgerEnds.{LedgerEndState, has_finished, order_of}
 use Rattle.cdc_ledger.specs.History.{History}
 use Rattle.cdc_links.specs.Links.{CanSend, Incoming, IsAccount, Outgoing}
 use Rattle.cdc_traffic.specs.Following.{FollowsToLedger}
@@ -11,8 +12,9 @@ use Rattle.cdc_traffic.specs.declared.requests.Reply.{Reply}
 use Rattle.cdc_types.specs.declared.batches.Batch.{Batch}
 use Rattle.cdc_run.specs.Accounts.{IsAccounted}
 use Rattle.cdc_run.specs.Books.{AreBooks}
-use Rattle.cdc_run.specs.ClientMail.{talks_of}
+use Rattle.cdc_run.specs.ClientMail.{AreClientsOf, HasFinishedWith, talks_of}
 use Rattle.cdc_run.proofs.ClientsParted.{AreTogether, all_settled, as_many_senders, of_one_link, senders, together}
+use Rattle.cdc_run.proofs.Refused.{asked_more, handed_on}
 use Rattle.cdc_run.proofs.Zips.{same_zip}
 use Rattle.cdc_run.proofs.books.settle_books.Goals as goal
 
@@ -84,3 +86,59 @@ returns-clause-books c =
     subst (λ (h : History). AreBooks order h (map (λ v. v.items) c.in_ok-mail.mail.replies.items)) (sym is.ledger_is)
     (subst (λ (replies : List (List Reply)). AreBooks order ledger.desk.ledger replies)
     (sym c.in_ok-mail.ensures.mail.replies) books)
+
+pub returns-clause-replies : goal.returns-clause-replies
+returns-clause-replies c =
+    let clients : List ClientState = c.args.clients.items in
+    c.in_ok-mail.ensures.mail.replies ∙ map-map (λ (t : Talk). t.replies) (λ (s : ClientState). s.talk) clients
+
+pub returns-clause-finished : goal.returns-clause-finished
+returns-clause-finished c =
+    let ledger : LedgerEndState = c.args.ledger in
+    let clients : List ClientState = c.args.clients.items in
+    let parts = c.in-Some.parts in
+    let is = c.in-Some.ensures.parts in
+    let same_len : c.args.clients.len ≡ parts.clients.len = first_of (omega arith, cc, search rules) in
+    let many : length clients ≡ length ledger.desk.clients =
+    sym c.args.clients.ok.0 ∙ same_len ∙ parts.clients.ok.0 ∙ ap (λ l. length l) is.clients_are in
+    let are : AreTogether ledger c.args.polls clients =
+    together ledger c.args.polls clients c.system-system.result c.in-Some.ensures.some c.in-Some.ensures.kept
+    c.in_ok-mail.ensures.clients c.system-system.ensures c.requires.polls c.requires.wired many in
+    are.finished
+
+-- the ledger's end hasn't finished, or has met a fault
+pub returns-in_default-clause-refused : goal.returns-in_default-clause-refused
+returns-in_default-clause-refused c =
+    inr (
+      refl,
+      λ fit.
+          let over : has_finished c.args.ledger ≡ true = fit.over in
+          let not_over : false ≡ has_finished c.args.ledger = c.in_default.ensures.some in
+          cc,
+    )
+
+-- there are more clients than it has, or fewer
+pub returns-then-len-clause-refused : goal.returns-then-len-clause-refused
+returns-then-len-clause-refused c =
+    let parts = c.in-Some.parts in
+    let same : length parts.clients.items ≡ length c.args.ledger.desk.clients =
+    ap (λ l. length l) c.in-Some.ensures.parts.clients_are in
+    let ours : c.args.clients.len ≡ length c.args.clients.items = c.args.clients.ok.0 in
+    let its : parts.clients.len ≡ length parts.clients.items = parts.clients.ok.0 in
+    inr (
+      refl,
+      λ fit.
+          let count : length c.args.clients.items ≡ length c.args.ledger.desk.clients = fit.count in
+          c.if-len.true (omega arith),
+    )
+
+-- one of them isn't as it has to be
+pub returns-in_err-mail-clause-refused : goal.returns-in_err-mail-clause-refused
+returns-in_err-mail-clause-refused c =
+    let clients : List ClientState = c.args.clients.items in
+    handed_on (HasFinishedWith c.args.ledger clients) c.from_residual.result c.in_err-mail.field-0.0
+    c.from_residual.ensures.1
+    (asked_more (AreClientsOf c.system-system.result 1 clients) (HasFinishedWith c.args.ledger clients)
+    c.in_err-mail.field-0.0
+    (λ fit. subst (λ (n : ℕ). AreClientsOf n 1 clients) (sym c.system-system.ensures) fit.clients_are)
+    c.in_err-mail.ensures.refused)

@@ -1,9 +1,10 @@
-use Rattle.std.proofs.Common.{◌≡◌, ◌∙◌, ℕ, ◌+◌, true, Option, List, [], ◌∷◌, sym, ap, subst, map, rules, arith}
+use Rattle.std.proofs.Common.{◌≡◌, ◌∙◌, ℕ, ◌+◌, true, false, Option, List, [], ◌∷◌, refl, sym, ap, subst, length, map, inr, rules, arith}
 use Rattle.std.specs.Prelude.{All, Some, is_none, slice_get}
 use Rattle.std.specs.List.{AllZip}
 use Rattle.std.proofs.lemmas.Bool.{and_parts}
 use Rattle.std.proofs.lemmas.List.Elements.{All-cons, All-map}
 use Rattle.cdc_ends.specs.BrokerEnds.{Desk as BrokerDesk}
+use Rattle.cdc_ends.specs.BrokerTurns.{has_finished}
 use Rattle.cdc_ends.specs.SubscriberEnds.{Intake, SubscriberState}
 use Rattle.cdc_ends.specs.declared.consumers.Consumer.{Consumer}
 use Rattle.cdc_links.specs.Links.{CanSend, Incoming, IsAccount, Outgoing}
@@ -13,7 +14,8 @@ use Rattle.cdc_traffic.specs.declared.messages.ToConnector.{ToConnector}
 use Rattle.cdc_traffic.specs.declared.pasts.Past.{Past}
 use Rattle.cdc_run.specs.Accounts.{IsAccounted}
 use Rattle.cdc_run.specs.Streams.{AreJoined, Middle}
-use Rattle.cdc_run.specs.SubscriberMail.{intakes_of}
+use Rattle.cdc_run.specs.SubscriberMail.{AreSubscribersOf, HasFinishedWith, intakes_of}
+use Rattle.cdc_run.proofs.Refused.{asked_more, handed_on}
 use Rattle.cdc_run.proofs.Streamed.{all_come, through}
 use Rattle.cdc_run.proofs.Zips.{same_zip}
 use Rattle.cdc_run.proofs.streams.settle_streams.Goals as goal
@@ -64,3 +66,62 @@ returns-clause-come c d work are =
     0 c.args.system 1 subscribers b.consumers c.in_ok-mail.ensures.are accounts (λ k x found.
     let same : k ≡ 0 + k = omega arith in
     subst (λ (n : ℕ). slice_get b.consumers n ≡ Some x) same found)
+
+pub returns-clause-finished : goal.returns-clause-finished
+returns-clause-finished c =
+    let b : BrokerDesk = c.args.broker.desk in
+    let parts = c.in-Some.parts in
+    let is = c.in-Some.ensures.parts in
+    let same_len : c.args.subscribers.len ≡ parts.consumers.len = first_of (omega arith, cc, search rules) in
+    record {
+      same = first_of (cc, search rules);
+      over = sym c.in-Some.ensures.some;
+      count = sym c.args.subscribers.ok.0 ∙ same_len ∙ parts.consumers.ok.0 ∙ ap (λ l. length l) is.consumers_are;
+      subscribers_are = c.in_ok-mail.ensures.are;
+    }
+
+-- the broker is of another system
+pub returns-then-system-clause-refused : goal.returns-then-system-clause-refused
+returns-then-system-clause-refused c =
+    inr (
+      refl,
+      λ fit.
+          let same : c.args.broker.system ≡ c.args.system = fit.same in
+          c.if-system.true cc,
+    )
+
+-- it hasn't finished, or has met a fault
+pub returns-in_default-clause-refused : goal.returns-in_default-clause-refused
+returns-in_default-clause-refused c =
+    inr (
+      refl,
+      λ fit.
+          let over : has_finished c.args.broker ≡ true = fit.over in
+          let not_over : false ≡ has_finished c.args.broker = c.in_default.ensures.some in
+          cc,
+    )
+
+-- there are more subscribers than it has, or fewer
+pub returns-then-len-clause-refused : goal.returns-then-len-clause-refused
+returns-then-len-clause-refused c =
+    let parts = c.in-Some.parts in
+    let same : length parts.consumers.items ≡ length c.args.broker.desk.consumers =
+    ap (λ l. length l) c.in-Some.ensures.parts.consumers_are in
+    let ours : c.args.subscribers.len ≡ length c.args.subscribers.items = c.args.subscribers.ok.0 in
+    let its : parts.consumers.len ≡ length parts.consumers.items = parts.consumers.ok.0 in
+    inr (
+      refl,
+      λ fit.
+          let count : length c.args.subscribers.items ≡ length c.args.broker.desk.consumers = fit.count in
+          c.if-len.true (omega arith),
+    )
+
+-- one of them isn't as it has to be
+pub returns-in_err-mail-clause-refused : goal.returns-in_err-mail-clause-refused
+returns-in_err-mail-clause-refused c =
+    let subscribers : List SubscriberState = c.args.subscribers.items in
+    handed_on (HasFinishedWith c.args.system c.args.broker subscribers) c.from_residual.result
+    c.in_err-mail.field-0.0 c.from_residual.ensures.1
+    (asked_more (AreSubscribersOf c.args.system 1 subscribers)
+    (HasFinishedWith c.args.system c.args.broker subscribers) c.in_err-mail.field-0.0 (λ fit. fit.subscribers_are)
+    c.in_err-mail.ensures.refused)

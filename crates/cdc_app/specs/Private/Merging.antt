@@ -1,0 +1,31 @@
+-- The replies to clients, while they are put into the order of the script.
+use Rattle.std.specs.Prelude.{◌≡◌, ◌==◌, ℕ, ◌+◌, ◌-◌, ◌<◌, ◌≤◌, List, Some, All, filter, length, slice_get, slice_set}
+
+-- so often does this client stand in an order
+abbrev pub times_in : ℕ → List ℕ → ℕ
+times_in client order = length (filter (λ c. c == client) order)
+
+module _ {X : Type 0} where
+  -- an order of clients, of which each has as many of its own as it stands in the order
+  pub record IsOrderOf (order : List ℕ) (shares : List (List X)) : Type 0 where
+    pub known : All (λ client. (1 ≤ client) × (client ≤ length shares)) order
+    pub each : (place : ℕ) (share : List X) → slice_get shares place ≡ Some share
+        → length share ≡ times_in (place + 1) order
+
+  -- a client has one of its own left, of which so many of each client are taken
+  pub record HasNext (shares : List (List X)) (taken : List ℕ) (client : ℕ) : Type 0 where
+    pub share : List X
+    pub count : ℕ
+    pub from_one : 1 ≤ client
+    pub share_is : slice_get shares (client - 1) ≡ Some share
+    pub count_is : slice_get taken (client - 1) ≡ Some count
+    pub left : count < length share
+
+  -- the next one of a client is taken
+  pub record TakesNext (shares : List (List X)) (old : List ℕ) (client : ℕ) (next : X) (new : List ℕ) : Type 0 where
+    pub share : List X
+    pub count : ℕ
+    pub share_is : slice_get shares (client - 1) ≡ Some share
+    pub count_is : slice_get old (client - 1) ≡ Some count
+    pub next_is : slice_get share count ≡ Some next
+    pub new_is : new ≡ slice_set old (client - 1) (count + 1)

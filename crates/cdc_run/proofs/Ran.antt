@@ -1,0 +1,113 @@
+-- What a run comes to, from what its ends were made as and what they have left.
+use Rattle.std.proofs.Common.{◌≡◌, ℕ, ◌+◌, true, List, [], ◌∷◌, ◌++◌, refl, sym, ap, ap₂, ◌∙◌, subst, arith, length, map, false}
+use Rattle.std.specs.Prelude.{All, Bool, None, Option, Some}
+use Rattle.std.specs.List.{AllZip}
+use Rattle.std.proofs.lemmas.List.Elements.{All-cons}
+use Rattle.cdc_broker.specs.Queues.{QueueState, empty_queue}
+use Rattle.cdc_ends.specs.Clients.{ClientState, first_words}
+use Rattle.cdc_ends.specs.LedgerEnds.{order_of}
+use Rattle.cdc_ends.specs.SubscriberEnds.{SubscriberState}
+use Rattle.cdc_laws.specs.Connectors.{held_timestamp}
+use Rattle.cdc_links.specs.Links.{LinkId, fresh_end}
+use Rattle.cdc_match.specs.declared.binding.Binding.{Binding}
+use Rattle.cdc_progress.specs.Records.{Saved}
+use Rattle.cdc_run.specs.Made.{AreMade, fresh_inbox, made_clients, made_subscribers}
+use Rattle.cdc_run.specs.Reports.{AreSubscribed, HasRun, IsReportOf, replies_of}
+use Rattle.cdc_run.specs.Seats.{BrokerSeat, ConnectorSeat, SubscriberSeat, broker_seat, connector_seat, start_if}
+use Rattle.cdc_run.specs.Tasks.{AreLeft, ClientLeaves, SubscriberLeaves, places_of, with_scripts}
+use Rattle.cdc_run.specs.declared.configs.Config.{Config}
+use Rattle.cdc_run.specs.declared.ends.Ends.{Ends}
+use Rattle.cdc_run.specs.declared.plans.Faults.{Faults}
+use Rattle.cdc_run.specs.declared.reports.Report.{Report}
+use Rattle.cdc_traffic.specs.declared.messages.ToBroker.{ToBroker}
+use Rattle.cdc_traffic.specs.declared.messages.ToLedger.{ToLedger}
+use Rattle.cdc_traffic.specs.declared.messages.ToSubscriber.{ToSubscriber}
+use Rattle.cdc_traffic.specs.declared.requests.Reply.{Reply}
+use Rattle.cdc_types.specs.declared.batches.Batch.{Batch}
+
+-- new clients haven't finished
+clients_talk : (system : ℕ) (requests : LinkId ToLedger) (number : ℕ) (links : List (LinkId Reply))
+    → All (λ (c : ClientState). c.talk.finished ≡ false) (made_clients system requests number links)
+clients_talk system requests number [] = λ k d below. absurd (omega arith)
+clients_talk system requests number (link ∷ links) =
+    All-cons (λ (c : ClientState). c.talk.finished ≡ false) (record {
+      system = system;
+      talk = first_words number (fresh_end requests number) (fresh_inbox link 1);
+      fault = None;
+    }) (made_clients system requests (number + 1) links) refl
+    (clients_talk system requests (number + 1) links)
+
+-- new clients have submitted their scripts, once they have left
+scripts_submitted : (system : ℕ) (requests : LinkId ToLedger) (number : ℕ) (links : List (LinkId Reply))
+    (scripts : List (List Batch)) (news : List ClientState) → length scripts ≡ length links
+    → AllZip ClientLeaves (with_scripts (made_clients system requests number links) scripts) news
+    → map (map (λ (r : Reply). r.batch)) (map (λ (c : ClientState). c.talk.replies) news) ≡ scripts
+scripts_submitted system requests number [] [] [] many all = refl
+scripts_submitted system requests number [] [] (new ∷ news) many all = absurd all
+scripts_submitted system requests number [] (script ∷ scripts) news many all = absurd (omega arith)
+scripts_submitted system requests number (link ∷ links) [] news many all = absurd (omega arith)
+scripts_submitted system requests number (link ∷ links) (script ∷ scripts) [] many all = absurd all
+scripts_submitted system requests number (link ∷ links) (script ∷ scripts) (new ∷ news) many all =
+    let fewer : length scripts ≡ length links = omega arith in
+    ap₂ (λ (x : List Batch) (xs : List (List Batch)). x ∷ xs) all.0.batches
+    (scripts_submitted system requests (number + 1) links scripts news fewer all.1)
+
+-- subscribers close when they were to
+closes_stay : (system : ℕ) (acks : LinkId ToBroker) (number : ℕ) (links : List (LinkId ToSubscriber))
+    (closes : List (Option ℕ)) (news : List SubscriberState) → length closes ≡ length links
+    → AllZip SubscriberLeaves (made_subscribers system acks number links closes) news
+    → map (λ (s : SubscriberState). s.intake.close_after) news ≡ closes
+closes_stay system acks number [] [] [] many all = refl
+closes_stay system acks number [] [] (new ∷ news) many all = absurd all
+closes_stay system acks number [] (close ∷ closes) news many all = absurd (omega arith)
+closes_stay system acks number (link ∷ links) [] news many all = absurd (omega arith)
+closes_stay system acks number (link ∷ links) (close ∷ closes) [] many all = absurd all
+closes_stay system acks number (link ∷ links) (close ∷ closes) (new ∷ news) many all =
+    let fewer : length closes ≡ length links = omega arith in
+    ap₂ (λ (x : Option ℕ) (xs : List (Option ℕ)). x ∷ xs) (ap (λ (seat : SubscriberSeat). seat.close_after) all.0.seat)
+    (closes_stay system acks (number + 1) links closes news fewer all.1)
+
+-- the bindings of new queues
+bindings_of_empty : (bindings : List Binding) → map (λ (q : QueueState). q.binding) (map empty_queue bindings) ≡ bindings
+bindings_of_empty [] = refl
+bindings_of_empty (binding ∷ bindings) = ap (λ (l : List Binding). binding ∷ l) (bindings_of_empty bindings)
+
+module _ {S : Type 0} (config : Config) (faults : Faults) (held : Option Saved) (honest : Bool) (ends : Ends S)
+    (made : AreMade config faults held honest ends) where
+  -- no client has finished before the first turn
+  pub no_client_done : All (λ (c : ClientState). c.talk.finished ≡ false) ends.clients.items
+  no_client_done =
+      subst (λ (l : List ClientState). All (λ (c : ClientState). c.talk.finished ≡ false) l) (sym made.clients)
+      (clients_talk config.system made.wiring.to_ledger 1 made.wiring.to_clients)
+
+  module _ (new : Ends S) (scripts : List (List Batch)) (are : AreLeft (places_of ends) scripts (places_of new))
+      (report : Report) (reported : IsReportOf new report) where
+    -- so the report is that of these scripts
+    pub has_run : length scripts ≡ config.clients → HasRun scripts report
+    has_run many = record {
+      order = order_of new.ledger.desk.inbox.received;
+      books = reported.books;
+      scripts_are =
+          ap (map (map (λ (r : Reply). r.batch))) reported.replies
+          ∙ scripts_submitted config.system made.wiring.to_ledger 1 made.wiring.to_clients scripts new.clients.items
+          (many ∙ sym made.clients_count)
+          (subst (λ (l : List ClientState). AllZip ClientLeaves (with_scripts l scripts) new.clients.items) made.clients are.clients);
+    }
+
+    -- and its subscribers have come to what they may rely on
+    pub have_subscribed : honest ≡ true → held_timestamp held ≡ 0
+        → AreSubscribed report.ledger config.bindings.items made.closes report.subscribers.items
+    have_subscribed is_honest zero =
+        let start : (connector_seat new.connector).start ≡ Some 0 =
+        ap (λ (seat : ConnectorSeat). seat.start) (are.connector.seat ∙ ap connector_seat made.connector)
+        ∙ ap₂ start_if is_honest zero in
+        let bindings : (broker_seat new.broker).bindings ≡ config.bindings.items =
+        ap (λ (seat : BrokerSeat). seat.bindings) (are.broker.seat ∙ ap broker_seat made.broker)
+        ∙ bindings_of_empty config.bindings.items in
+        let closes : map (λ (s : SubscriberState). s.intake.close_after) new.subscribers.items ≡ made.closes =
+        closes_stay config.system made.wiring.to_broker 1 made.wiring.to_subscribers made.closes new.subscribers.items
+        (made.closes_count ∙ sym made.subscribers_count)
+        (subst (λ (l : List SubscriberState). AllZip SubscriberLeaves l new.subscribers.items) made.subscribers are.subscribers) in
+        subst (λ (l : List Binding). AreSubscribed report.ledger l made.closes report.subscribers.items) bindings
+        (subst (λ (l : List (Option ℕ)). AreSubscribed report.ledger (broker_seat new.broker).bindings l report.subscribers.items) closes
+        (reported.subscribers start))

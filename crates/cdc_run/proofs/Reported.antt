@@ -1,0 +1,108 @@
+-- What is reported of ends that have finished.
+use Rattle.std.proofs.Common.{◌≡◌, ℕ, suc, ◌+◌, ◌-◌, Bool, true, false, List, [], ◌∷◌, refl, sym, ap, ◌∙◌, subst, length, map, arith}
+use Rattle.std.specs.Prelude.{Option, Some, None, is_none, slice_get, unwrap_or}
+use Rattle.std.proofs.lemmas.Bool.{and_parts}
+use Rattle.cdc_broker.specs.Broker.{nobody, queue_of}
+use Rattle.cdc_broker.specs.Queues.{QueueState, empty_queue}
+use Rattle.cdc_ends.specs.BrokerEnds.{Desk as BrokerDesk}
+use Rattle.cdc_ends.specs.ConnectorEnds.{has_finished, start_of}
+use Rattle.cdc_ends.specs.LedgerEnds.{Desk as LedgerDesk, IsDesk}
+use Rattle.cdc_ends.specs.SubscriberEnds.{Intake, SubscriberState}
+use Rattle.cdc_run.specs.ClientMail.{HasFinishedWith as LedgerHasFinishedWith}
+use Rattle.cdc_run.specs.Reports.{AreFinished, AreSubscribed}
+use Rattle.cdc_run.specs.Seats.{connector_seat, start_if}
+use Rattle.cdc_run.specs.Streams.{AllCome, AreLeftBy, Middle}
+use Rattle.cdc_run.specs.SubscriberMail.{HasFinishedWith as BrokerHasFinishedWith, intakes_of}
+use Rattle.cdc_run.specs.Subscribing.{HasCome}
+use Rattle.cdc_run.specs.declared.ends.Ends.{Ends}
+use Rattle.cdc_run.proofs.Seated.{AreBetween}
+
+-- a store of which the start is known is honest
+started : (honest : Bool) (start moment : ℕ) → start_if honest start ≡ Some moment
+    → (honest ≡ true) × (start ≡ moment)
+started true start moment same = (refl, cc)
+started false start moment same = cc
+
+-- the connector, with the ends of its links, where the start of its store is known to be 0
+pub left_by : {S : Type 0} (ends : Ends S) (m : Middle) → AreBetween ends m → IsDesk ends.ledger.desk
+    → has_finished ends.connector ≡ true → (connector_seat ends.connector).start ≡ Some 0
+    → AreLeftBy ends.ledger.desk ends.connector.work m
+left_by ends m are desk over start =
+    let work = ends.connector.work in
+    let known = started work.honest (start_of work.first work.held) 0 start in
+    record {
+      desk = desk;
+      connector = are.connector;
+      over = (and_parts (is_none ends.connector.fault) work.finished over).1;
+      honest = known.0;
+      start = known.1;
+      inbox = sym are.inbox;
+      replies = sym are.replies;
+      packets = sym are.packets;
+    }
+
+-- subscribers that have come to what they may rely on, with the queue of each
+pub subscribed : (d : LedgerDesk) (b : BrokerDesk) (place : ℕ) (subscribers : List SubscriberState)
+    (queues : List QueueState) → AllCome d b place (intakes_of subscribers) → length subscribers ≡ length queues
+    → ((k : ℕ) (q : QueueState) → slice_get queues k ≡ Some q → queue_of b.broker (place + k + 1) ≡ q)
+    → AreSubscribed d.ledger (map (λ q. q.binding) queues) (map (λ s. s.intake.close_after) subscribers)
+    (map (λ s. s.subscriber) (intakes_of subscribers))
+subscribed d b place [] [] come many there = tt
+subscribed d b place [] (q ∷ queues) come many there = absurd (omega arith)
+subscribed d b place (s ∷ subscribers) [] come many there = absurd (omega arith)
+subscribed d b place (s ∷ subscribers) (q ∷ queues) come many there =
+    let here : place + 0 + 1 ≡ place + 1 = omega arith in
+    let its : queue_of b.broker (place + 1) ≡ q =
+    subst (λ (n : ℕ). queue_of b.broker n ≡ q) here (there 0 q refl) in
+    let rest : length subscribers ≡ length queues = omega arith in (
+      record {
+        heard = come.0.heard;
+        come = subst (λ (x : QueueState). HasCome d.ledger x.binding s.intake.close_after come.0.heard) its come.0.come;
+        keeps = come.0.keeps;
+      },
+      subscribed d b (place + 1) subscribers queues come.1 rest (λ k next found.
+          let same : place + suc k + 1 ≡ place + 1 + k + 1 = omega arith in
+          subst (λ (n : ℕ). queue_of b.broker n ≡ next) same (there (suc k) next found)),
+    )
+
+-- all of them
+pub all_subscribed : (d : LedgerDesk) (b : BrokerDesk) (subscribers : List SubscriberState)
+    → AllCome d b 0 (intakes_of subscribers) → length subscribers ≡ length b.broker.queues
+    → AreSubscribed d.ledger (map (λ q. q.binding) b.broker.queues) (map (λ s. s.intake.close_after) subscribers)
+    (map (λ s. s.subscriber) (intakes_of subscribers))
+all_subscribed d b subscribers come many =
+    subscribed d b 0 subscribers b.broker.queues come many (λ k q found.
+    let same : k ≡ 0 + k + 1 - 1 = omega arith in
+    ap (λ (o : Option QueueState). unwrap_or o (empty_queue nobody))
+    (subst (λ (n : ℕ). slice_get b.broker.queues n ≡ Some q) same found))
+
+-- ends of a run that have finished
+pub finished : {S : Type 0} (ends : Ends S) → LedgerHasFinishedWith ends.ledger ends.clients.items
+    → has_finished ends.connector ≡ true → ends.connector.system ≡ ends.ledger.system
+    → BrokerHasFinishedWith ends.ledger.system ends.broker ends.subscribers.items → AreFinished ends
+finished ends books over same streams = record {
+  ledger = books.over;
+  clients_count = books.count;
+  clients = books.clients_are;
+  connector = over;
+  connector_system = same;
+  broker = streams.over;
+  broker_system = streams.same;
+  subscribers_count = streams.count;
+  subscribers = streams.subscribers_are;
+}
+
+-- the ledger's end and the clients are among them
+pub books_of : {S : Type 0} (ends : Ends S) → AreFinished ends
+    → LedgerHasFinishedWith ends.ledger ends.clients.items
+books_of ends are = record { over = are.ledger; count = are.clients_count; clients_are = are.clients }
+
+-- and so are the broker's end and the subscribers
+pub streams_of : {S : Type 0} (ends : Ends S) → AreFinished ends
+    → BrokerHasFinishedWith ends.ledger.system ends.broker ends.subscribers.items
+streams_of ends are = record {
+  same = are.broker_system;
+  over = are.broker;
+  count = are.subscribers_count;
+  subscribers_are = are.subscribers;
+}

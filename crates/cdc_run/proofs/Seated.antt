@@ -1,0 +1,205 @@
+-- Ends that sit where a wiring has them are wired to one another.
+use Rattle.std.proofs.Common.{◌≡◌, ℕ, suc, ◌+◌, ◌-◌, List, [], ◌∷◌, refl, sym, ap, ◌∙◌, subst, length, map, arith}
+use Rattle.std.specs.Prelude.{All, Option, Some, slice_get}
+use Rattle.std.specs.List.{AllZip}
+use Rattle.std.specs.Option.{option_map}
+use Rattle.std.proofs.lemmas.List.{length-map}
+use Rattle.std.proofs.lemmas.List.Elements.{All-cons, All-head, All-nil, All-tail}
+use Rattle.std.proofs.lemmas.Option.{slice_get-map}
+use Rattle.std.proofs.lemmas.Simd.{map-map}
+use Rattle.cdc_ends.specs.Clients.{ClientState, Talk}
+use Rattle.cdc_ends.specs.ConnectorEnds.{IsConnectorEnd}
+use Rattle.cdc_ends.specs.SubscriberEnds.{Intake, SubscriberState}
+use Rattle.cdc_ends.specs.declared.consumers.Consumer.{Consumer}
+use Rattle.cdc_links.specs.Links.{Incoming, LinkId, Outgoing}
+use Rattle.cdc_traffic.specs.declared.messages.ToBroker.{ToBroker}
+use Rattle.cdc_traffic.specs.declared.messages.ToConnector.{ToConnector}
+use Rattle.cdc_traffic.specs.declared.messages.ToLedger.{ToLedger}
+use Rattle.cdc_traffic.specs.declared.messages.ToSubscriber.{ToSubscriber}
+use Rattle.cdc_traffic.specs.declared.pasts.Past.{Past}
+use Rattle.cdc_traffic.specs.declared.requests.Reply.{Reply}
+use Rattle.cdc_run.specs.Accounts.{IsOnlySender}
+use Rattle.cdc_run.specs.ClientMail.{AreClientsOf, ArePollsTo, AreWiredTo, talks_of}
+use Rattle.cdc_run.specs.Seats.{client_seat, subscriber_seat}
+use Rattle.cdc_run.specs.Streams.{AreJoined, Middle}
+use Rattle.cdc_run.specs.SubscriberMail.{AreSubscribersOf, intakes_of}
+use Rattle.cdc_run.specs.Wirings.{AreSeated, ClientSits, SubscriberSits, Wiring}
+use Rattle.cdc_run.specs.declared.ends.Ends.{Ends}
+
+-- ---- links by place
+
+module _ {M N : Type 0} where
+  -- receivers' ends, each of the link at its place, the first of them at this one, and each with one sender
+  abbrev AreAt : List (LinkId M) → ℕ → List (Incoming M N) → Type 0
+  AreAt links place [] = Unit {0}
+  AreAt links place (into ∷ ins) =
+      (slice_get links place ≡ Some into.link) × (into.senders ≡ 1) × AreAt links (place + 1) ins
+
+  -- the senders' ends of these links, by place, are theirs
+  only_senders : (links : List (LinkId M)) (place : ℕ) (ins : List (Incoming M N)) (outs : List (Outgoing M N))
+      → AreAt links place ins → length ins ≡ length outs
+      → ((k : ℕ) (out : Outgoing M N) → slice_get outs k ≡ Some out → slice_get links (place + k) ≡ Some out.link)
+      → AllZip IsOnlySender ins outs
+  only_senders links place [] [] at many there = tt
+  only_senders links place [] (out ∷ outs) at many there = absurd (omega arith)
+  only_senders links place (into ∷ ins) [] at many there = absurd (omega arith)
+  only_senders links place (into ∷ ins) (out ∷ outs) at many there =
+      let here : place + 0 ≡ place = omega arith in
+      let its : slice_get links place ≡ Some out.link =
+      subst (λ (k : ℕ). slice_get links k ≡ Some out.link) here (there 0 out refl) in
+      let mine : slice_get links place ≡ Some into.link = at.0 in
+      let rest : length ins ≡ length outs = omega arith in (
+        record { link = cc; alone = at.1 },
+        only_senders links (place + 1) ins outs at.2 rest (λ k next found.
+            let same : place + suc k ≡ place + 1 + k = omega arith in
+            subst (λ (n : ℕ). slice_get links n ≡ Some next.link) same (there (suc k) next found)),
+      )
+
+  -- where the links are just those of the senders' ends
+  joined_at : (links : List (LinkId M)) (ins : List (Incoming M N)) (outs : List (Outgoing M N)) → AreAt links 0 ins
+      → map (λ out. out.link) outs ≡ links → length ins ≡ length outs → AllZip IsOnlySender ins outs
+  joined_at links ins outs at same many =
+      only_senders links 0 ins outs at many (λ k out found.
+      let counted : k ≡ 0 + k = omega arith in
+      let there : slice_get (map (λ (o : Outgoing M N). o.link) outs) k ≡ Some out.link =
+      slice_get-map (λ (o : Outgoing M N). o.link) outs k ∙ ap (option_map (λ (o : Outgoing M N). o.link)) found in
+      subst (λ (n : ℕ). slice_get links n ≡ Some out.link) counted
+      (subst (λ (l : List (LinkId M)). slice_get l k ≡ Some out.link) same there))
+
+-- ---- ledger and clients
+
+module _ (wiring : ℕ → Wiring) (system : ℕ) where
+  abbrev ClientIsSeated : ClientState → Type 0
+  ClientIsSeated c = ClientSits (wiring c.system) (client_seat c)
+
+  -- the clients of one system ask over its link
+  clients_ask : (link : LinkId ToLedger) (number : ℕ) (clients : List ClientState) → (wiring system).to_ledger ≡ link
+      → AreClientsOf system number clients → All ClientIsSeated clients
+      → All (λ c. c.talk.requests.link ≡ link) clients
+  clients_ask link number [] same are seated = All-nil (λ (c : ClientState). c.talk.requests.link ≡ link)
+  clients_ask link number (c ∷ clients) same are seated =
+      let sits : ClientSits (wiring c.system) (client_seat c) = All-head ClientIsSeated c clients seated in
+      All-cons (λ (s : ClientState). s.talk.requests.link ≡ link) c clients
+      (sits.requests ∙ ap (λ (n : ℕ). (wiring n).to_ledger) are.0 ∙ same)
+      (clients_ask link (number + 1) clients same are.4 (All-tail ClientIsSeated c clients seated))
+
+  -- and are answered each over the link at its place
+  clients_at : (place : ℕ) (clients : List ClientState) → AreClientsOf system (place + 1) clients
+      → All ClientIsSeated clients → AreAt (wiring system).to_clients place (map (λ c. c.answers) (talks_of clients))
+  clients_at place [] are seated = tt
+  clients_at place (c ∷ clients) are seated =
+      let sits : ClientSits (wiring c.system) (client_seat c) = All-head ClientIsSeated c clients seated in
+      let own : slice_get (wiring system).to_clients (c.talk.number - 1) ≡ Some c.talk.answers.link =
+      subst (λ (n : ℕ). slice_get (wiring n).to_clients (c.talk.number - 1) ≡ Some c.talk.answers.link) are.0
+      sits.answers in
+      let named : c.talk.number ≡ place + 1 = are.1 in
+      let here : c.talk.number - 1 ≡ place = omega arith in (
+        subst (λ (k : ℕ). slice_get (wiring system).to_clients k ≡ Some c.talk.answers.link) here own,
+        are.2.alone,
+        clients_at (place + 1) clients are.4 (All-tail ClientIsSeated c clients seated),
+      )
+
+  abbrev SubscriberIsSeated : SubscriberState → Type 0
+  SubscriberIsSeated s = SubscriberSits (wiring s.system) (subscriber_seat s)
+
+  -- the subscribers of one system acknowledge over its link
+  subscribers_acknowledge : (link : LinkId ToBroker) (number : ℕ) (subscribers : List SubscriberState)
+      → (wiring system).to_broker ≡ link → AreSubscribersOf system number subscribers
+      → All SubscriberIsSeated subscribers → All (λ s. s.intake.acks.link ≡ link) subscribers
+  subscribers_acknowledge link number [] same are seated =
+      All-nil (λ (s : SubscriberState). s.intake.acks.link ≡ link)
+  subscribers_acknowledge link number (s ∷ subscribers) same are seated =
+      let sits : SubscriberSits (wiring s.system) (subscriber_seat s) =
+      All-head SubscriberIsSeated s subscribers seated in
+      All-cons (λ (t : SubscriberState). t.intake.acks.link ≡ link) s subscribers
+      (sits.acks ∙ ap (λ (n : ℕ). (wiring n).to_broker) are.0 ∙ same)
+      (subscribers_acknowledge link (number + 1) subscribers same are.4
+      (All-tail SubscriberIsSeated s subscribers seated))
+
+  -- and are handed out to each over the link at its place
+  subscribers_at : (place : ℕ) (subscribers : List SubscriberState) → AreSubscribersOf system (place + 1) subscribers
+      → All SubscriberIsSeated subscribers
+      → AreAt (wiring system).to_subscribers place (map (λ s. s.inbox) (intakes_of subscribers))
+  subscribers_at place [] are seated = tt
+  subscribers_at place (s ∷ subscribers) are seated =
+      let sits : SubscriberSits (wiring s.system) (subscriber_seat s) =
+      All-head SubscriberIsSeated s subscribers seated in
+      let own : slice_get (wiring system).to_subscribers (s.intake.number - 1) ≡ Some s.intake.inbox.link =
+      subst (λ (n : ℕ). slice_get (wiring n).to_subscribers (s.intake.number - 1) ≡ Some s.intake.inbox.link) are.0
+      sits.inbox in
+      let named : s.intake.number ≡ place + 1 = are.1 in
+      let here : s.intake.number - 1 ≡ place = omega arith in (
+        subst (λ (k : ℕ). slice_get (wiring system).to_subscribers k ≡ Some s.intake.inbox.link) here own,
+        are.2.alone,
+        subscribers_at (place + 1) subscribers are.4 (All-tail SubscriberIsSeated s subscribers seated),
+      )
+
+-- the ends of the connector's links, where it is of the ledger's system
+pub record AreBetween {S : Type 0} (ends : Ends S) (m : Middle) : Type 0 where
+  pub same : ends.connector.system ≡ ends.ledger.system
+  pub connector : IsConnectorEnd ends.connector.work
+  pub inbox : m.inbox ≡ ends.connector.work.inbox
+  pub replies : m.replies ≡ ends.ledger.desk.connector
+  pub packets : m.packets ≡ ends.connector.work.packets
+
+module _ {S : Type 0} (wiring : ℕ → Wiring) (ends : Ends S) (seated : AreSeated wiring ends) where
+  -- the clients are wired to the ledger
+  pub wired : AreClientsOf ends.ledger.system 1 ends.clients.items → AreWiredTo ends.ledger ends.clients.items
+  wired are =
+      let system : ℕ = ends.ledger.system in
+      let clients : List ClientState = ends.clients.items in
+      let outs : List (Outgoing Reply Past) = ends.ledger.desk.clients in
+      record {
+        requests = clients_ask wiring system ends.ledger.desk.inbox.link 1 clients (sym seated.ledger.inbox) are
+            seated.clients;
+        answers = λ many.
+            joined_at (wiring system).to_clients (map (λ (c : Talk). c.answers) (talks_of clients)) outs
+            (clients_at wiring system 0 clients are seated.clients) seated.ledger.clients
+            (length-map (talks_of clients) (λ (c : Talk). c.answers)
+            ∙ length-map clients (λ (s : ClientState). s.talk) ∙ many);
+      }
+
+  -- so is the connector
+  pub polls_to : (polls : Outgoing ToLedger (Unit {0})) → ends.connector.system ≡ ends.ledger.system
+      → IsConnectorEnd ends.connector.work → polls ≡ ends.connector.work.polls → ArePollsTo ends.ledger polls
+  polls_to polls same is are = record {
+    link =
+        ap (λ (o : Outgoing ToLedger (Unit {0})). o.link) are ∙ seated.connector.polls
+        ∙ ap (λ (n : ℕ). (wiring n).to_ledger) same ∙ sym seated.ledger.inbox;
+    number = ap (λ (o : Outgoing ToLedger (Unit {0})). o.number) are ∙ is.publishing.wired.polls;
+  }
+
+  -- and the broker is joined to the connector and to the subscribers
+  pub joined : (m : Middle) → AreBetween ends m → ends.broker.system ≡ ends.ledger.system
+      → AreSubscribersOf ends.ledger.system 1 ends.subscribers.items
+      → AreJoined m ends.broker.desk ends.subscribers.items
+  joined m are its subscribers_are =
+      let system : ℕ = ends.ledger.system in
+      let subscribers : List SubscriberState = ends.subscribers.items in
+      let consumers : List Consumer = ends.broker.desk.consumers in
+      let inbox : m.inbox.link ≡ (wiring system).to_connector =
+      ap (λ (i : Incoming ToConnector (Option Past)). i.link) are.inbox ∙ seated.connector.inbox
+      ∙ ap (λ (n : ℕ). (wiring n).to_connector) are.same in
+      let broker : ends.broker.desk.inbox.link ≡ (wiring system).to_broker =
+      seated.broker.inbox ∙ ap (λ (n : ℕ). (wiring n).to_broker) its in
+      record {
+        two =
+            ap (λ (i : Incoming ToConnector (Option Past)). i.senders) are.inbox ∙ are.connector.publishing.wired.two;
+        replies =
+            ap (λ (o : Outgoing ToConnector (Option Past)). o.link) are.replies ∙ seated.ledger.connector ∙ sym inbox;
+        confirms = seated.broker.confirms ∙ ap (λ (n : ℕ). (wiring n).to_connector) its ∙ sym inbox;
+        packets =
+            ap (λ (o : Outgoing ToBroker (Unit {0})). o.link) are.packets ∙ seated.connector.packets
+            ∙ ap (λ (n : ℕ). (wiring n).to_broker) are.same ∙ sym broker;
+        acks = subscribers_acknowledge wiring system ends.broker.desk.inbox.link 1 subscribers (sym broker)
+            subscribers_are seated.subscribers;
+        inboxes = λ many.
+            joined_at (wiring system).to_subscribers (map (λ (s : Intake). s.inbox) (intakes_of subscribers))
+            (map (λ (x : Consumer). x.link) consumers)
+            (subscribers_at wiring system 0 subscribers subscribers_are seated.subscribers)
+            (map-map (λ (o : Outgoing ToSubscriber (Unit {0})). o.link) (λ (x : Consumer). x.link) consumers
+            ∙ seated.broker.subscribers ∙ ap (λ (n : ℕ). (wiring n).to_subscribers) its)
+            (length-map (intakes_of subscribers) (λ (s : Intake). s.inbox)
+            ∙ length-map subscribers (λ (s : SubscriberState). s.intake) ∙ many
+            ∙ sym (length-map consumers (λ (x : Consumer). x.link)));
+      }

@@ -1,0 +1,127 @@
+use Rattle.std.proofs.Common.{◌≡◌, ◌∙◌, ℕ, true, false, List, refl, sym, ap, arith, subst, map, inr, rules}
+use Rattle.std.proofs.lemmas.Bool.{false≢true}
+use Rattle.cdc_ends.specs.ConnectorEnds.{has_finished}
+use Rattle.cdc_ends.specs.SubscriberEnds.{Intake, SubscriberState}
+use Rattle.cdc_ledger.specs.History.{History}
+use Rattle.cdc_subscriber.specs.Kept.{Kept}
+use Rattle.cdc_run.specs.ClientMail.{HasFinishedWith as LedgerHasFinishedWith}
+use Rattle.cdc_run.specs.Reports.{AreFinished, AreSubscribed}
+use Rattle.cdc_run.specs.Seats.{broker_seat, connector_seat}
+use Rattle.cdc_run.specs.Streams.{Middle}
+use Rattle.cdc_run.specs.SubscriberMail.{AreSubscribersOf, HasFinishedWith as BrokerHasFinishedWith, intakes_of}
+use Rattle.cdc_run.proofs.Refused.{asked_more, handed_on}
+use Rattle.cdc_run.proofs.Reported.{all_subscribed, books_of, finished, left_by, streams_of}
+use Rattle.cdc_run.proofs.Seated.{AreBetween, joined, polls_to, wired}
+use Rattle.cdc_run.proofs.reports.settle.Goals as goal
+
+pub settle_books-requires-clause-polls : goal.settle_books-requires-clause-polls
+settle_books-requires-clause-polls g c =
+    let same : c.args.ends.connector.system ≡ c.args.ends.ledger.system = first_of (cc, search rules) in
+    polls_to c.requires.0 c.args.ends c.requires.1 c.in-Some.parts.polls same c.in-Some.ensures.kept
+    c.in-Some.ensures.parts.asked
+
+pub settle_books-requires-clause-wired : goal.settle_books-requires-clause-wired
+settle_books-requires-clause-wired g c = λ are. wired c.requires.0 c.args.ends c.requires.1 are
+
+pub settle_streams-requires : goal.settle_streams-requires
+settle_streams-requires g c = λ its are.
+    let ends = c.args.ends in
+    let parts = c.in-Some.parts in
+    let is = c.in-Some.ensures.parts in
+    let same : ends.connector.system ≡ ends.ledger.system = first_of (cc, search rules) in
+    let named : c.system-system.result ≡ ends.ledger.system = c.system-system.ensures in
+    let m : Middle = record {
+      inbox = parts.inbox;
+      replies = c.in_ok-books.books.connector;
+      packets = parts.packets;
+    } in
+    let between : AreBetween ends m = record {
+      same = same;
+      connector = c.in-Some.ensures.kept;
+      inbox = is.received;
+      replies = c.in_ok-books.ensures.connector;
+      packets = is.sent;
+    } in
+    joined c.requires.0 ends c.requires.1 m between (its ∙ named)
+    (subst (λ (n : ℕ). AreSubscribersOf n 1 ends.subscribers.items) named are)
+
+pub returns-clause-report : goal.returns-clause-report
+returns-clause-report g c =
+    let ends = c.args.ends in
+    let parts = c.in-Some.parts in
+    let is = c.in-Some.ensures.parts in
+    let books = c.in_ok-books.ensures in
+    let streams = c.in_ok-subscribers.ensures in
+    let same : ends.connector.system ≡ ends.ledger.system = first_of (cc, search rules) in
+    let named : c.system-system.result ≡ ends.ledger.system = c.system-system.ensures in
+    let m : Middle = record {
+      inbox = parts.inbox;
+      replies = c.in_ok-books.books.connector;
+      packets = parts.packets;
+    } in
+    let between : AreBetween ends m = record {
+      same = same;
+      connector = c.in-Some.ensures.kept;
+      inbox = is.received;
+      replies = books.connector;
+      packets = is.sent;
+    } in
+    let over : has_finished ends.connector ≡ true = sym c.in-Some.ensures.some in
+    let subscribers : List SubscriberState = ends.subscribers.items in
+    let broker : BrokerHasFinishedWith ends.ledger.system ends.broker subscribers =
+    subst (λ (n : ℕ). BrokerHasFinishedWith n ends.broker subscribers) named streams.finished in
+    record {
+      finished = finished ends books.finished over same broker;
+      replies = books.replies;
+      books = books.books;
+      subscribers = λ start.
+          let come = streams.come ends.ledger.desk ends.connector.work (left_by ends m between books.desk over start) in
+          subst (λ (h : History). AreSubscribed h (broker_seat ends.broker).bindings
+          (map (λ (s : SubscriberState). s.intake.close_after) subscribers)
+          c.in_ok-subscribers.subscribers.items) (sym books.ledger)
+          (subst (λ (kept : List Kept). AreSubscribed ends.ledger.desk.ledger (broker_seat ends.broker).bindings
+          (map (λ (s : SubscriberState). s.intake.close_after) subscribers) kept) (sym streams.keeps)
+          (all_subscribed ends.ledger.desk ends.broker.desk subscribers come
+          (broker.count ∙ sym streams.desk.desk.queues)));
+    }
+
+-- the connector is of another system
+pub returns-then-system-clause-refused : goal.returns-then-system-clause-refused
+returns-then-system-clause-refused g c =
+    inr (
+      refl,
+      λ fit.
+          let same : c.args.ends.connector.system ≡ c.args.ends.ledger.system = fit.connector_system in
+          c.if-system.true (first_of (omega (arith, same), search rules, cc)),
+    )
+
+-- it hasn't finished, or has met a fault
+pub returns-in_default-clause-refused : goal.returns-in_default-clause-refused
+returns-in_default-clause-refused g c =
+    inr (
+      refl,
+      λ fit.
+          let over : has_finished c.args.ends.connector ≡ true = fit.connector in
+          let not_over : false ≡ has_finished c.args.ends.connector = c.in_default.ensures.some in
+          false≢true (not_over ∙ over),
+    )
+
+-- the ledger's end and the clients aren't as they have to be
+pub returns-in_err-books-clause-refused : goal.returns-in_err-books-clause-refused
+returns-in_err-books-clause-refused g c =
+    let ends = c.args.ends in
+    handed_on (AreFinished ends) c.from_residual.result c.in_err-books.field-0.0 c.from_residual.ensures.1
+    (asked_more (LedgerHasFinishedWith ends.ledger ends.clients.items) (AreFinished ends) c.in_err-books.field-0.0
+    (books_of ends) c.in_err-books.ensures.refused)
+
+-- the broker's end and the subscribers aren't
+pub returns-in_err-subscribers-clause-refused : goal.returns-in_err-subscribers-clause-refused
+returns-in_err-subscribers-clause-refused g c =
+    let ends = c.args.ends in
+    let named : c.system-system.result ≡ ends.ledger.system = c.system-system.ensures in
+    handed_on (AreFinished ends) c.from_residual-in_err-subscribers.result c.in_err-subscribers.field-0.0
+    c.from_residual-in_err-subscribers.ensures.1
+    (asked_more (BrokerHasFinishedWith c.system-system.result ends.broker ends.subscribers.items) (AreFinished ends)
+    c.in_err-subscribers.field-0.0
+    (λ fit. subst (λ (n : ℕ). BrokerHasFinishedWith n ends.broker ends.subscribers.items) (sym named)
+    (streams_of ends fit)) c.in_err-subscribers.ensures.refused)

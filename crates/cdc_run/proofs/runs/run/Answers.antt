@@ -1,0 +1,59 @@
+use Rattle.std.proofs.Common.{◌≡◌, ◌∙◌, ap, sym, List, length, map}
+use Rattle.std.proofs.lemmas.List.{length-map}
+use Rattle.std.proofs.lemmas.Result.{IfOk-weaker}
+use Rattle.cdc_types.specs.declared.batches.Batch.{Batch}
+use Rattle.cdc_run.specs.Reports.{AreSubscribed, HasRun, IsReportOf}
+use Rattle.cdc_run.specs.Tasks.{places_of}
+use Rattle.cdc_run.proofs.Leaving.{are_left, in_places}
+use Rattle.cdc_run.proofs.Ran.{has_run, have_subscribed, no_client_done}
+use Rattle.cdc_run.proofs.SeatedAt.{all_seated}
+use Rattle.cdc_run.proofs.runs.run.Goals as goal
+
+-- no client has finished yet
+pub tasks_of-requires : goal.tasks_of-requires
+tasks_of-requires g c = no_client_done _ _ _ _ c.in_ok-ends.ends c.in_ok-ends.ensures.made
+
+-- what is left stands in its places
+pub ends_of-requires : goal.ends_of-requires
+ends_of-requires g c =
+    let scripts : List (List Batch) = map (λ s. s.items) c.args.scripts.items in
+    in_places g.row.S.Denot (places_of c.in_ok-ends.ends) scripts c.in_ok-tasks.tasks.items c.in_ok-left.left.items
+    c.in_ok-left.ensures.left c.in_ok-tasks.ensures
+
+-- each end sits where it was made
+pub settle-requires : goal.settle-requires
+settle-requires g c =
+    let scripts : List (List Batch) = map (λ s. s.items) c.args.scripts.items in
+    let are = are_left g.row.S.Denot (places_of c.in_ok-ends.ends) scripts c.in_ok-tasks.tasks.items
+    c.in_ok-left.left.items (places_of c.in_ok-finished.finished) c.in_ok-left.ensures.left c.in_ok-tasks.ensures
+    c.in_ok-finished.ensures in
+    let made = c.in_ok-ends.ensures.made in
+    (λ system. made.wiring, all_seated _ _ _ _ c.in_ok-ends.ends c.in_ok-finished.finished scripts made are)
+
+-- the report is that of the scripts
+pub returns-clause-report : goal.returns-clause-report
+returns-clause-report g c =
+    let scripts : List (List Batch) = map (λ s. s.items) c.args.scripts.items in
+    let are = are_left g.row.S.Denot (places_of c.in_ok-ends.ends) scripts c.in_ok-tasks.tasks.items
+    c.in_ok-left.left.items (places_of c.in_ok-finished.finished) c.in_ok-left.ensures.left c.in_ok-tasks.ensures
+    c.in_ok-finished.ensures in
+    let many : length scripts ≡ c.args.config.clients =
+    length-map c.args.scripts.items (λ s. s.items) ∙ sym c.args.scripts.ok.0 ∙ c.requires.scripts in
+    IfOk-weaker c.settle.result (IsReportOf c.in_ok-finished.finished) (HasRun scripts) (λ report reported.
+    has_run _ _ _ _ c.in_ok-ends.ends c.in_ok-ends.ensures.made c.in_ok-finished.finished scripts are report reported
+    many) c.settle.ensures.report
+
+-- its subscribers have come to what they may rely on
+pub returns-clause-subscribers : goal.returns-clause-subscribers
+returns-clause-subscribers g c =
+    let scripts : List (List Batch) = map (λ s. s.items) c.args.scripts.items in
+    let are = are_left g.row.S.Denot (places_of c.in_ok-ends.ends) scripts c.in_ok-tasks.tasks.items
+    c.in_ok-left.left.items (places_of c.in_ok-finished.finished) c.in_ok-left.ensures.left c.in_ok-tasks.ensures
+    c.in_ok-finished.ensures in
+    let made = c.in_ok-ends.ensures.made in
+    IfOk-weaker c.settle.result (IsReportOf c.in_ok-finished.finished) _ (λ report reported honest zero. (
+      made.closes,
+      made.closes_are,
+      have_subscribed _ _ _ _ c.in_ok-ends.ends made c.in_ok-finished.finished scripts are report reported honest zero,
+    ))
+    c.settle.ensures.report

@@ -1,0 +1,74 @@
+-- What is reported of a run once all its ends have finished.
+use Rattle.std.specs.Prelude.{◌≡◌, ℕ, Option, Some, List, [], ◌∷◌, length, map, true}
+use Rattle.cdc_ends.specs.BrokerTurns.{has_finished as broker_has_finished}
+use Rattle.cdc_ends.specs.ConnectorEnds.{has_finished as connector_has_finished}
+use Rattle.cdc_ends.specs.LedgerEnds.{has_finished as ledger_has_finished, order_of}
+use Rattle.cdc_ends.specs.declared.faults.RunFault.{RunFault}
+use Rattle.cdc_ledger.specs.History.{History}
+use Rattle.cdc_match.specs.declared.binding.Binding.{Binding}
+use Rattle.cdc_subscriber.specs.Heard.{Heard, kept_of}
+use Rattle.cdc_subscriber.specs.Kept.{Kept}
+use Rattle.cdc_traffic.specs.declared.requests.Reply.{Reply}
+use Rattle.cdc_types.specs.declared.batches.Batch.{Batch}
+use Rattle.cdc_run.specs.Accounts.{IsRefused}
+use Rattle.cdc_run.specs.Books.{AreBooks}
+use Rattle.cdc_run.specs.ClientMail.{AreClientsOf}
+use Rattle.cdc_run.specs.Seats.{broker_seat, connector_seat}
+use Rattle.cdc_run.specs.SubscriberMail.{AreSubscribersOf}
+use Rattle.cdc_run.specs.Subscribing.{HasCome}
+use Rattle.cdc_run.specs.declared.ends.Ends.{Ends}
+use Rattle.cdc_run.specs.declared.reports.Report.{Report}
+
+-- the replies to each client, in its order
+abbrev pub replies_of : Report → List (List Reply)
+replies_of report = map (λ v. v.items) report.replies.items
+
+-- against this ledger a subscriber has come to what it may rely on, and this is what it keeps
+pub record IsSubscribed (h : History) (binding : Binding) (close_after : Option ℕ) (subscriber : Kept) : Type 0 where
+  pub heard : Heard
+  pub come : HasCome h binding close_after heard
+  pub keeps : subscriber ≡ kept_of heard
+
+-- so has each subscriber; there is one for each binding
+abbrev pub AreSubscribed : History → List Binding → List (Option ℕ) → List Kept → Type 0
+AreSubscribed h [] [] [] = Unit {0}
+AreSubscribed h [] [] (subscriber ∷ subscribers) = ⊥
+AreSubscribed h [] (close ∷ closes) subscribers = ⊥
+AreSubscribed h (binding ∷ bindings) [] subscribers = ⊥
+AreSubscribed h (binding ∷ bindings) (close ∷ closes) [] = ⊥
+AreSubscribed h (binding ∷ bindings) (close ∷ closes) (subscriber ∷ subscribers) =
+    IsSubscribed h binding close subscriber × AreSubscribed h bindings closes subscribers
+
+-- ends of one system, all of its places, each of which has finished and has met no fault
+pub record AreFinished {S : Type 0} (ends : Ends S) : Type 0 where
+  pub ledger : ledger_has_finished ends.ledger ≡ true
+  pub clients_count : length ends.clients.items ≡ length ends.ledger.desk.clients
+  pub clients : AreClientsOf ends.ledger.system 1 ends.clients.items
+  pub connector : connector_has_finished ends.connector ≡ true
+  pub connector_system : ends.connector.system ≡ ends.ledger.system
+  pub broker : broker_has_finished ends.broker ≡ true
+  pub broker_system : ends.broker.system ≡ ends.ledger.system
+  pub subscribers_count : length ends.subscribers.items ≡ length ends.broker.desk.consumers
+  pub subscribers : AreSubscribersOf ends.ledger.system 1 ends.subscribers.items
+
+-- what ends that have finished come to. All batches, in the order in which the ledger's end has received them, give the
+-- ledger and the replies; and where the connector's store is honest and held nothing or the timestamp 0 as the run
+-- began, each subscriber has come to what it may rely on
+pub record IsReportOf {S : Type 0} (ends : Ends S) (report : Report) : Type 0 where
+  pub finished : AreFinished ends
+  pub replies : replies_of report ≡ map (λ c. c.talk.replies) ends.clients.items
+  pub books : AreBooks (order_of ends.ledger.desk.inbox.received) report.ledger (replies_of report)
+  pub subscribers : (connector_seat ends.connector).start ≡ Some 0
+      → AreSubscribed report.ledger (broker_seat ends.broker).bindings
+      (map (λ s. s.intake.close_after) ends.subscribers.items) report.subscribers.items
+
+-- nothing is reported: the ends aren't of one system that has finished, or there was no memory to put them together
+abbrev pub IsUnreported : {S : Type 0} → Ends S → RunFault → Type 0
+IsUnreported ends fault = IsRefused (AreFinished ends) fault
+
+-- what a run comes to that hands in these scripts, one for each client: one order of all their batches gives the ledger
+-- and the replies, and each client has submitted its own script, in its order
+pub record HasRun (scripts : List (List Batch)) (report : Report) : Type 0 where
+  pub order : List (ℕ × Batch)
+  pub books : AreBooks order report.ledger (replies_of report)
+  pub scripts_are : map (map (λ r. r.batch)) (replies_of report) ≡ scripts

@@ -1,0 +1,166 @@
+//! That the ends of a run work at the same time, each on a thread of its own.
+
+use cdc_match::Binding;
+use cdc_progress::MemoryStore;
+use cdc_run::{Config, Faults, Gate, Place, Report, run};
+use cdc_subscriber::Subscriber;
+use cdc_types::{Batch, Items, NewAccount, NewTransfer};
+use std::alloc::{AllocError, Global};
+use std::hint::spin_loop;
+use std::process::Abort;
+use std::sync::atomic::{AtomicU64, Ordering};
+use std::test::Fail;
+
+// The ends of a run of one client and two subscribers.
+const PLACES: u64 = 6;
+// How often a hold looks before it gives up.
+const MOST_LOOKS: u32 = 1_000_000_000;
+
+// Holds the first turn of every place until all have been asked for; then the third turn of client 1 until the second
+// one of subscriber 2 has been asked for, and the other way round. The test fails where a hold waits for too long.
+#[derive(Drop)]
+struct MeetingGate<'a, R: Abort> {
+    rt: &'a R,
+    // How many of these turns were asked for.
+    first: AtomicU64,
+    third_of_client: AtomicU64,
+    second_of_subscriber: AtomicU64,
+}
+
+impl<'a, R: Abort> MeetingGate<'a, R> {
+    fn new(rt: &'a R) -> MeetingGate<'a, R> {
+        MeetingGate {
+            rt,
+            first: AtomicU64::new(0),
+            third_of_client: AtomicU64::new(0),
+            second_of_subscriber: AtomicU64::new(0),
+        }
+    }
+
+    // How many turns were held.
+    fn held(&self) -> [u64; 3] {
+        [
+            self.first.load(Ordering::SeqCst),
+            self.third_of_client.load(Ordering::SeqCst),
+            self.second_of_subscriber.load(Ordering::SeqCst),
+        ]
+    }
+
+    // Holds a turn, which is counted, until so many others have been asked for.
+    fn hold(&self, mine: &AtomicU64, others: &AtomicU64, wanted: u64) {
+        mine.fetch_add(1, Ordering::SeqCst);
+        for _ in 0..MOST_LOOKS {
+            if others.load(Ordering::SeqCst) >= wanted {
+                return;
+            }
+            spin_loop();
+        }
+        panic!(self.rt; "a turn waits for another end, which doesn't come");
+    }
+}
+
+impl<R: Abort> Gate for MeetingGate<'_, R> {
+    fn pass(&self, place: Place, turn: u64) {
+        match (place, turn) {
+            (_, 1) => self.hold(&self.first, &self.first, PLACES),
+            (Place::Client(1), 3) => {
+                self.hold(&self.third_of_client, &self.second_of_subscriber, 1)
+            }
+            (Place::Subscriber(2), 2) => {
+                self.hold(&self.second_of_subscriber, &self.third_of_client, 1)
+            }
+            _ => {}
+        }
+    }
+}
+
+fn account(id: u128) -> NewAccount {
+    NewAccount {
+        id,
+        user_data_128: 0,
+        user_data_64: 0,
+        user_data_32: 0,
+        ledger: 700,
+        code: 10,
+        flags: 0,
+    }
+}
+
+// The batch that opens two accounts.
+fn accounts(alloc: Global) -> Result<Batch, AllocError> {
+    Ok(Batch::Accounts {
+        now: 1000,
+        items: Items::from_vec(Vec::from_slice(alloc, &[account(1), account(2)])?),
+    })
+}
+
+// The batch of one transfer from account 1 to account 2.
+fn transfer(alloc: Global, now: u64, id: u128, amount: u128) -> Result<Batch, AllocError> {
+    let transfer = NewTransfer {
+        id,
+        debit_account_id: 1,
+        credit_account_id: 2,
+        amount,
+        pending_id: 0,
+        user_data_128: 0,
+        user_data_64: 0,
+        user_data_32: 0,
+        timeout: 0,
+        ledger: 700,
+        code: 1,
+        flags: 0,
+    };
+    Ok(Batch::Transfers {
+        now,
+        items: Items::from_vec(Vec::from_slice(alloc, &[transfer])?),
+    })
+}
+
+fn script(alloc: Global) -> Result<Vec<Batch>, AllocError> {
+    let mut batches = Vec::new(alloc);
+    batches.push(accounts(alloc)?)?;
+    batches.push(transfer(alloc, 2000, 1, 5)?)?;
+    batches.push(transfer(alloc, 3000, 2, 7)?)?;
+    Ok(batches)
+}
+
+fn two_of_all(alloc: Global) -> Result<Vec<Binding>, Fail> {
+    let mut bindings = Vec::new(alloc);
+    bindings.push(Binding::parse(alloc, &["all"])?)?;
+    bindings.push(Binding::parse(alloc, &["all"])?)?;
+    Ok(bindings)
+}
+
+// How many events a subscriber has applied, and the timestamp of the last.
+fn seen(subscriber: Option<&Subscriber>) -> Option<(u64, u64)> {
+    subscriber.map(|it| (it.applied_count(), it.last()))
+}
+
+#[test]
+fn two_ends_at_once(rt: HostRuntime) -> Result<(), Fail> {
+    let config = Config {
+        system: 1,
+        bindings: two_of_all(rt.alloc())?,
+        clients: 1,
+        window: 1,
+        prefetch: 8,
+    };
+    assert!(rt; config.fits());
+    let scripts = Vec::from_array(rt.alloc(), [script(rt.alloc())?])?;
+    let gate = MeetingGate::new(&rt);
+    let faults = Faults::none(rt.alloc());
+    let report = run(
+        &rt,
+        rt.alloc(),
+        config,
+        scripts,
+        faults,
+        MemoryStore::new(),
+        &gate,
+    )
+    .expect(&rt, "a report");
+    assert_eq!(rt; gate.held(), [PLACES, 1, 1]);
+    assert_eq!(rt; seen(report.subscribers.get(0)), Some((2, 3000)));
+    assert_eq!(rt; seen(report.subscribers.get(1)), Some((2, 3000)));
+    Ok(())
+}

@@ -1,0 +1,169 @@
+#!/usr/bin/env python3
+"""Kills runs that save their progress, begins them again, and looks for what was lost.
+
+    tests/kill.py [--program PATH] [--kills N] [--seed S]
+
+A run of one client keeps its progress in a file, and is killed at a random moment, now and then several times in a row.
+What the file holds then has to be a whole record, not behind the one before it, and at an event's moment. Then the run
+is begun again and comes to its end. It makes the ledger's events anew, the same ones; of those after the saved moment
+each has to come to its subscribers, once, and no other: their lines have to be what the outside model (model.py) has
+for these events. In the end the file has to name the last event, in the next session.
+
+The last line is `kill: N passed, M failed`; exit status 1 where one failed.
+"""
+import argparse
+import pathlib
+import random
+import re
+import subprocess
+import sys
+import time
+
+import model
+import rooms
+import stress
+
+SECONDS = 30  # that a run may take
+RECORD = re.compile(rb'tb-cdc 1 (0|[1-9][0-9]*) (0|[1-9][0-9]*)\n')
+TRANSFERS = 600
+MOST_SHOWN = 3  # failures that are shown
+
+
+class Killing:
+    def __init__(self, options, folder):
+        self.program = options.program
+        self.rng = random.Random(options.seed)
+        self.folder = pathlib.Path(folder)
+        self.progress = self.folder / 'kill.progress'
+        script = stress.long_script(TRANSFERS, 50)
+        (self.folder / 'kill.script').write_text(script)
+        self.script = model.read_script(script.encode('ascii'))
+        self.ledger, self.batches = model.run_batches(self.script)
+        self.moments = [0] + [event.timestamp for event in self.ledger.events]
+        self.seconds = self.length()
+        # Kills before anything was saved, before the first event was, between events, and after the last one.
+        self.when = dict.fromkeys(['before the start', 'before an event', 'between events', 'after the last event'], 0)
+        self.ended = 0  # runs that came to their end before they were killed
+        self.passed = 0
+        self.failed = 0
+
+    def words(self):
+        return [self.program, 'run', 'kill.script', '--progress', self.progress.name]
+
+    def length(self):
+        """How long a run takes that nobody kills: the least of three."""
+        times = []
+        for _ in range(3):
+            begun = time.monotonic()
+            self.run_to_end()
+            times.append(time.monotonic() - begun)
+            self.progress.unlink(missing_ok=True)
+        return min(times)
+
+    def run_to_end(self):
+        """What a run prints; of one that hangs or fails, why."""
+        try:
+            ran = subprocess.run(self.words(), cwd=self.folder, capture_output=True, timeout=SECONDS)
+        except subprocess.TimeoutExpired:
+            return f'nothing within {SECONDS} seconds'
+        return ran.stdout.decode('ascii') if ran.returncode == 0 else f'status {ran.returncode}: {ran.stdout[-300:]}'
+
+    def kill_one(self):
+        """Starts a run and kills it after a while; whether it was still there."""
+        delay = self.rng.choice([self.rng.uniform(0, 1), self.rng.uniform(0, 1), self.rng.uniform(0, 0.1)])
+        with subprocess.Popen(
+            self.words(), cwd=self.folder, stdout=subprocess.DEVNULL, stderr=subprocess.DEVNULL
+        ) as run:
+            try:
+                run.wait(delay * self.seconds)
+            except subprocess.TimeoutExpired:
+                run.kill()
+                return run.wait() == -9
+        return False
+
+    def saved(self):
+        """The record in the file: session and moment, or None where there is no file."""
+        if not self.progress.exists():
+            return None
+        found = RECORD.fullmatch(self.progress.read_bytes())
+        return (int(found[1]), int(found[2])) if found else 'no record'
+
+    def check(self, what, wanted, found):
+        if wanted == found:
+            self.passed += 1
+            return
+        self.failed += 1
+        if self.failed <= MOST_SHOWN:
+            print(f'failed: {what}\nwanted: {stress.shortened(wanted)}\nfound: {stress.shortened(found)}', flush=True)
+
+    def check_record(self, before, after):
+        """A record is whole, goes on from the one before, and is at an event."""
+        is_good = after is None and before is None
+        if isinstance(after, tuple):
+            session, moment = before or (0, 0)
+            is_good = after[1] in self.moments and after[1] >= moment and session <= after[0] <= session + 1
+        self.check(f'what is saved after {before}', True, is_good or after)
+
+    def note(self, saved):
+        if saved is None:
+            self.when['before the start'] += 1
+        elif saved[1] == 0:
+            self.when['before an event'] += 1
+        else:
+            self.when['after the last event' if saved[1] == self.moments[-1] else 'between events'] += 1
+
+    def wanted(self, saved):
+        """What a run that goes on from a record prints and leaves."""
+        session, moment = saved or (0, 0)
+        text = model.batch_lines(self.batches)
+        for number, binding in enumerate(self.script.bindings, start=1):
+            later = [event for event in self.ledger.events if event.timestamp > moment]
+            text += model.subscriber_lines(number, model.heard([*later, model.END_MARK], binding, None))
+        return text, (session + 1, self.moments[-1])
+
+    def kill_and_go_on(self):
+        """Kills a run, one to four times in a row, and then lets it come to its end; how often it was killed."""
+        kills = 0
+        self.progress.unlink(missing_ok=True)
+        saved = None
+        for _ in range(self.rng.choice([1, 1, 2, 4])):
+            was_killed = self.kill_one()
+            before, saved = saved, self.saved()
+            self.check_record(before, saved)
+            if saved == 'no record':
+                return kills + 1
+            if was_killed:
+                kills += 1
+                self.note(saved)
+            else:
+                self.ended += 1
+        found = self.run_to_end()
+        self.check(f'a run that goes on from {saved}', self.wanted(saved), (found, self.saved()))
+        return kills
+
+    def told(self):
+        text = f'a run takes {self.seconds:.3f} s; killed ' + ', '.join(f'{name} {n}' for name, n in self.when.items())
+        text += f'; {self.ended} ended before that\nkill: {self.passed} passed, {self.failed} failed'
+        return text
+
+
+def main(words):
+    parser = argparse.ArgumentParser(description=__doc__, formatter_class=argparse.RawDescriptionHelpFormatter)
+    parser.add_argument('--program', default=str(stress.PROGRAM))
+    parser.add_argument('--kills', type=int, default=100)
+    parser.add_argument('--seed', type=int, default=1)
+    options = parser.parse_args(words)
+    options.program = str(pathlib.Path(options.program).resolve())
+    begun = time.monotonic()
+    with rooms.room('kill-') as folder:
+        killing = Killing(options, folder)
+        kills = 0
+        while kills < options.kills and killing.failed < MOST_SHOWN:
+            kills += max(killing.kill_and_go_on(), 1)
+        print(f'kill: {kills} kills, {time.monotonic() - begun:.0f} s')
+        print(killing.told())
+    return 1 if killing.failed else 0
+
+
+if __name__ == '__main__':
+    sys.exit(main(sys.argv[1:]))

@@ -1,0 +1,76 @@
+#!/usr/bin/env python3
+"""Times `run` beside `books`, on a script that is as long as one may be.
+
+    tests/speed.py [--program PATH] [--times N] [--processors N]
+
+For one subscriber and for two: the least and the middle of the wall times and of the processor times, commands in turn,
+and how many events a second come from the first line of the script to the printed book. Other work on the machine shows
+in all of them, in the least ones least; under `chrt -f 10`, which root may say, it hardly does.
+"""
+import argparse
+import os
+import pathlib
+import statistics
+import subprocess
+import sys
+import time
+
+import model
+import rooms
+import stress
+
+COMMANDS = {'books': ['books'], 'run': ['run', '--window', '1']}
+
+
+def full_script(subscribers):
+    """As many transfers between two accounts as a script has room for, a thousand a batch; and how many they are."""
+    lines = ['subscriber all'] * subscribers + stress.ACCOUNTS.splitlines()
+    size = sum(len(line) + 1 for line in lines)
+    count = 0
+    while True:
+        more = [f'transfers {2000 + 1000 * count}'] if count % 1000 == 0 else []
+        fields = f'id={count + 1} debit_account_id=1 credit_account_id=2 amount={count % 97} ledger=700 code=1'
+        more.append(f'transfer {fields}')
+        size += sum(len(line) + 1 for line in more)
+        if size > model.MOST_BYTES:
+            return '\n'.join(lines) + '\n', count
+        lines += more
+        count += 1
+
+
+def timed(words, folder, processors):
+    """Wall time and processor time of a run."""
+    begun = time.monotonic()
+    run = subprocess.Popen(words, cwd=folder, stdout=subprocess.DEVNULL, preexec_fn=stress.on_processors(processors))
+    _, status, used = os.wait4(run.pid, 0)
+    if status != 0:
+        sys.exit(f'{words}: status {status}')
+    return time.monotonic() - begun, used.ru_utime + used.ru_stime
+
+
+def main(words):
+    parser = argparse.ArgumentParser(description=__doc__, formatter_class=argparse.RawDescriptionHelpFormatter)
+    parser.add_argument('--program', default=str(stress.PROGRAM))
+    parser.add_argument('--times', type=int, default=9)
+    parser.add_argument('--processors', type=int, default=4)
+    options = parser.parse_args(words)
+    program = str(pathlib.Path(options.program).resolve())
+    with rooms.room('speed-') as folder:
+        for subscribers in (1, 2):
+            script, events = full_script(subscribers)
+            (pathlib.Path(folder) / 'full.script').write_text(script)
+            times = {command: [] for command in COMMANDS}
+            for _ in range(options.times):
+                for command, (name, *flags) in COMMANDS.items():
+                    times[command].append(timed([program, name, 'full.script', *flags], folder, options.processors))
+            for command, found in times.items():
+                wall, used = ([one[part] for one in found] for part in (0, 1))
+                print(
+                    f'{events} transfers, subscribers {subscribers}, {command}: wall {min(wall):.2f} s,'
+                    f' {statistics.median(wall):.2f} in the middle; processors {min(used):.2f} s,'
+                    f' {statistics.median(used):.2f} in the middle; {events / min(wall):,.0f} events a second'
+                )
+
+
+if __name__ == '__main__':
+    main(sys.argv[1:])
