@@ -89,6 +89,12 @@ __attribute__((destructor)) static void tell(void) {
     note("CALLS", O_TRUNC, text);
 }
 
+/* A program that may have threads ends by this, past all destructors. */
+void _exit(int status) {
+    tell();
+    for (;;) syscall(SYS_exit_group, status);
+}
+
 /* ---- memory */
 
 /* Ends the process where the plan says so. */
