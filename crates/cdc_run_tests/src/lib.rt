@@ -5,3 +5,5 @@
 mod overlap;
 #[cfg(test)]
 mod runs;
+#[cfg(test)]
+mod settle;
