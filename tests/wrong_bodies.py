@@ -6,10 +6,11 @@
 It runs at the top of the repository; with no NAME it takes each crate that has edits.
 
 `rt must-fail` checks a crate once for each edit. A caller sees contracts alone, so edits in different functions don't
-touch each other: here they are applied all at once to a copy of the crate, the copy is checked once, and for each edit
-it is read whether its own function was refused. docs/GATE.md has the rules. The crates below are proved first where
-they aren't; --proved says that `rt ci` has just proved this tree, and takes the libraries that it left. A crate itself
-is proved from nothing; with --kept over a copy of what its earlier checks kept in out/, which is quicker.
+touch each other: here they are applied all at once to a copy of the crate, the functions that they change are checked
+once, with those that these call, and for each edit it is read whether its own function was refused. Then the same
+functions are proved unedited. docs/GATE.md has the rules. The crates below are proved first where they aren't; --proved
+says that `rt ci` has just proved this tree, and takes the libraries that it left. What is checked of a crate is checked
+from nothing; with --kept over a copy of what its earlier checks kept in out/, which is quicker.
 
 The last line is 'N passed, M failed'; the status is 0 where nothing failed, and 1 else. Needs Python 3.8 or later.
 """
@@ -50,7 +51,7 @@ ONE_JOB = ["--jobs", "1"]
 # The functions of a source file, and what an edit changes of it.
 
 # A function: its full path as a check prints it, the bytes of its body with the braces, the places in the list of
-# tokens where its text begins and where its body begins and ends (none for one that the script adds), and the names that
+# tokens where its text begins and where its body begins and ends (none for one that the script adds), and the words that
 # its body has.
 Function = namedtuple("Function", "path start end tokens names")
 Token = namedtuple("Token", "start end kind text")
@@ -89,6 +90,18 @@ def name_in(words):
     return names[-1] if names else "?"
 
 
+def arguments_in(words):
+    """Returns the names of a trait's arguments, each as name_in has it, put together."""
+    depth, parts = 0, []
+    for word in words:
+        if depth == 0 and word == "<" or depth == 1 and word == ",":
+            parts.append([])
+        depth += {"<": 1, ">": -1}.get(word, 0)
+        if depth and parts and (depth, word) not in ((1, "<"), (1, ",")):
+            parts[-1].append(word)
+    return "".join(map(name_in, parts))
+
+
 def owner_of(words):
     """Returns the name under which a check prints the functions of an impl or a trait, whose head these words are."""
     if words[0] == "trait":
@@ -105,12 +118,32 @@ def owner_of(words):
         words = words[: words.index("where")]
     if "for" in words:
         at = words.index("for")
-        return name_in(words[at + 1 :]) + name_in(words[:at])
+        return name_in(words[at + 1 :]) + name_in(words[:at]) + arguments_in(words[:at])
     return name_in(words)
 
 
-def functions_of(crate_name, file, tokens):
-    """Returns the functions of a file, outermost only: what is inside a function belongs to it."""
+def homes_of(tokens):
+    """Returns the module of each type that is declared once in a crate, whose files these are."""
+    found = {}
+    for file, all in tokens.items():
+        words = [it.text for it in all if it.kind == "Code"]
+        for it, name in zip(words, words[1:]):
+            if it in ("struct", "enum", "union"):
+                found.setdefault(name, []).append(module_of(file))
+    return {name: modules[0] for name, modules in found.items() if len(modules) == 1}
+
+
+def test_modules(file, tokens):
+    """Returns the modules that a file declares for tests alone, which no check of the crate without its tests reads."""
+    words = [it.text for it in tokens if it.kind == "Code"]
+    mark = [*"#[", "cfg", "(", "test", *")]", "mod"]
+    places = [at + len(mark) for at in range(len(words)) if words[at : at + len(mark)] == mark]
+    return [[*module_of(file), words[at]] for at in places]
+
+
+def functions_of(crate_name, file, tokens, homes):
+    """Returns the functions of a file, outermost only: what is inside a function belongs to it. Those of an impl that is no
+    trait's are named by the module of their type."""
     # (clauses are antt's text; braces count in Rattle's own code alone)
     code = [(at, it) for at, it in enumerate(tokens) if it.kind == "Code"]
     scope, head, found, place = [(0, module_of(file))], [], [], 0
@@ -144,7 +177,9 @@ def functions_of(crate_name, file, tokens):
                 depth += 1
                 inner = [*scope[-1][1]]
                 if kind in ("impl", "trait"):
-                    inner.append(owner_of(words[words.index(kind) :]))
+                    owner = owner_of(words[words.index(kind) :])
+                    is_own = kind == "impl" and "for" not in words
+                    inner = [*(homes.get(owner, inner) if is_own else inner), owner]
                 elif kind == "mod":
                     inner.append(words[words.index("mod") + 1])
                 scope.append((depth, inner))
@@ -182,10 +217,17 @@ class Sources:
         self.files = [it for it in paths if it.endswith(".rt")]
         self.texts = {it: open(f"{crate.folder}/{it}", "rb").read() for it in self.files}
         self.tokens = dict(zip(self.files, tokens_of([f"{crate.folder}/{it}" for it in self.files])))
-        self.functions = {it: functions_of(crate.name, it, self.tokens[it]) for it in self.files}
+        self.homes = homes_of(self.tokens)
+        self.of_tests = [it for file in self.files for it in test_modules(file, self.tokens[file])]
+        self.functions = {it: self.functions_in(it, self.tokens[it]) for it in self.files}
         self.all = [it for file in self.files for it in self.functions[file]]
         self.file_of = {it: file for file in self.files for it in self.functions[file]}
         self.reached, self.count = {}, Counter(it.path for it in self.all)
+
+    def functions_in(self, file, tokens):
+        """Returns the functions of a file with these tokens, without those of the tests."""
+        is_test = lambda it: any(it.path.split("::")[1 : 1 + len(module)] == module for module in self.of_tests)
+        return [it for it in functions_of(self.crate.name, file, tokens, self.homes) if not is_test(it)]
 
     def change(self, texts):
         """Returns the Change that these texts are, or None where they change more than one body."""
@@ -197,7 +239,7 @@ class Sources:
             copy.write(text)
             copy.flush()
             tokens = tokens_of([copy.name])[0]
-        now, was = functions_of(self.crate.name, file, tokens), self.functions[file]
+        now, was = self.functions_in(file, tokens), self.functions[file]
         if [it.path for it in now] != [it.path for it in was]:
             return None
         if outside(tokens, now) != outside(self.tokens[file], was):
@@ -284,9 +326,11 @@ class Answer:
         self.text, self.status = ran.stdout, ran.returncode
         self.lines = ran.stdout.rstrip("\n").split("\n")
         self.is_stale = bool(rtlib.STALE.search(ran.stdout))
-        self.is_proved = ran.returncode == 0 and self.lines[-1].startswith("logic=proved ")
-        # (any other end is no answer of the prover's)
-        self.is_refused = ran.returncode == 1 and self.lines[-1].startswith("logic=not-proved")
+        # (a check of some functions gives their number in place of a verdict; any other end is no answer of the prover's)
+        end = re.match(r"logic=(proved |not-proved)|only=(\d+) proved=(\d+)$", self.lines[-1])
+        is_all = bool(end) and (end[1] == "proved " or end[2] is not None and end[2] == end[3])
+        self.is_proved = ran.returncode == 0 and is_all
+        self.is_refused = ran.returncode == 1 and bool(end) and end[1] != "proved "
         self.said, self.notes, notes = {}, {}, []
         for line in self.lines:
             found = re.match(r"(?:fn|struct|enum|impl|trait|law|const) (\S+): (.*)", line)
@@ -377,22 +421,25 @@ class Trial:
         good, bad = rt.edits_of(self.crate)
         if not good and not bad:
             return []
-        first = self.check({})
-        if first.is_stale or not first.is_proved:
-            return self.failure(f"the crate itself is not proved, so nothing was tried: {first.first_line()}")
         why = "BAD EDIT: an edit stands right in must-fail/, and ends in .edit"
         results = [Result(False, f"{os.path.relpath(it, self.crate.folder)}: {why}") for it in bad]
         edits = [it for it in map(self.read, good) if it]
-        # a function that the check doesn't name once can't be told apart
-        in_group = lambda it: it.change and first.of(it.change.function.path)[0] == PROVED
-        alone = [it for it in edits if not in_group(it)]
-        for group in self.groups([it for it in edits if in_group(it)], first):
+        alone = [it for it in edits if not it.change]
+        grouped = [it for it in edits if it.change]
+        for group in self.groups(grouped):
             results += self.try_group(*group)
+        # the prover doesn't search where a callee isn't proved, so what called an edit of its group is tried without it
+        for it in [it for it in grouped if it.name not in self.results]:
+            results += self.try_group([it], self.controls({it.change.function}))
         for it in alone:
             self.try_alone(it)
-        last = self.check({})
-        if last.is_stale or not last.is_proved:
-            return self.failure("over the kept work the crate itself is not proved, so no answer counts")
+        refused = [it.change.function for it in grouped if self.results[it.name].passed]
+        if alone or refused:
+            # an edit that is tried alone may touch anything, so beside one the whole crate has to be proved
+            last = self.check({}, [] if alone else self.only(refused))
+            if last.is_stale or not last.is_proved:
+                why = f"unedited it is not proved over the kept work, so no answer counts: {last.first_line()}"
+                return self.failure(why)
         for it in map(os.path.basename, good):
             self.results.setdefault(it, Result(False, f"wrong body {self.crate.name}/{it}: it was not tried"))
         return results + [self.results[it] for it in sorted(self.results)]
@@ -412,7 +459,12 @@ class Trial:
             return None
         return edit
 
-    def groups(self, edits, first):
+    def only(self, functions):
+        """Returns the words that make a check look at these functions and at what they call, and at nothing else."""
+        paths = sorted({it.path.partition("::")[2] for it in functions})
+        return [word for it in paths for word in ("--only", it)]
+
+    def groups(self, edits):
         """Parts the edits into groups, each with one edit of a function at the most. With each group come two changes more,
         one that does no harm and one that has to be refused."""
         while edits:
@@ -420,22 +472,24 @@ class Trial:
             for it in edits:
                 (left if it.change.function in taken else group).append(it)
                 taken.add(it.change.function)
-            yield group, self.controls(taken, first)
+            yield group, self.controls(taken)
             edits = left
 
-    def controls(self, taken, first):
-        """Returns the harmless change, in a function that calls none of those taken, and the false one, in another; where
-        the crate has no such functions left, they are two functions more."""
+    def controls(self, taken):
+        """Returns the harmless change, in a function that calls none of those taken, and the false one, in another, which
+        none of them calls; where the crate has no such functions left, they are two functions more."""
+        reached = set().union(*map(self.sources.reached_from, taken))
         free = [
             it
             for it in self.sources.all
             if it not in taken
             and self.sources.stands_for_itself(it)
-            and first.own(it.path) == [it.path]
-            and first.of(it.path)[0] == PROVED
+            and not it.names & {"|", "||", "fn"}
             and not any(os.path.isdir(f"{self.crate.folder}/{folder}") for folder in proof_folders(it.path))
         ]
-        for control in free:
+        # (what they call is checked too, so those that call little come first)
+        free.sort(key=lambda it: (len(self.sources.reached_from(it)), it.end - it.start))
+        for control in (it for it in free if it not in reached):
             for harmless in free:
                 if harmless != control and not self.sources.reached_from(harmless) & {control, *taken}:
                     pairs = (harmless, HARMLESS), (control, CONTROL)
@@ -448,12 +502,13 @@ class Trial:
         harmless, control = (it.function for it in own)
         group = [*group]
         while True:
-            texts, lines = self.sources.with_changes([it.change for it in group] + own)
-            answer = self.check(texts)
+            changes = [it.change for it in group] + own
+            texts, lines = self.sources.with_changes(changes)
+            answer = self.check(texts, self.only(it.function for it in changes))
             unread = answer.unread(texts)
             if answer.is_refused and not unread and not answer.is_stale:
                 break
-            bad = set() if answer.is_stale else self.unreadable(group, unread)
+            bad = set() if answer.is_stale else self.unknown(group, answer) or self.unreadable(group, unread)
             if not bad:
                 why = (unread or [answer.first_line()])[0][:200]
                 why = "the kept work of a library could not be used" if answer.is_stale else why
@@ -467,8 +522,17 @@ class Trial:
         if answer.of(control.path, lines[control])[0] != REFUSED:
             results += self.failure(f"a false edit of {control.path} was let through, so its group counts for nothing")
         for it in group:
-            self.tell(it, answer, lines[it.change.function])
+            self.tell(it, answer, lines[it.change.function], is_alone=len(group) == 1)
         return results
+
+    def unknown(self, group, answer):
+        """Finds the edits of a function of whose name a check knows nothing, says so, and returns their names."""
+        found = re.search(r"has no function `([^`]*)`", answer.text)
+        bad = {it.name for it in group if found and it.change.function.path == f"{self.crate.name}::{found[1]}"}
+        for it in group:
+            if it.name in bad:
+                self.put(it, False, f"CANNOT BE TOLD: a check has no function {found[1]}, as the script names it")
+        return bad
 
     def unreadable(self, group, unread):
         """Finds the edits of a group that don't compile or can't be read, says so, and returns their names."""
@@ -485,8 +549,8 @@ class Trial:
                 self.put(it, False, f"BAD EDIT: {why}: {bad[it.name][:200]}")
         return {*bad}
 
-    def tell(self, edit, answer, lines):
-        """Says how an edit of a group came out."""
+    def tell(self, edit, answer, lines, is_alone):
+        """Says how an edit of a group came out; not of one of several of which nothing is refused but what it calls."""
         path = edit.change.function.path
         how, why = answer.of(path, lines)
         if how == REFUSED:
@@ -496,9 +560,9 @@ class Trial:
             self.put(edit, True, f"refused ({little}: change a value and keep the names): {why[:160]}")
         elif how == PROVED:
             self.put(edit, False, f"NOT REFUSED: {path} is proved with this edit")
-        elif how == CALLS:
+        elif how == CALLS and is_alone:
             self.put(edit, False, f"NOT REFUSED: of {path} nothing is refused but what it calls")
-        else:
+        elif how != CALLS:
             self.put(edit, False, f"CANNOT BE TOLD: {path}: {why[:160]}")
 
     def try_alone(self, edit):

@@ -1,15 +1,17 @@
 //! That the ends of a run work at the same time, each on a thread of its own.
 
+ghost use Rattle.std.specs.Prelude.{◌≡◌, vec_len};
+ghost use Rattle.cdc_run.specs.Configs.{Fits};
+
 use cdc_match::Binding;
 use cdc_progress::MemoryStore;
 use cdc_run::{Config, Faults, Gate, Place, Report, run};
 use cdc_subscriber::Subscriber;
 use cdc_types::{Batch, Items, NewAccount, NewTransfer};
-use std::alloc::{AllocError, Global};
+use std::alloc::Global;
 use std::hint::spin_loop;
 use std::process::Abort;
 use std::sync::atomic::{AtomicU64, Ordering};
-use std::test::Fail;
 
 // The ends of a run of one client and two subscribers.
 const PLACES: u64 = 6;
@@ -87,15 +89,16 @@ fn account(id: u128) -> NewAccount {
 }
 
 // The batch that opens two accounts.
-fn accounts(alloc: Global) -> Result<Batch, AllocError> {
-    Ok(Batch::Accounts {
+fn accounts(rt: &impl Abort, alloc: Global) -> Batch {
+    let accounts = Vec::from_slice(alloc, &[account(1), account(2)]).expect(rt, "memory");
+    Batch::Accounts {
         now: 1000,
-        items: Items::from_vec(Vec::from_slice(alloc, &[account(1), account(2)])?),
-    })
+        items: Items::from_vec(accounts),
+    }
 }
 
 // The batch of one transfer from account 1 to account 2.
-fn transfer(alloc: Global, now: u64, id: u128, amount: u128) -> Result<Batch, AllocError> {
+fn transfer(rt: &impl Abort, alloc: Global, now: u64, id: u128, amount: u128) -> Batch {
     let transfer = NewTransfer {
         id,
         debit_account_id: 1,
@@ -110,25 +113,57 @@ fn transfer(alloc: Global, now: u64, id: u128, amount: u128) -> Result<Batch, Al
         code: 1,
         flags: 0,
     };
-    Ok(Batch::Transfers {
+    let transfers = Vec::from_slice(alloc, &[transfer]).expect(rt, "memory");
+    Batch::Transfers {
         now,
-        items: Items::from_vec(Vec::from_slice(alloc, &[transfer])?),
-    })
+        items: Items::from_vec(transfers),
+    }
 }
 
-fn script(alloc: Global) -> Result<Vec<Batch>, AllocError> {
-    let mut batches = Vec::new(alloc);
-    batches.push(accounts(alloc)?)?;
-    batches.push(transfer(alloc, 2000, 1, 5)?)?;
-    batches.push(transfer(alloc, 3000, 2, 7)?)?;
-    Ok(batches)
+// The script of the one client.
+fn scripts(rt: &impl Abort, alloc: Global) -> Vec<Vec<Batch>>
+    ensures { vec_len result ≡ 1 }
+{
+    let mut script = Vec::new(alloc);
+    script.push(accounts(rt, alloc)).expect(rt, "memory");
+    script
+        .push(transfer(rt, alloc, 2000, 1, 5))
+        .expect(rt, "memory");
+    script
+        .push(transfer(rt, alloc, 3000, 2, 7))
+        .expect(rt, "memory");
+    let mut scripts = Vec::new(alloc);
+    scripts.push(script).expect(rt, "memory");
+    scripts
 }
 
-fn two_of_all(alloc: Global) -> Result<Vec<Binding>, Fail> {
+// A binding to all events.
+fn all_events(rt: &impl Abort, alloc: Global) -> Binding {
+    Binding::parse(alloc, &["all"]).expect(rt, "a binding")
+}
+
+// The bindings of two subscribers, to all events.
+fn two_of_all(rt: &impl Abort, alloc: Global) -> Vec<Binding>
+    ensures { vec_len result ≡ 2 }
+{
     let mut bindings = Vec::new(alloc);
-    bindings.push(Binding::parse(alloc, &["all"])?)?;
-    bindings.push(Binding::parse(alloc, &["all"])?)?;
-    Ok(bindings)
+    bindings.push(all_events(rt, alloc)).expect(rt, "memory");
+    bindings.push(all_events(rt, alloc)).expect(rt, "memory");
+    bindings
+}
+
+// A run of one client and two subscribers.
+fn config_of(rt: &impl Abort, alloc: Global) -> Config
+    ensures fits { Fits result }
+    ensures clients { result.clients ≡ 1 }
+{
+    Config {
+        system: 1,
+        bindings: two_of_all(rt, alloc),
+        clients: 1,
+        window: 1,
+        prefetch: 8,
+    }
 }
 
 // How many events a subscriber has applied, and the timestamp of the last.
@@ -136,31 +171,22 @@ fn seen(subscriber: Option<&Subscriber>) -> Option<(u64, u64)> {
     subscriber.map(|it| (it.applied_count(), it.last()))
 }
 
+// Whether both subscribers have applied both events.
+fn all_seen(report: &Report) -> bool {
+    let subscribers = &report.subscribers;
+    seen(subscribers.get(0)) == Some((2, 3000)) && seen(subscribers.get(1)) == Some((2, 3000))
+}
+
 #[test]
-fn two_ends_at_once(rt: HostRuntime) -> Result<(), Fail> {
-    let config = Config {
-        system: 1,
-        bindings: two_of_all(rt.alloc())?,
-        clients: 1,
-        window: 1,
-        prefetch: 8,
-    };
-    assert!(rt; config.fits());
-    let scripts = Vec::from_array(rt.alloc(), [script(rt.alloc())?])?;
+fn two_ends_at_once(rt: HostRuntime) {
+    let config = config_of(&rt, rt.alloc());
+    let scripts = scripts(&rt, rt.alloc());
     let gate = MeetingGate::new(&rt);
     let faults = Faults::none(rt.alloc());
-    let report = run(
-        &rt,
-        rt.alloc(),
-        config,
-        scripts,
-        faults,
-        MemoryStore::new(),
-        &gate,
-    )
-    .expect(&rt, "a report");
+    let store = MemoryStore::new();
+    let report = run(&rt, rt.alloc(), config, scripts, faults, store, &gate).expect(
+        &rt, "a report",
+    );
     assert_eq!(rt; gate.held(), [PLACES, 1, 1]);
-    assert_eq!(rt; seen(report.subscribers.get(0)), Some((2, 3000)));
-    assert_eq!(rt; seen(report.subscribers.get(1)), Some((2, 3000)));
-    Ok(())
+    assert!(rt; all_seen(&report));
 }

@@ -2,13 +2,12 @@
 
 use cdc_match::Binding;
 use cdc_run::{Config, Faults, Gate, OpenGate, Place, part_share};
-use std::test::Fail;
 
 #[test]
-fn a_run_of_one_client_and_one_subscriber_fits(rt: HostRuntime) -> Result<(), Fail> {
+fn a_run_of_one_client_and_one_subscriber_fits(rt: HostRuntime) {
     let all = Binding::parse(rt.alloc(), &["all"]).expect(&rt, "a binding");
     let mut bindings = Vec::new(rt.alloc());
-    bindings.push(all)?;
+    bindings.push(all).expect(&rt, "memory");
     let config = Config {
         system: 1,
         bindings,
@@ -17,29 +16,26 @@ fn a_run_of_one_client_and_one_subscriber_fits(rt: HostRuntime) -> Result<(), Fa
         prefetch: 8,
     };
     assert!(rt; config.fits());
-    Ok(())
 }
 
 #[test]
-fn a_subscriber_closes_after_the_least_number_that_is_given(rt: HostRuntime) -> Result<(), Fail> {
+fn a_subscriber_closes_after_the_least_number_that_is_given(rt: HostRuntime) {
     let mut faults = Faults::none(rt.alloc());
     for entry in [(1, 0), (1, 3), (2, 1), (1, 2)] {
-        faults.close.push(entry)?;
+        faults.close.push(entry).expect(&rt, "memory");
     }
     assert_eq!(rt; faults.close_after(1), Some(2));
     assert_eq!(rt; faults.close_after(3), None);
     OpenGate.pass(Place::Subscriber(1), 1);
-    Ok(())
 }
 
 #[test]
-fn a_client_has_its_own_in_order(rt: HostRuntime) -> Result<(), Fail> {
+fn a_client_has_its_own_in_order(rt: HostRuntime) {
     let mut entries: Vec<(u64, u64)> = Vec::new(rt.alloc());
     for entry in [(1, 10), (2, 20), (1, 30)] {
-        entries.push(entry)?;
+        entries.push(entry).expect(&rt, "memory");
     }
-    let share = part_share(rt.alloc(), 1, entries)?;
+    let share = part_share(rt.alloc(), 1, entries).expect(&rt, "memory");
     assert_eq!(rt; share.own.get(1).copied(), Some(30));
     assert_eq!(rt; share.others.len(), 1);
-    Ok(())
 }

@@ -1,12 +1,15 @@
 //! That links carry messages between threads: what no clause says. Each test ends by itself, on every schedule.
+//!
+//! A function that holds an end of a link is proved to let go of it at each of its own ends, and a `?` is one; so where
+//! one is held, what fails stops the test.
 
 ghost use Rattle.std.specs.Prelude.{◌≡◌, ◌<◌, ◌≤◌, ◌+◌, length};
 
+use crate::names::Nothing;
 use cdc_links::{Handed, LinkFault, LinkIn, LinkOut, Message, Naming, Tally, link, settle};
 use std::alloc::Global;
 use std::process::Abort;
 use std::sync::Wait;
-use std::test::Fail;
 use std::thread;
 use std::thread::Threads;
 use std::time::Duration;
@@ -38,13 +41,6 @@ impl Message for Letter {
     type Name = u64;
 
     ghost may_follow = { λ j before letter. letter.1 < 10 };
-}
-
-// The name of a message that names nothing.
-struct Nothing;
-
-impl Naming<()> for Nothing {
-    ghost name = { tt };
 }
 
 // The name of a letter.
@@ -86,51 +82,44 @@ fn receive_notes<R: Wait + Abort>(rt: &R, mut into: LinkIn<Note>, count: u64) ->
 }
 
 // What a link of one sender comes to, over which so many notes are sent and so many of them received.
-fn one_sender<R: Wait + Abort>(
-    rt: &R,
-    alloc: Global,
-    sent: u64,
-    received: u64,
-) -> Result<Tally, LinkFault> {
-    let (mut outs, into) = link::<Note>(alloc, 4, 1)?;
+fn one_sender<R: Wait + Abort>(rt: &R, alloc: Global, sent: u64, received: u64) -> Tally {
+    let (mut outs, into) = link::<Note>(alloc, 4, 1).expect(rt, "memory");
+    let mut all = Vec::with_capacity(alloc, 1).expect(rt, "memory");
     let out = outs.pop().expect(rt, "one sender");
     let handed = send_notes(rt, out, 0, sent);
     let into = receive_notes(rt, into, received);
-    let mut all = Vec::with_capacity(alloc, 1)?;
     all.push_reserved(handed);
-    Ok(settle(into, all))
+    settle(into, all)
 }
 
 #[test]
-fn what_is_sent_is_received_or_left(rt: HostRuntime) -> Result<(), Fail> {
+fn what_is_sent_is_received_or_left(rt: HostRuntime) {
     for (sent, received) in [(2, 2), (3, 1), (4, 0), (0, 0)] {
-        let tally = one_sender(&rt, rt.alloc(), sent, received)?;
+        let tally = one_sender(&rt, rt.alloc(), sent, received);
         assert_eq!(rt; tally, Tally { sent, received });
     }
-    Ok(())
 }
 
 #[test]
-fn a_letter_comes_back_where_the_receiver_is_gone(rt: HostRuntime) -> Result<(), Fail> {
-    let (mut outs, into) = link::<Letter>(rt.alloc(), 2, 1)?;
+fn a_letter_comes_back_where_the_receiver_is_gone(rt: HostRuntime) {
+    let (mut outs, into) = link::<Letter>(rt.alloc(), 2, 1).expect(&rt, "memory");
     let mut out = outs.pop().expect(&rt, "one sender");
-    let text = String::from_str(rt.alloc(), "kept")?;
+    let text = String::from_str(rt.alloc(), "kept").expect(&rt, "memory");
     assert!(rt; out.send::<Seven, HostRuntime>(&rt, Letter { text }).is_ok());
     drop(into);
-    let text = String::from_str(rt.alloc(), "refused")?;
+    let text = String::from_str(rt.alloc(), "refused").expect(&rt, "memory");
     match out.send::<Seven, HostRuntime>(&rt, Letter { text }) {
         Ok(()) => assert!(rt; false, "it was sent"),
         Err(refused) => assert_eq!(rt; refused.value.text.as_str(), "refused"),
     }
     assert_eq!(rt; out.sent_count(), 1);
-    Ok(())
 }
 
 #[test]
-fn a_receive_answers_that_the_senders_are_gone(rt: HostRuntime) -> Result<(), Fail> {
-    let (mut outs, mut into) = link::<Letter>(rt.alloc(), 2, 2)?;
+fn a_receive_answers_that_the_senders_are_gone(rt: HostRuntime) {
+    let (mut outs, mut into) = link::<Letter>(rt.alloc(), 2, 2).expect(&rt, "memory");
     let mut out = outs.pop().expect(&rt, "two senders");
-    let text = String::from_str(rt.alloc(), "last")?;
+    let text = String::from_str(rt.alloc(), "last").expect(&rt, "memory");
     assert!(rt; out.send::<Seven, HostRuntime>(&rt, Letter { text }).is_ok());
     drop(out);
     drop(outs);
@@ -145,7 +134,6 @@ fn a_receive_answers_that_the_senders_are_gone(rt: HostRuntime) -> Result<(), Fa
         }
     }
     assert_eq!(rt; into.received_count(), 1);
-    Ok(())
 }
 
 // Two senders in threads of their own, and the receiver in a third: what a link of so many places comes to.
@@ -154,13 +142,13 @@ fn two_senders<R: Threads + Wait + Abort + Sync>(
     alloc: Global,
     capacity: usize,
     count: u64,
-) -> Result<Tally, LinkFault>
+) -> Tally
     requires { 0 < capacity }
 {
-    let (mut outs, into) = link::<Note>(alloc, capacity, 2)?;
+    let (mut outs, into) = link::<Note>(alloc, capacity, 2).expect(rt, "memory");
+    let mut all = Vec::with_capacity(alloc, 2).expect(rt, "memory");
     let second = outs.pop().expect(rt, "two senders");
     let first = outs.pop().expect(rt, "two senders");
-    let mut all = Vec::with_capacity(alloc, 2)?;
     let (first, (second, into)) = thread::join(
         rt,
         move ||
@@ -175,7 +163,7 @@ fn two_senders<R: Threads + Wait + Abort + Sync>(
     );
     all.push_reserved(first);
     all.push_reserved(second);
-    Ok(settle(into, all))
+    settle(into, all)
 }
 
 // The second sender in a thread of its own beside the receiver, which takes the notes of both.
@@ -202,10 +190,10 @@ fn beside<R: Threads + Wait + Abort + Sync>(
 }
 
 #[test]
-fn two_senders_take_turns_over_few_places(rt: HostRuntime) -> Result<(), Fail> {
+fn two_senders_take_turns_over_few_places(rt: HostRuntime) {
     for capacity in [1usize, 3] {
         assert!(rt; capacity > 0);
-        let tally = two_senders(&rt, rt.alloc(), capacity, 50)?;
+        let tally = two_senders(&rt, rt.alloc(), capacity, 50);
         assert_eq!(rt;
             tally,
             Tally {
@@ -214,12 +202,11 @@ fn two_senders_take_turns_over_few_places(rt: HostRuntime) -> Result<(), Fail> {
             }
         );
     }
-    Ok(())
 }
 
 #[test]
-fn a_receive_waits_for_a_late_send(rt: HostRuntime) -> Result<(), Fail> {
-    let (mut outs, into) = link::<Note>(rt.alloc(), 1, 1)?;
+fn a_receive_waits_for_a_late_send(rt: HostRuntime) {
+    let (mut outs, into) = link::<Note>(rt.alloc(), 1, 1).expect(&rt, "memory");
     let out = outs.pop().expect(&rt, "one sender");
     let (handed, into) = thread::join(
         &rt,
@@ -233,12 +220,11 @@ fn a_receive_waits_for_a_late_send(rt: HostRuntime) -> Result<(), Fail> {
     );
     assert_eq!(rt; into.received_count(), 1);
     drop(handed);
-    Ok(())
 }
 
 #[test]
-fn ten_thousand_notes_of_three_senders(rt: HostRuntime) -> Result<(), Fail> {
-    let (mut outs, into) = link::<Note>(rt.alloc(), 16, 3)?;
+fn ten_thousand_notes_of_three_senders(rt: HostRuntime) {
+    let (mut outs, into) = link::<Note>(rt.alloc(), 16, 3).expect(&rt, "memory");
     let third = outs.pop().expect(&rt, "three senders");
     let second = outs.pop().expect(&rt, "three senders");
     let first = outs.pop().expect(&rt, "three senders");
@@ -248,16 +234,14 @@ fn ten_thousand_notes_of_three_senders(rt: HostRuntime) -> Result<(), Fail> {
     assert!(rt; one.is_ok() && two.is_ok() && three.is_ok());
     let into = receive_notes(&rt, into, 10_001);
     assert_eq!(rt; into.received_count(), 10_000);
-    Ok(())
 }
 
 #[test]
-fn a_fault_has_a_number_and_a_name(rt: HostRuntime) -> Result<(), Fail> {
+fn a_fault_has_a_number_and_a_name(rt: HostRuntime) {
     let (gone, memory) = (LinkFault::PeerGone, LinkFault::OutOfMemory);
     assert_eq!(rt; (gone.number(), memory.number()), (1, 2));
     assert_eq!(rt;
         (gone.name(), memory.name()),
         ("peer_gone", "out_of_memory")
     );
-    Ok(())
 }

@@ -1,0 +1,66 @@
+//! That an end whose peer is gone says so, and says the same from then on.
+
+use cdc_ends::{ConnectorEnd, RunFault, Turn};
+use cdc_links::{LinkIn, link};
+use cdc_message::Packet;
+use cdc_progress::MemoryStore;
+use cdc_traffic::{ToBroker, ToConnector, ToLedger};
+use std::alloc::Global;
+use std::process::Abort;
+use std::sync::Wait;
+
+// The next turns of an end have these answers.
+fn turn_so<R: Wait + Abort>(
+    rt: &R,
+    alloc: Global,
+    end: &mut ConnectorEnd<MemoryStore>,
+    answers: &[Result<Turn, RunFault>],
+) {
+    for answer in answers {
+        assert_eq!(rt; end.turn(rt, alloc), *answer);
+    }
+}
+
+#[test]
+fn a_connector_without_a_broker(rt: HostRuntime) {
+    let plan = Vec::new(rt.alloc());
+    let (mut asking, _ledger) = link::<ToLedger>(rt.alloc(), 4, 1).expect(&rt, "memory");
+    let (mut sending, broker) = link::<ToBroker>(rt.alloc(), 4, 1).expect(&rt, "memory");
+    let (_answers, inbox) = link::<ToConnector>(rt.alloc(), 5, 2).expect(&rt, "memory");
+    let polls = asking.pop().expect(&rt, "one sender");
+    let packets = sending.pop().expect(&rt, "one sender");
+    drop(broker);
+    let mut connector = ConnectorEnd::new(1, inbox, polls, packets, MemoryStore::new(), 1, plan);
+    let gone = Err(RunFault::PeerGone);
+    turn_so(&rt, rt.alloc(), &mut connector, &[gone, gone]);
+}
+
+// Whether the ledger's next message is the first poll.
+fn is_polled<R: Wait>(rt: &R, ledger: &mut LinkIn<ToLedger>) -> bool {
+    match ledger.receive(rt) {
+        Ok(ToLedger::Poll(poll)) => poll.session == 1 && poll.number == 1,
+        _ => false,
+    }
+}
+
+// Whether the broker's next message is that the first session connects.
+fn is_connected<R: Wait>(rt: &R, broker: &mut LinkIn<ToBroker>) -> bool {
+    matches!(
+        broker.receive(rt),
+        Ok(ToBroker::Packet(Packet::Connect { session: 1 }))
+    )
+}
+
+#[test]
+fn a_connector_begins(rt: HostRuntime) {
+    let plan = Vec::new(rt.alloc());
+    let (mut asking, mut ledger) = link::<ToLedger>(rt.alloc(), 4, 1).expect(&rt, "memory");
+    let (mut sending, mut broker) = link::<ToBroker>(rt.alloc(), 4, 1).expect(&rt, "memory");
+    let (_answers, inbox) = link::<ToConnector>(rt.alloc(), 5, 2).expect(&rt, "memory");
+    let polls = asking.pop().expect(&rt, "one sender");
+    let packets = sending.pop().expect(&rt, "one sender");
+    let mut connector = ConnectorEnd::new(1, inbox, polls, packets, MemoryStore::new(), 1, plan);
+    turn_so(&rt, rt.alloc(), &mut connector, &[Ok(Turn::More)]);
+    assert!(rt; is_polled(&rt, &mut ledger));
+    assert!(rt; is_connected(&rt, &mut broker));
+}

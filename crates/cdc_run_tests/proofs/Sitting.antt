@@ -1,0 +1,199 @@
+-- Where the ends of a system sit, from where they were made, and to where they are settled.
+use Rattle.std.proofs.Common.{◌≡◌, ◌==◌, ℕ, ◌+◌, ◌-◌, ◌<◌, List, [], ◌∷◌, ◌++◌, refl, sym, ap, ◌∙◌, subst, arith, cond, length, map}
+use Rattle.std.specs.Prelude.{All, Bool, IfOk, Ok, Option, Result, Some, slice_get}
+use Rattle.std.proofs.Math.ListN.{get_or-map}
+use Rattle.std.proofs.lemmas.List.{append_assoc, length_push, length-map}
+use Rattle.std.proofs.lemmas.List.Elements.{All-cons, All-nil, All-weaker}
+use Rattle.std.proofs.lemmas.Result.{IfOk-at_ok}
+use Rattle.cdc_ends.specs.BrokerEnds.{BrokerEndState}
+use Rattle.cdc_ends.specs.BrokerTurns.{first_consumer}
+use Rattle.cdc_ends.specs.LedgerEnds.{links_of}
+use Rattle.cdc_ends.specs.declared.faults.RunFault.{RunFault}
+use Rattle.cdc_links.specs.Links.{LinkId, fresh_end}
+use Rattle.cdc_progress.specs.Records.{Saved}
+use Rattle.cdc_run.specs.Made.{AreMade, made_clients, made_subscribers}
+use Rattle.cdc_run.specs.Seats.{BrokerSeat, ClientSeat, ConnectorSeat, LedgerSeat, SubscriberSeat, broker_seat, client_seat, connector_seat, ledger_seat, subscriber_seat}
+use Rattle.cdc_run.specs.Wirings.{AreSeated, BrokerSits, ClientSits, ConnectorSits, LedgerSits, SubscriberSits, Wiring}
+use Rattle.cdc_run.specs.declared.configs.Config.{Config}
+use Rattle.cdc_run.specs.declared.ends.Ends.{Ends}
+use Rattle.cdc_run.specs.declared.plans.Faults.{Faults}
+use Rattle.cdc_run_tests.specs.Systems.{AreOfSystem, MayBeSettled, RunSeats, seats_of}
+use Rattle.cdc_traffic.specs.declared.messages.ToSubscriber.{ToSubscriber}
+use Rattle.cdc_traffic.specs.declared.requests.Reply.{Reply}
+
+-- ---- made
+
+-- the next after so many
+slice_at : {A : Type 0} (before : List A) (x : A) (rest : List A) → slice_get (before ++ x ∷ rest) (length before) ≡ Some x
+slice_at [] x rest = refl
+slice_at (first ∷ before) x rest = slice_at before x rest
+
+-- it stands at the place of its number, which counts from 1
+at_place : {A : Type 0} (before : List A) (x : A) (rest all : List A) (number : ℕ) → before ++ x ∷ rest ≡ all
+    → number ≡ length before + 1 → slice_get all (number - 1) ≡ Some x
+at_place before x rest all number split count =
+    let same : length before ≡ number - 1 = omega arith in
+    subst (λ l. slice_get l (number - 1) ≡ Some x) split
+    (subst (λ (k : ℕ). slice_get (before ++ x ∷ rest) k ≡ Some x) same (slice_at before x rest))
+
+-- over which links new ends send
+links_made : (links : List (LinkId Reply)) → links_of (map (λ link. fresh_end link 0) links) ≡ links
+links_made [] = refl
+links_made (link ∷ links) = ap (λ (l : List (LinkId Reply)). link ∷ l) (links_made links)
+
+consumers_made : (links : List (LinkId ToSubscriber))
+    → map (λ c. c.link.link) (map first_consumer (map (λ link. fresh_end link 0) links)) ≡ links
+consumers_made [] = refl
+consumers_made (link ∷ links) = ap (λ (l : List (LinkId ToSubscriber)). link ∷ l) (consumers_made links)
+
+module _ (system : ℕ) (w : Wiring) where
+  -- a client's, and a subscriber's
+  abbrev IsClient : ClientSeat → Type 0
+  IsClient c = (c.system ≡ system) × ClientSits w c
+
+  abbrev IsSubscriber : SubscriberSeat → Type 0
+  IsSubscriber s = (s.system ≡ system) × SubscriberSits w s
+
+  -- each client, behind those of some links
+  clients_made : (before links : List (LinkId Reply)) (number : ℕ) → before ++ links ≡ w.to_clients
+      → number ≡ length before + 1 → All IsClient (map client_seat (made_clients system w.to_ledger number links))
+  clients_made before [] number split count = All-nil IsClient
+  clients_made before (link ∷ links) number split count =
+      let long = length_push before link in
+      let next : number + 1 ≡ length (before ++ link ∷ []) + 1 = omega arith in
+      All-cons IsClient
+      (record { system = system; number = number; requests = w.to_ledger; answers = link })
+      (map client_seat (made_clients system w.to_ledger (number + 1) links))
+      (refl, record { requests = refl; answers = at_place before link links w.to_clients number split count })
+      (clients_made (before ++ link ∷ []) links (number + 1) (append_assoc before (link ∷ []) links ∙ split) next)
+
+  -- each subscriber, behind those of some links
+  subscribers_made : (before links : List (LinkId ToSubscriber)) (number : ℕ) (closes : List (Option ℕ))
+      → before ++ links ≡ w.to_subscribers → number ≡ length before + 1
+      → All IsSubscriber (map subscriber_seat (made_subscribers system w.to_broker number links closes))
+  subscribers_made before [] number closes split count = All-nil IsSubscriber
+  subscribers_made before (link ∷ links) number [] split count = All-nil IsSubscriber
+  subscribers_made before (link ∷ links) number (close ∷ closes) split count =
+      let long = length_push before link in
+      let next : number + 1 ≡ length (before ++ link ∷ []) + 1 = omega arith in
+      All-cons IsSubscriber
+      (record { system = system; number = number; inbox = link; acks = w.to_broker; close_after = close })
+      (map subscriber_seat (made_subscribers system w.to_broker (number + 1) links closes))
+      (refl, record { acks = refl; inbox = at_place before link links w.to_subscribers number split count })
+      (subscribers_made (before ++ link ∷ []) links (number + 1) closes
+      (append_assoc before (link ∷ []) links ∙ split) next)
+
+-- all ends, as they were made
+pub system_made : {S : Type 0} (config : Config) (faults : Faults) (held : Option Saved) (honest : Bool) (ends : Ends S)
+    → AreMade config faults held honest ends → AreOfSystem config.system (seats_of ends)
+system_made config faults held honest ends made =
+    let w : Wiring = made.wiring in
+    let system : ℕ = config.system in
+    record {
+      wiring = w;
+      ledger = subst (LedgerSits w) (sym (ap ledger_seat made.ledger))
+          (record { inbox = refl; clients = links_made w.to_clients; connector = refl });
+      ledger_system = ap (λ e. e.system) made.ledger;
+      clients = subst (λ l. All (IsClient system w) (map client_seat l)) (sym made.clients)
+          (clients_made system w [] w.to_clients 1 refl refl);
+      connector = subst (ConnectorSits w) (sym (ap connector_seat made.connector))
+          (record { inbox = refl; polls = refl; packets = refl });
+      connector_system = ap (λ e. e.system) made.connector;
+      broker = subst (BrokerSits w) (sym (ap broker_seat made.broker))
+          (record { inbox = refl; confirms = refl; subscribers = consumers_made w.to_subscribers });
+      broker_system = ap (λ e. e.system) made.broker;
+      subscribers = subst (λ l. All (IsSubscriber system w) (map subscriber_seat l)) (sym made.subscribers)
+          (subscribers_made system w [] w.to_subscribers 1 made.closes refl refl);
+    }
+
+-- the ends that a call has made
+pub wired_up : {S : Type 0} (config : Config) (faults : Faults) (held : Option Saved) (honest : Bool) (system : ℕ)
+    (wired : Result (Ends S) RunFault) (ends : Ends S) → IfOk wired (AreMade config faults held honest)
+    → wired ≡ Ok ends → config.system ≡ system → AreOfSystem system (seats_of ends)
+wired_up config faults held honest system wired ends made is named =
+    subst (λ (n : ℕ). AreOfSystem n (seats_of ends)) named
+    (system_made config faults held honest ends (IfOk-at_ok (AreMade config faults held honest) is made))
+
+-- ---- turns
+
+-- all ends, by where they sit
+abbrev all_seats : LedgerSeat → List ClientSeat → ConnectorSeat → BrokerSeat → List SubscriberSeat → RunSeats
+all_seats ledger clients connector broker subscribers = record {
+  ledger = ledger;
+  clients = clients;
+  connector = connector;
+  broker = broker;
+  subscribers = subscribers;
+}
+
+-- where each sits where it sat, all do
+pub same_seats : {l l' : LedgerSeat} {c c' : List ClientSeat} {k k' : ConnectorSeat} {b b' : BrokerSeat}
+    {s s' : List SubscriberSeat} → l ≡ l' → c ≡ c' → k ≡ k' → b ≡ b' → s ≡ s'
+    → all_seats l c k b s ≡ all_seats l' c' k' b' s'
+same_seats {l} {l'} {c} {c'} {k} {k'} {b} {b'} {s} {s'} ledger clients connector broker subscribers =
+    ap (λ (x : LedgerSeat). all_seats x c k b s) ledger
+    ∙ ap (λ (x : List ClientSeat). all_seats l' x k b s) clients
+    ∙ ap (λ (x : ConnectorSeat). all_seats l' c' x b s) connector
+    ∙ ap (λ (x : BrokerSeat). all_seats l' c' k' x s) broker
+    ∙ ap (λ (x : List SubscriberSeat). all_seats l' c' k' b' x) subscribers
+
+-- ---- to be settled
+
+-- what is so of what is read of each is so of each
+read_back : {A B : Type 0} (P : B → Type 0) (read : A → B) (xs : List A) → All P (map read xs) → All (λ x. P (read x)) xs
+read_back P read xs all = λ k d below.
+    let within : k < length (map read xs) = omega (arith, length-map xs read) in
+    subst P (get_or-map read xs k d) (all k (read d) within)
+
+-- the ends of a system, with a broker's end in the place of its own
+pub seated : {S : Type 0} (wiring : ℕ → Wiring) (system : ℕ) (ends : Ends S) (broker : BrokerEndState)
+    (are : AreOfSystem system (seats_of ends)) → wiring system ≡ are.wiring
+    → BrokerSits (wiring broker.system) (broker_seat broker) → AreSeated wiring (record ends { broker = broker })
+seated wiring system ends broker are same sits =
+    let w : Wiring = are.wiring in
+    record {
+      ledger = subst (λ n. LedgerSits (wiring n) (ledger_seat ends.ledger)) (sym are.ledger_system)
+          (subst (λ (v : Wiring). LedgerSits v (ledger_seat ends.ledger)) (sym same) are.ledger);
+      clients = All-weaker (λ c. IsClient system w (client_seat c)) (λ c. ClientSits (wiring c.system) (client_seat c))
+          (λ c h. subst (λ n. ClientSits (wiring n) (client_seat c)) (sym h.0)
+          (subst (λ (v : Wiring). ClientSits v (client_seat c)) (sym same) h.1))
+          ends.clients.items (read_back (IsClient system w) client_seat ends.clients.items are.clients);
+      connector = subst (λ n. ConnectorSits (wiring n) (connector_seat ends.connector)) (sym are.connector_system)
+          (subst (λ (v : Wiring). ConnectorSits v (connector_seat ends.connector)) (sym same) are.connector);
+      broker = sits;
+      subscribers = All-weaker (λ s. IsSubscriber system w (subscriber_seat s))
+          (λ s. SubscriberSits (wiring s.system) (subscriber_seat s))
+          (λ s h. subst (λ n. SubscriberSits (wiring n) (subscriber_seat s)) (sym h.0)
+          (subst (λ (v : Wiring). SubscriberSits v (subscriber_seat s)) (sym same) h.1))
+          ends.subscribers.items
+          (read_back (IsSubscriber system w) subscriber_seat ends.subscribers.items are.subscribers);
+    }
+
+-- the ends of one system
+pub system_seated : {S : Type 0} (system : ℕ) (ends : Ends S) → AreOfSystem system (seats_of ends) → MayBeSettled ends
+system_seated system ends are =
+    ((λ n. are.wiring), seated (λ n. are.wiring) system ends ends.broker are refl are.broker)
+
+-- ---- the brokers' ends of two systems, exchanged
+
+module _ {S : Type 0} (first second : Ends S) (one : AreOfSystem 1 (seats_of first))
+    (two : AreOfSystem 2 (seats_of second)) where
+  -- system 1 has the wiring of the first ends, any other that of the second
+  abbrev wiring_by : ℕ → Wiring
+  wiring_by n = cond (n == 1) one.wiring two.wiring
+
+  -- the first system, with the broker's end of the second
+  pub first_seated : MayBeSettled (record first { broker = second.broker })
+  first_seated = (
+    wiring_by,
+    seated wiring_by 1 first second.broker one refl
+        (subst (λ n. BrokerSits (wiring_by n) (broker_seat second.broker)) (sym two.broker_system) two.broker),
+  )
+
+  -- and the other way round
+  pub second_seated : MayBeSettled (record second { broker = first.broker })
+  second_seated = (
+    wiring_by,
+    seated wiring_by 2 second first.broker two refl
+        (subst (λ n. BrokerSits (wiring_by n) (broker_seat first.broker)) (sym one.broker_system) one.broker),
+  )

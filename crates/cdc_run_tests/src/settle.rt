@@ -1,0 +1,181 @@
+//! Ends of one system that have finished are settled; ends of two systems aren't, nor are ends that haven't begun.
+
+ghost use Rattle.std.specs.Prelude.{◌≡◌, map};
+ghost use Rattle.cdc_run.specs.Configs.{Fits};
+ghost use Rattle.cdc_run.specs.Seats.{broker_seat, client_seat, connector_seat, ledger_seat, subscriber_seat};
+ghost use Rattle.cdc_run_tests.specs.Systems.{AreOfSystem, MayBeSettled, seats_of};
+
+use cdc_ends::{BrokerEnd, ClientEnd, ConnectorEnd, LedgerEnd, RunFault, SubscriberEnd};
+use cdc_match::Binding;
+use cdc_progress::MemoryStore;
+use cdc_run::{Config, Ends, Faults, settle, wire_up};
+use std::alloc::Global;
+use std::mem::swap;
+use std::process::Abort;
+use std::sync::Wait;
+
+// What a system of one client and one subscriber is made of.
+fn config_of(rt: &impl Abort, alloc: Global, system: u64) -> Config
+    ensures fits { Fits result }
+    ensures system { result.system ≡ system }
+{
+    let binding = Binding::parse(alloc, &["all"]).expect(rt, "a binding");
+    let mut bindings = Vec::new(alloc);
+    bindings.push(binding).expect(rt, "memory");
+    Config {
+        system,
+        bindings,
+        clients: 1,
+        window: 1,
+        prefetch: 8,
+    }
+}
+
+// The ends of a system of one client and one subscriber, before any turn.
+fn new_ends(rt: &impl Abort, alloc: Global, system: u64) -> Ends<MemoryStore>
+    ensures { AreOfSystem system (seats_of result) }
+{
+    let config = config_of(rt, alloc, system);
+    wire_up(alloc, config, Faults::none(alloc), MemoryStore::new()).expect(rt, "ends")
+}
+
+// Each of these takes one turn, or the one that a client without batches takes. The end stays where it sits.
+
+fn turn_ledger<R: Wait + Abort>(rt: &R, alloc: Global, end: &mut LedgerEnd)
+    ensures { ledger_seat end.new ≡ ledger_seat end.old }
+{
+    end.turn(rt, alloc).expect(rt, "a turn");
+}
+
+fn turn_connector<R: Wait + Abort>(rt: &R, alloc: Global, end: &mut ConnectorEnd<MemoryStore>)
+    ensures { connector_seat end.new ≡ connector_seat end.old }
+{
+    end.turn(rt, alloc).expect(rt, "a turn");
+}
+
+fn turn_broker<R: Wait + Abort>(rt: &R, alloc: Global, end: &mut BrokerEnd)
+    ensures { broker_seat end.new ≡ broker_seat end.old }
+{
+    end.turn(rt, alloc).expect(rt, "a turn");
+}
+
+fn turn_subscriber<R: Wait + Abort>(rt: &R, alloc: Global, end: &mut SubscriberEnd)
+    ensures { subscriber_seat end.new ≡ subscriber_seat end.old }
+{
+    end.turn(rt, alloc).expect(rt, "a turn");
+}
+
+fn finish_client<R: Wait + Abort>(rt: &R, end: &mut ClientEnd)
+    ensures { client_seat end.new ≡ client_seat end.old }
+{
+    end.finish(rt).expect(rt, "a client that is done");
+}
+
+// All clients, and all subscribers.
+
+fn finish_clients<R: Wait + Abort>(rt: &R, ends: &mut Vec<ClientEnd>)
+    ensures { map client_seat ends.new.items ≡ map client_seat ends.old.items }
+{
+    for end in ends.iter_mut() {
+        finish_client(rt, end);
+    }
+}
+
+fn turn_subscribers<R: Wait + Abort>(rt: &R, alloc: Global, ends: &mut Vec<SubscriberEnd>)
+    ensures { map subscriber_seat ends.new.items ≡ map subscriber_seat ends.old.items }
+{
+    for end in ends.iter_mut() {
+        turn_subscriber(rt, alloc, end);
+    }
+}
+
+// The client says that it is done. The connector polls, and connects to the broker.
+fn ask<R: Wait + Abort>(rt: &R, alloc: Global, ends: &mut Ends<MemoryStore>)
+    ensures { seats_of ends.new ≡ seats_of ends.old }
+{
+    finish_clients(rt, &mut ends.clients);
+    turn_connector(rt, alloc, &mut ends.connector);
+}
+
+// The ledger hears the client and the connector, and replies that nothing follows; the connector publishes the end.
+fn publish<R: Wait + Abort>(rt: &R, alloc: Global, ends: &mut Ends<MemoryStore>)
+    ensures { seats_of ends.new ≡ seats_of ends.old }
+{
+    turn_ledger(rt, alloc, &mut ends.ledger);
+    turn_ledger(rt, alloc, &mut ends.ledger);
+    turn_connector(rt, alloc, &mut ends.connector);
+}
+
+// The broker takes two messages, and the subscriber what it is sent on the second.
+fn hand_out<R: Wait + Abort>(rt: &R, alloc: Global, ends: &mut Ends<MemoryStore>)
+    ensures { seats_of ends.new ≡ seats_of ends.old }
+{
+    turn_broker(rt, alloc, &mut ends.broker);
+    turn_broker(rt, alloc, &mut ends.broker);
+    turn_subscribers(rt, alloc, &mut ends.subscribers);
+}
+
+// The connector hears both answers of the broker, and has finished; so then has the ledger.
+fn confirm<R: Wait + Abort>(rt: &R, alloc: Global, ends: &mut Ends<MemoryStore>)
+    ensures { seats_of ends.new ≡ seats_of ends.old }
+{
+    turn_connector(rt, alloc, &mut ends.connector);
+    turn_connector(rt, alloc, &mut ends.connector);
+    turn_ledger(rt, alloc, &mut ends.ledger);
+}
+
+// The ends of a system of one client without batches and one subscriber, once all have finished. They take their turns
+// on one thread, in an order in which a message is there for each that receives one.
+fn finished_ends<R: Wait + Abort>(rt: &R, alloc: Global, system: u64) -> Ends<MemoryStore>
+    ensures { AreOfSystem system (seats_of result) }
+{
+    let mut ends = new_ends(rt, alloc, system);
+    ask(rt, alloc, &mut ends);
+    publish(rt, alloc, &mut ends);
+    // The connection and the end mark.
+    hand_out(rt, alloc, &mut ends);
+    confirm(rt, alloc, &mut ends);
+    // The subscriber's acknowledgement, and that the connector is done.
+    hand_out(rt, alloc, &mut ends);
+    ends
+}
+
+// Exchanges the brokers' ends of systems 1 and 2.
+fn exchange_brokers(first: &mut Ends<MemoryStore>, second: &mut Ends<MemoryStore>)
+    requires one { AreOfSystem 1 (seats_of first.old) }
+    requires two { AreOfSystem 2 (seats_of second.old) }
+    ensures first { MayBeSettled first.new }
+    ensures second { MayBeSettled second.new }
+{
+    swap(&mut first.broker, &mut second.broker);
+}
+
+// Whether these ends aren't settled, since they aren't those of one system that has finished.
+fn are_refused(alloc: Global, ends: Ends<MemoryStore>) -> bool
+    requires { MayBeSettled ends }
+{
+    let settled = settle(alloc, ends);
+    matches!(&settled, Err(RunFault::NotOneSystem))
+}
+
+#[test]
+fn a_system_that_has_finished_is_settled(rt: HostRuntime) {
+    let ends = finished_ends(&rt, rt.alloc(), 1);
+    let report = settle(rt.alloc(), ends).expect(&rt, "a report");
+    assert_eq!(rt; (report.replies.len(), report.subscribers.len()), (1, 1));
+}
+
+#[test]
+fn systems_whose_brokers_are_exchanged_are_not_settled(rt: HostRuntime) {
+    let mut first = finished_ends(&rt, rt.alloc(), 1);
+    let mut second = finished_ends(&rt, rt.alloc(), 2);
+    exchange_brokers(&mut first, &mut second);
+    assert!(rt; are_refused(rt.alloc(), first));
+    assert!(rt; are_refused(rt.alloc(), second));
+}
+
+#[test]
+fn nothing_is_settled_before_any_turn(rt: HostRuntime) {
+    let ends = new_ends(&rt, rt.alloc(), 1);
+    assert!(rt; are_refused(rt.alloc(), ends));
+}
