@@ -6,7 +6,7 @@ use Rattle.cdc_run.specs.Reports.{AreSubscribed, HasRun, IsReportOf}
 use Rattle.cdc_run.specs.Tasks.{places_of}
 use Rattle.cdc_run.proofs.Leaving.{are_left, in_places}
 use Rattle.cdc_run.proofs.Ran.{has_run, have_subscribed, no_client_done}
-use Rattle.cdc_run.proofs.SeatedAt.{all_seated}
+use Rattle.cdc_run.proofs.Seated.{all_seated}
 use Rattle.cdc_run.proofs.runs.run.Goals as goal
 
 -- no client has finished yet
