@@ -2,7 +2,7 @@
 use Rattle.std.proofs.Common.{◌≡◌, ℕ, ◌+◌, Bool, true, false, List, [], ◌∷◌, Option, Some, None, refl, sym, ap, ap₂, ◌∙◌, subst}
 use Rattle.std.specs.Prelude.{fold, length, min}
 use Rattle.cdc_ends.specs.SubscriberEnds.{is_asked}
-use Rattle.cdc_laws.specs.Faithful.{IsFaithful, applied}
+use Rattle.cdc_laws.specs.Faithful.{IsFaithful}
 use Rattle.cdc_laws.specs.Line.{feed_of, line, told}
 use Rattle.cdc_laws.proofs.Faithful.{ends-told, hears-told}
 use Rattle.cdc_laws.proofs.Feeds.{events_told, queue-line}

@@ -1,5 +1,5 @@
 -- What a run comes to, from what its ends were made as and what they have left.
-use Rattle.std.proofs.Common.{◌≡◌, ℕ, ◌+◌, true, List, [], ◌∷◌, ◌++◌, refl, sym, ap, ap₂, ◌∙◌, subst, arith, length, map, false}
+use Rattle.std.proofs.Common.{◌≡◌, ℕ, ◌+◌, true, List, [], ◌∷◌, refl, sym, ap, ap₂, ◌∙◌, subst, arith, length, map, false}
 use Rattle.std.specs.Prelude.{All, Bool, None, Option, Some}
 use Rattle.std.specs.List.{AllZip}
 use Rattle.std.proofs.lemmas.List.Elements.{All-cons}
@@ -12,7 +12,7 @@ use Rattle.cdc_links.specs.Links.{LinkId, fresh_end}
 use Rattle.cdc_match.specs.declared.binding.Binding.{Binding}
 use Rattle.cdc_progress.specs.Records.{Saved}
 use Rattle.cdc_run.specs.Made.{AreMade, fresh_inbox, made_clients, made_subscribers}
-use Rattle.cdc_run.specs.Reports.{AreSubscribed, HasRun, IsReportOf, replies_of}
+use Rattle.cdc_run.specs.Reports.{AreSubscribed, HasRun, IsReportOf}
 use Rattle.cdc_run.specs.Seats.{BrokerSeat, ConnectorSeat, SubscriberSeat, broker_seat, connector_seat, start_if}
 use Rattle.cdc_run.specs.Tasks.{AreLeft, ClientLeaves, SubscriberLeaves, places_of, with_scripts}
 use Rattle.cdc_run.specs.declared.configs.Config.{Config}

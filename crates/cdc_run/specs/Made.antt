@@ -1,5 +1,5 @@
 -- The ends of a run before the first turn of any.
-use Rattle.std.specs.Prelude.{◌≡◌, ℕ, ◌+◌, Bool, Option, None, List, [], ◌∷◌, false, length, map}
+use Rattle.std.specs.Prelude.{◌≡◌, ℕ, ◌+◌, Bool, Option, None, List, [], ◌∷◌, length, map}
 use Rattle.cdc_broker.specs.Broker.{empty_broker}
 use Rattle.cdc_ends.specs.BrokerEnds.{BrokerEndState}
 use Rattle.cdc_ends.specs.BrokerTurns.{first_desk as first_broker}

@@ -1,5 +1,5 @@
-use Rattle.std.proofs.Common.{◌≡◌, ◌+◌, IfOk, List, ◌∷◌, [], ◌++◌, All, length, get_or, ap, sym, subst, ◌∙◌, arith, map, vec_len}
-use Rattle.std.proofs.lemmas.List.{length-map, length_push, map_push}
+use Rattle.std.proofs.Common.{◌≡◌, ◌+◌, ◌∷◌, [], ◌++◌, length, ap, ◌∙◌, arith}
+use Rattle.std.proofs.lemmas.List.{length_push}
 use Rattle.cdc_links.specs.Links.{Incoming, Outgoing}
 use Rattle.cdc_traffic.specs.declared.messages.ToLedger.{ToLedger}
 use Rattle.cdc_traffic.specs.declared.pasts.Past.{Past}

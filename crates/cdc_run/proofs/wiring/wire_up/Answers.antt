@@ -1,4 +1,4 @@
-use Rattle.std.proofs.Common.{◌≡◌, ◌+◌, sym, ap, ◌∙◌, subst, arith, length, vec_len}
+use Rattle.std.proofs.Common.{sym, ap, ◌∙◌, subst, arith, length, vec_len}
 use Rattle.std.specs.Prelude.{Option}
 use Rattle.cdc_links.specs.Links.{Outgoing}
 use Rattle.cdc_traffic.specs.declared.messages.ToBroker.{ToBroker}
