@@ -11,7 +11,6 @@ for these events. In the end the file has to name the last event, in the next se
 
 The last line is `kill: N passed, M failed`; exit status 1 where one failed.
 """
-import argparse
 import pathlib
 import random
 import re
@@ -148,12 +147,10 @@ class Killing:
 
 
 def main(words):
-    parser = argparse.ArgumentParser(description=__doc__, formatter_class=argparse.RawDescriptionHelpFormatter)
-    parser.add_argument('--program', default=str(stress.PROGRAM))
+    parser = rooms.parser_of(__doc__)
     parser.add_argument('--kills', type=int, default=100)
     parser.add_argument('--seed', type=int, default=1)
-    options = parser.parse_args(words)
-    options.program = str(pathlib.Path(options.program).resolve())
+    options = rooms.options_of(parser, words)
     begun = time.monotonic()
     with rooms.room('kill-') as folder:
         killing = Killing(options, folder)

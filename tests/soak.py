@@ -13,7 +13,6 @@ soak is stopped (SIGTERM, Ctrl-C), it prints how often each result, fault, step 
 
 Without --count it goes on for --seconds; with neither, 1,000 cases. Exit status 1 where there was a difference.
 """
-import argparse
 import collections
 import multiprocessing
 import pathlib
@@ -28,7 +27,6 @@ from dataclasses import asdict, dataclass, replace
 import model
 import rooms
 
-PROGRAM = pathlib.Path(__file__).resolve().parent.parent / 'crates/cdc_app/out/cdc_app'
 CHUNK = 20  # cases that a worker takes at once
 LONGEST = 60  # seconds that a run may take
 MOST_TRIES = 2000  # runs while a difference is shrunk
@@ -1223,19 +1221,15 @@ def run_case(options):
 
 
 def options_of(words):
-    parser = argparse.ArgumentParser(description=__doc__, formatter_class=argparse.RawDescriptionHelpFormatter)
+    parser = rooms.parser_of(__doc__)
     parser.add_argument('--seed', type=int, default=1)
     parser.add_argument('--count', type=int)
     parser.add_argument('--seconds', type=float)
     parser.add_argument('--case', type=int, help='this case alone')
-    parser.add_argument('--program', default=str(PROGRAM))
     parser.add_argument('--jobs', type=int, default=2)
-    options = parser.parse_args(words)
+    options = rooms.options_of(parser, words)
     if options.count is None and options.seconds is None:
         options.count = 1000
-    options.program = str(pathlib.Path(options.program).resolve())
-    if not pathlib.Path(options.program).is_file():
-        parser.error(f'{options.program} is no program; ./relayplum --version builds it')
     return options
 
 

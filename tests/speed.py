@@ -7,7 +7,6 @@ For one subscriber and for two: the least and the middle of the wall times and o
 and how many events a second come from the first line of the script to the printed book. Other work on the machine shows
 in all of them, in the least ones least; under `chrt -f 10`, which root may say, it hardly does.
 """
-import argparse
 import os
 import pathlib
 import statistics
@@ -49,12 +48,10 @@ def timed(words, folder, processors):
 
 
 def main(words):
-    parser = argparse.ArgumentParser(description=__doc__, formatter_class=argparse.RawDescriptionHelpFormatter)
-    parser.add_argument('--program', default=str(stress.PROGRAM))
+    parser = rooms.parser_of(__doc__)
     parser.add_argument('--times', type=int, default=9)
     parser.add_argument('--processors', type=int, default=4)
-    options = parser.parse_args(words)
-    program = str(pathlib.Path(options.program).resolve())
+    options = rooms.options_of(parser, words)
     with rooms.room('speed-') as folder:
         for subscribers in (1, 2):
             script, events = full_script(subscribers)
@@ -62,7 +59,8 @@ def main(words):
             times = {command: [] for command in COMMANDS}
             for _ in range(options.times):
                 for command, (name, *flags) in COMMANDS.items():
-                    times[command].append(timed([program, name, 'full.script', *flags], folder, options.processors))
+                    said = [options.program, name, 'full.script', *flags]
+                    times[command].append(timed(said, folder, options.processors))
             for command, found in times.items():
                 wall, used = ([one[part] for one in found] for part in (0, 1))
                 print(

@@ -17,7 +17,6 @@ that shows that the ends work at the same time is run as often.
 
 The last line is `stress: N passed, M failed`; exit status 1 where one failed.
 """
-import argparse
 import os
 import pathlib
 import random
@@ -29,7 +28,6 @@ from types import SimpleNamespace
 import model
 import rooms
 
-PROGRAM = pathlib.Path(__file__).resolve().parent.parent / 'crates/cdc_app/out/cdc_app'
 SECONDS = 30  # that a run may take
 HOLD = 1  # seconds for which a run that waits is looked at
 MOST_HOLDS = 20
@@ -267,17 +265,13 @@ def run_test(options, runner):
 
 
 def options_of(words):
-    parser = argparse.ArgumentParser(description=__doc__, formatter_class=argparse.RawDescriptionHelpFormatter)
-    parser.add_argument('--program', default=str(PROGRAM))
+    parser = rooms.parser_of(__doc__)
     parser.add_argument('--runs', type=int, default=200)
     parser.add_argument('--seed', type=int, default=1)
     parser.add_argument('--times', type=int)
     parser.add_argument('--tests')
-    options = parser.parse_args(words)
-    options.program = str(pathlib.Path(options.program).resolve())
+    options = rooms.options_of(parser, words)
     options.tests = options.tests and str(pathlib.Path(options.tests).resolve())
-    if not pathlib.Path(options.program).is_file():
-        parser.error(f'{options.program} is no program; ./relayplum --version builds it')
     return options
 
 

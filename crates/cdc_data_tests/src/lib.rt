@@ -10,6 +10,8 @@ mod log;
 #[cfg(test)]
 mod message;
 #[cfg(test)]
+mod message_fields;
+#[cfg(test)]
 mod script;
 #[cfg(test)]
 mod types;

@@ -4,7 +4,6 @@ use cdc_message::{
 };
 use cdc_types::{Event, EventAccount, EventKind, EventTransfer};
 use std::alloc::{AllocError, Global};
-use std::process::Abort;
 use std::test::Fail;
 
 // The body of `first_event`.
@@ -12,7 +11,7 @@ const BODY: &str =
     "{\"credit_account\":{\"code\":10,\"credits_pending\":\"0\",\"credits_posted\":\"100\",\"debits_pending\":\"0\",\"debits_posted\":\"0\",\"flags\":0,\"id\":\"2\",\"timestamp\":\"1001\",\"user_data_128\":\"0\",\"user_data_32\":0,\"user_data_64\":\"0\"},\"debit_account\":{\"code\":10,\"credits_pending\":\"0\",\"credits_posted\":\"0\",\"debits_pending\":\"0\",\"debits_posted\":\"100\",\"flags\":0,\"id\":\"1\",\"timestamp\":\"1000\",\"user_data_128\":\"0\",\"user_data_32\":0,\"user_data_64\":\"0\"},\"ledger\":700,\"timestamp\":\"2000\",\"transfer\":{\"amount\":\"100\",\"code\":1,\"flags\":0,\"id\":\"1\",\"pending_id\":\"0\",\"timeout\":0,\"timestamp\":\"2000\",\"user_data_128\":\"0\",\"user_data_32\":0,\"user_data_64\":\"0\"},\"type\":\"single_phase\"}";
 
 // The same with the members in the order in which they are checked.
-const IN_ORDER: &str =
+pub const IN_ORDER: &str =
     "{\"timestamp\":\"2000\",\"type\":\"single_phase\",\"ledger\":700,\"transfer\":{\"id\":\"1\",\"amount\":\"100\",\"pending_id\":\"0\",\"user_data_128\":\"0\",\"user_data_64\":\"0\",\"user_data_32\":0,\"timeout\":0,\"code\":1,\"flags\":0,\"timestamp\":\"2000\"},\"debit_account\":{\"id\":\"1\",\"debits_pending\":\"0\",\"debits_posted\":\"100\",\"credits_pending\":\"0\",\"credits_posted\":\"0\",\"user_data_128\":\"0\",\"user_data_64\":\"0\",\"user_data_32\":0,\"code\":10,\"flags\":0,\"timestamp\":\"1000\"},\"credit_account\":{\"id\":\"2\",\"debits_pending\":\"0\",\"debits_posted\":\"0\",\"credits_pending\":\"0\",\"credits_posted\":\"100\",\"user_data_128\":\"0\",\"user_data_64\":\"0\",\"user_data_32\":0,\"code\":10,\"flags\":0,\"timestamp\":\"1001\"}}";
 
 const KINDS: [(EventKind, &str); 5] = [
@@ -125,7 +124,7 @@ fn a_mebibyte_of_spaces_is_no_matter(rt: HostRuntime) -> Result<(), Fail> {
     Ok(())
 }
 
-const fn field(part: Part, name: FieldName) -> Field {
+pub const fn field(part: Part, name: FieldName) -> Field {
     Field { part, name }
 }
 
@@ -211,168 +210,6 @@ fn other_texts_are_no_body(rt: HostRuntime) -> Result<(), Fail> {
             decode(alloc, &BODY.as_bytes()[..end]),
             Err(DecodeError::NotJson)
         );
-    }
-    Ok(())
-}
-
-// ---- each field of the body in turn
-
-// A field that is to have another value, or none.
-type Change = Option<(Field, Option<&'static str>)>;
-
-// A number's name, its value in `IN_ORDER`, and a value that is one too large.
-type Number = (FieldName, &'static str, &'static str);
-
-const LARGE_128: &str = "\"340282366920938463463374607431768211456\"";
-
-const LARGE_64: &str = "\"18446744073709551616\"";
-
-const LARGE_32: &str = "4294967296";
-
-const LARGE_16: &str = "65536";
-
-const TRANSFER: [Number; 10] = [
-    (FieldName::Id, "\"1\"", LARGE_128),
-    (FieldName::Amount, "\"100\"", LARGE_128),
-    (FieldName::PendingId, "\"0\"", LARGE_128),
-    (FieldName::UserData128, "\"0\"", LARGE_128),
-    (FieldName::UserData64, "\"0\"", LARGE_64),
-    (FieldName::UserData32, "0", LARGE_32),
-    (FieldName::Timeout, "0", LARGE_32),
-    (FieldName::Code, "1", LARGE_16),
-    (FieldName::Flags, "0", LARGE_16),
-    (FieldName::Timestamp, "\"2000\"", LARGE_64),
-];
-
-const DEBIT: [Number; 11] = [
-    (FieldName::Id, "\"1\"", LARGE_128),
-    (FieldName::DebitsPending, "\"0\"", LARGE_128),
-    (FieldName::DebitsPosted, "\"100\"", LARGE_128),
-    (FieldName::CreditsPending, "\"0\"", LARGE_128),
-    (FieldName::CreditsPosted, "\"0\"", LARGE_128),
-    (FieldName::UserData128, "\"0\"", LARGE_128),
-    (FieldName::UserData64, "\"0\"", LARGE_64),
-    (FieldName::UserData32, "0", LARGE_32),
-    (FieldName::Code, "10", LARGE_16),
-    (FieldName::Flags, "0", LARGE_16),
-    (FieldName::Timestamp, "\"1000\"", LARGE_64),
-];
-
-const CREDIT: [Number; 11] = [
-    (FieldName::Id, "\"2\"", LARGE_128),
-    (FieldName::DebitsPending, "\"0\"", LARGE_128),
-    (FieldName::DebitsPosted, "\"0\"", LARGE_128),
-    (FieldName::CreditsPending, "\"0\"", LARGE_128),
-    (FieldName::CreditsPosted, "\"100\"", LARGE_128),
-    (FieldName::UserData128, "\"0\"", LARGE_128),
-    (FieldName::UserData64, "\"0\"", LARGE_64),
-    (FieldName::UserData32, "0", LARGE_32),
-    (FieldName::Code, "10", LARGE_16),
-    (FieldName::Flags, "0", LARGE_16),
-    (FieldName::Timestamp, "\"1001\"", LARGE_64),
-];
-
-fn push_member(
-    text: &mut String,
-    field: Field,
-    value: &str,
-    change: Change,
-) -> Result<(), AllocError> {
-    let value = match change {
-        Some((changed, None)) if changed == field => return Ok(()),
-        Some((changed, Some(other))) if changed == field => other,
-        _ => value,
-    };
-    if !text.as_str().ends_with('{') {
-        text.push_str(",")?;
-    }
-    text.push_str("\"")?;
-    text.push_str(field.name.key())?;
-    text.push_str("\":")?;
-    text.push_str(value)
-}
-
-fn part_text(
-    alloc: Global,
-    part: Part,
-    members: &[Number],
-    change: Change,
-) -> Result<String, AllocError> {
-    let mut text = String::from_str(alloc, "{")?;
-    for (name, value, _) in members {
-        push_member(&mut text, field(part, *name), *value, change)?;
-    }
-    text.push_str("}")?;
-    Ok(text)
-}
-
-// `IN_ORDER` with this change.
-fn changed(alloc: Global, change: Change) -> Result<String, AllocError> {
-    let transfer = part_text(alloc, Part::Transfer, &TRANSFER, change)?;
-    let debit = part_text(alloc, Part::Debit, &DEBIT, change)?;
-    let credit = part_text(alloc, Part::Credit, &CREDIT, change)?;
-    let members = [
-        (FieldName::Timestamp, "\"2000\""),
-        (FieldName::Kind, "\"single_phase\""),
-        (FieldName::Ledger, "700"),
-        (FieldName::TransferPart, transfer.as_str()),
-        (FieldName::DebitAccount, debit.as_str()),
-        (FieldName::CreditAccount, credit.as_str()),
-    ];
-    let mut text = String::from_str(alloc, "{")?;
-    for (name, value) in members {
-        push_member(&mut text, field(Part::Top, name), value, change)?;
-    }
-    text.push_str("}")?;
-    Ok(text)
-}
-
-fn check(
-    rt: &(impl Abort + AllocGlobal),
-    field: Field,
-    value: Option<&'static str>,
-    error: DecodeError,
-) -> Result<(), AllocError> {
-    let text = changed(rt.alloc(), Some((field, value)))?;
-    assert_eq!(rt; decode(rt.alloc(), text.as_bytes()), Err(error));
-    Ok(())
-}
-
-fn check_numbers(
-    rt: &(impl Abort + AllocGlobal),
-    part: Part,
-    members: &[Number],
-) -> Result<(), AllocError> {
-    for (name, _, large) in members {
-        let field = field(part, *name);
-        check(rt, field, None, DecodeError::Missing(field))?;
-        check(rt, field, Some("true"), DecodeError::WrongType(field))?;
-        check(rt, field, Some(*large), DecodeError::OutOfRange(field))?;
-    }
-    Ok(())
-}
-
-#[test]
-fn each_spoilt_field_is_named(rt: HostRuntime) -> Result<(), Fail> {
-    assert!(rt; changed(rt.alloc(), None)?.as_str() == IN_ORDER);
-    check_numbers(&rt, Part::Transfer, &TRANSFER)?;
-    check_numbers(&rt, Part::Debit, &DEBIT)?;
-    check_numbers(&rt, Part::Credit, &CREDIT)?;
-    let top = [
-        (FieldName::Timestamp, "\"2000\"", LARGE_64),
-        (FieldName::Ledger, "700", LARGE_32),
-    ];
-    check_numbers(&rt, Part::Top, &top)?;
-    let others = [
-        (FieldName::Kind, "1"),
-        (FieldName::TransferPart, "[]"),
-        (FieldName::DebitAccount, "\"\""),
-        (FieldName::CreditAccount, "null"),
-    ];
-    for (name, wrong) in others {
-        let field = field(Part::Top, name);
-        check(&rt, field, None, DecodeError::Missing(field))?;
-        check(&rt, field, Some(wrong), DecodeError::WrongType(field))?;
     }
     Ok(())
 }

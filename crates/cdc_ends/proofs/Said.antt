@@ -63,7 +63,8 @@ pub replies_are_said : RepliesAreSaid
 replies_are_said client order p = said_push client [] order p
 
 -- the past that one batch more makes
-pub past_push : (before : List (ℕ × Batch)) (p : ℕ × Batch) → past_of (before ++ p ∷ []) ≡ with_batch p.1 (past_of before)
+pub past_push : (before : List (ℕ × Batch)) (p : ℕ × Batch)
+    → past_of (before ++ p ∷ []) ≡ with_batch p.1 (past_of before)
 past_push before p =
     ap (λ (bs : List Batch). record { batches = bs; closed = false })
     (map-append (λ (q : ℕ × Batch). q.1) before (p ∷ []))

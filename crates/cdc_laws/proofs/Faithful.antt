@@ -1,7 +1,8 @@
 -- A subscriber is faithful where it heard a replay of the queue of a replay of what the ledger has to tell.
-use Rattle.std.proofs.Common.{◌≡◌, ℕ, ◌-◌, ◌^◌, min, Bool, true, List, [], ◌∷◌, ◌++◌, length, take, refl, sym, ap, subst, ◌∙◌}
-use Rattle.std.specs.Prelude.{◌||◌, if◌then◌else◌}
+use Rattle.std.proofs.Common.{◌≡◌, ℕ, ◌-◌, ◌^◌, min, Bool, true, false, List, [], ◌∷◌, ◌++◌, length, take, refl, sym, ap, subst, ◌∙◌, append_assoc}
+use Rattle.std.specs.Prelude.{◌||◌, fold, if◌then◌else◌}
 use Rattle.std.specs.List.{list_any}
+use Rattle.std.proofs.lemmas.List.Folds.{list_any-append}
 use Rattle.cdc_types.specs.declared.events.Event.{Event}
 use Rattle.cdc_types.specs.Timestamps.{last_timestamp}
 use Rattle.cdc_ledger.specs.History.{History}
@@ -19,10 +20,11 @@ use Rattle.cdc_match.specs.Queue.{queue, takes_item}
 use Rattle.cdc_match.proofs.FilterLaws.{IsReplay-filter}
 use Rattle.cdc_message.specs.declared.items.Delivery.{Delivery}
 use Rattle.cdc_message.specs.declared.items.Item.{Item}
+use Rattle.cdc_message.specs.declared.items.Item.TheVariants.{Event as OfEvent, EndMark}
 use Rattle.cdc_message.specs.Replays.{IsPrefix, IsReplay}
 use Rattle.cdc_message.proofs.ReplayLaws.{IsReplay-take, IsReplay-trans}
 use Rattle.cdc_subscriber.specs.Book.{book_of}
-use Rattle.cdc_subscriber.specs.Heard.{Heard, applied_of, has_ended, is_end, kept_of, next}
+use Rattle.cdc_subscriber.specs.Heard.{Heard, applied_of, has_ended, is_end, kept_of, next, nothing}
 use Rattle.cdc_subscriber.specs.Kept.{Kept}
 
 -- what is heard of the first so many deliveries of a replay of a queue is a replay of the queue
@@ -80,10 +82,31 @@ module _ (h : History) (binding : Arguments) (heard : Heard) (is : IsSound h) wh
 
 -- ---- a whole queue, in order
 
--- an end mark behind events is heard
-ends : (es : List Event) → list_any is_end (told es true) ≡ true
-ends [] = refl
-ends (e ∷ es) = ends es
+-- an end mark stands behind events
+pub ends-told : (es : List Event) → list_any is_end (told es true) ≡ true
+ends-told [] = refl
+ends-told (e ∷ es) = ends-told es
+
+-- events and the end mark behind them are all heard, behind items without an end mark
+hears-behind : (before : List Item) (es : List Event) → list_any is_end before ≡ false
+    → fold next (record { items = before; closed = false }) (told es true)
+    ≡ record { items = before ++ told es true; closed = false }
+hears-behind before [] none =
+    ap (λ (b : Bool). if b then record { items = before; closed = false }
+    else record { items = before ++ EndMark ∷ []; closed = false }) none
+hears-behind before (e ∷ es) none =
+    let more : List Item = before ++ OfEvent e ∷ [] in
+    let listens : list_any is_end more ≡ false =
+    list_any-append is_end before (OfEvent e ∷ []) ∙ ap (λ b. b || false) none in
+    ap (λ (b : Bool). fold next (if b then record { items = before; closed = false }
+    else record { items = more; closed = false }) (told es true)) none
+    ∙ hears-behind more es listens
+    ∙ ap (λ (items : List Item). record { items = items; closed = false })
+    (append_assoc before (OfEvent e ∷ []) (told es true))
+
+-- and so by a new subscriber
+pub hears-told : (es : List Event) → fold next nothing (told es true) ≡ record { items = told es true; closed = false }
+hears-told es = hears-behind [] es refl
 
 -- a subscriber that heard all of its queue of a closed ledger has ended, and is faithful
 pub hears-all : (h : History) (binding : Arguments) (heard : Heard) → IsSound h → h.closed ≡ true
@@ -91,7 +114,7 @@ pub hears-all : (h : History) (binding : Arguments) (heard : Heard) → IsSound 
 hears-all h binding heard is shut all =
     let items : heard.items ≡ told (feed_of h binding) true =
     all ∙ queue-line h binding ∙ ap (told (feed_of h binding)) shut in (
-      ap (list_any is_end) items ∙ ends (feed_of h binding),
+      ap (list_any is_end) items ∙ ends-told (feed_of h binding),
       IsFaithful-line h binding heard is
           (subst (λ items. IsReplay items (queue (line h) binding)) (sym all) (IsReplay-same (queue (line h) binding))),
     )

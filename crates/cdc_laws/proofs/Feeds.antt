@@ -66,7 +66,7 @@ module _ (es : List Event) (rise : TimestampsRise es) where
   apart false = rw (append-nil (map OfEvent es)) (HasNoneTwice-events es rise)
 
   -- the events among the items are the events, end mark or not
-  events_told : (closed : Bool) → events_of (told es closed) ≡ es
+  pub events_told : (closed : Bool) → events_of (told es closed) ≡ es
   events_told true = events_of-push_end (map OfEvent es) ∙ events_of-map es
   events_told false = ap events_of (append-nil (map OfEvent es)) ∙ events_of-map es
 

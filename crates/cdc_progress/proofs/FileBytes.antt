@@ -30,7 +30,8 @@ text_is_short saved fits =
       length-append (numbers_text saved.session saved.timestamp) (codes "\n"),
       length-append (decimal saved.session) (32 ∷ decimal saved.timestamp),
       length-decimal-le 20 saved.session (omega arith) (omega (arith, fits.session)) fits.session,
-      length-decimal-le 20 saved.timestamp (omega arith) (omega (arith, fits.timestamp)) (omega (arith, fits.timestamp)),
+      length-decimal-le 20 saved.timestamp (omega arith) (omega (arith, fits.timestamp))
+          (omega (arith, fits.timestamp)),
     )
 
 -- nothing behind it

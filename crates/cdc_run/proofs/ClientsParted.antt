@@ -109,8 +109,9 @@ module _ (ledger : LedgerEndState) (polls : Outgoing ToLedger (Unit {0})) (clien
 
 -- what is known of them as they are put together
 pub together : (ledger : LedgerEndState) (polls : Outgoing ToLedger (Unit {0})) (clients : List ClientState)
-    (system : ℕ) → true ≡ ledger_has_finished ledger → IsDesk ledger.desk → AreClientsOf system 1 clients → system ≡ ledger.system
-    → ArePollsTo ledger polls → (AreClientsOf ledger.system 1 clients → AreWiredTo ledger clients)
+    (system : ℕ) → true ≡ ledger_has_finished ledger → IsDesk ledger.desk → AreClientsOf system 1 clients
+    → system ≡ ledger.system → ArePollsTo ledger polls
+    → (AreClientsOf ledger.system 1 clients → AreWiredTo ledger clients)
     → length clients ≡ length ledger.desk.clients → AreTogether ledger polls clients
 together ledger polls clients system over desk its same connector wired many =
     let are : AreClientsOf ledger.system 1 clients = subst (λ (n : ℕ). AreClientsOf n 1 clients) same its in

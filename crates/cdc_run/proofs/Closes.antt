@@ -1,6 +1,6 @@
 -- The least close number of a subscriber, one entry after another.
-use Rattle.std.proofs.Common.{◌≡◌, ℕ, ◌≤◌, Bool, true, false, List, [], ◌∷◌, ◌++◌, refl, sym, ap, ◌∙◌, subst, arith, append-nil, inl, inr}
-use Rattle.std.specs.Prelude.{◌⊎◌, ◌==◌, ◌&&◌, nat_le, Option, Some, None, Contains, filter, map, cond}
+use Rattle.std.proofs.Common.{◌≡◌, ℕ, ◌≤◌, Bool, true, List, [], ◌∷◌, ◌++◌, refl, sym, ap, ◌∙◌, subst, arith, inl, inr}
+use Rattle.std.specs.Prelude.{◌⊎◌, ◌==◌, ◌&&◌, nat_le, Some, None, Contains, filter, map, cond}
 use Rattle.std.proofs.lemmas.List.{map-append}
 use Rattle.std.proofs.lemmas.List.Elements.{All-nil, All-push, All-weaker, Contains-append_left, Contains-append_right, filter-append}
 use Rattle.std.proofs.lemmas.Bool.Decides.{nat_tests}
@@ -22,17 +22,6 @@ closes_push subscriber closes entry =
 -- the last of a list is in it
 last_in : (numbers : List ℕ) (n : ℕ) → Contains (numbers ++ n ∷ []) n
 last_in numbers n = Contains-append_right numbers (n ∷ []) n (0, omega arith, refl)
-
--- an entry that doesn't count changes nothing
-pub least_stays : (subscriber : ℕ) (closes : List (ℕ × ℕ)) (entry : ℕ × ℕ) (least : Option ℕ)
-    → counts subscriber entry ≡ false → IsLeast (closes_of subscriber closes) least
-    → IsLeast (closes_of subscriber (closes ++ entry ∷ [])) least
-least_stays subscriber closes entry least none is =
-    let same : closes_of subscriber (closes ++ entry ∷ []) ≡ closes_of subscriber closes =
-    closes_push subscriber closes entry
-    ∙ ap (λ (b : Bool). closes_of subscriber closes ++ map (λ c. c.1) (cond b (entry ∷ []) [])) none
-    ∙ append-nil (closes_of subscriber closes) in
-    subst (λ (numbers : List ℕ). IsLeast numbers least) (sym same) is
 
 -- one that counts adds its number
 counted : (subscriber : ℕ) (closes : List (ℕ × ℕ)) (entry : ℕ × ℕ) → counts subscriber entry ≡ true

@@ -15,7 +15,8 @@ use Rattle.cdc_run.specs.Plans.{IsLeastClose}
 use Rattle.cdc_run.specs.Wires.{IsFresh}
 
 -- a receiver's end that has received nothing
-pub is_fresh : {M N : Type 0} (count : ℕ) (into : Incoming M N) → IsFresh count into → into ≡ fresh_inbox into.link count
+pub is_fresh : {M N : Type 0} (count : ℕ) (into : Incoming M N) → IsFresh count into
+    → into ≡ fresh_inbox into.link count
 is_fresh {M} {N} count into fresh =
     ap (λ (n : ℕ). record into { senders = n }) fresh.senders
     ∙ ap (λ (l : List (ℕ × (M × N))). record into { senders = count; received = l }) fresh.received

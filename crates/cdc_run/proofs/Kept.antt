@@ -1,23 +1,19 @@
 -- What a subscriber keeps that has ended and was never closed.
-use Rattle.std.proofs.Common.{◌≡◌, ℕ, ◌+◌, Bool, true, false, List, [], ◌∷◌, ◌++◌, Option, Some, None, refl, sym, ap, ap₂, ◌∙◌, subst, map, append_assoc}
-use Rattle.std.specs.Prelude.{◌||◌, fold, length, min, if◌then◌else◌}
-use Rattle.std.specs.List.{list_any}
-use Rattle.std.proofs.lemmas.List.Folds.{list_any-append}
+use Rattle.std.proofs.Common.{◌≡◌, ℕ, ◌+◌, Bool, true, false, List, [], ◌∷◌, Option, Some, None, refl, sym, ap, ap₂, ◌∙◌, subst}
+use Rattle.std.specs.Prelude.{fold, length, min}
 use Rattle.cdc_ends.specs.SubscriberEnds.{is_asked}
-use Rattle.cdc_laws.specs.Faithful.{IsFaithful, applied}
+use Rattle.cdc_laws.specs.Faithful.{IsFaithful}
 use Rattle.cdc_laws.specs.Line.{feed_of, line, told}
-use Rattle.cdc_laws.proofs.Feeds.{queue-line}
+use Rattle.cdc_laws.proofs.Faithful.{ends-told, hears-told}
+use Rattle.cdc_laws.proofs.Feeds.{events_told, queue-line}
 use Rattle.cdc_laws.proofs.Places.{none_there}
 use Rattle.cdc_ledger.specs.History.{History}
 use Rattle.cdc_match.specs.Arguments.{Arguments}
 use Rattle.cdc_match.specs.Queue.{queue}
-use Rattle.cdc_message.specs.declared.items.Item.{Item}
-use Rattle.cdc_message.specs.declared.items.Item.TheVariants.{Event as OfEvent, EndMark}
 use Rattle.cdc_message.specs.Items.{TimestampsRise, events_of, rises}
-use Rattle.cdc_message.proofs.LineLaws.{events_of-map, rises-rising}
-use Rattle.cdc_message.proofs.RisesLaws.{events_of-push_end}
+use Rattle.cdc_message.proofs.LineLaws.{rises-rising}
 use Rattle.cdc_subscriber.specs.Book.{book_of}
-use Rattle.cdc_subscriber.specs.Heard.{Heard, applied_of, has_ended, is_end, kept_of, next, nothing}
+use Rattle.cdc_subscriber.specs.Heard.{Heard, applied_of, has_ended, kept_of, next, nothing}
 use Rattle.cdc_subscriber.specs.Kept.{Kept}
 use Rattle.cdc_types.specs.declared.events.Event.{Event}
 use Rattle.cdc_types.specs.Timestamps.{last_timestamp}
@@ -25,33 +21,6 @@ use Rattle.cdc_types.specs.Widths.{max_64}
 use Rattle.cdc_run.specs.Determined.{AllKeepTheLine, UnaskedKeepTheLine, kept_of_line}
 use Rattle.cdc_run.specs.Plans.{IsLeastClose}
 use Rattle.cdc_run.proofs.Firsts.{rises-of_firsts}
-
--- ---- a whole line
-
--- events and the end mark behind them are all heard
-heard_told : (before : List Item) (es : List Event) → list_any is_end before ≡ false
-    → fold next (record { items = before; closed = false }) (told es true)
-    ≡ record { items = before ++ told es true; closed = false }
-heard_told before [] none =
-    ap (λ (b : Bool). if b then record { items = before; closed = false }
-    else record { items = before ++ EndMark ∷ []; closed = false }) none
-heard_told before (e ∷ es) none =
-    let more : List Item = before ++ OfEvent e ∷ [] in
-    let listens : list_any is_end more ≡ false =
-    list_any-append is_end before (OfEvent e ∷ []) ∙ ap (λ b. b || false) none in
-    ap (λ (b : Bool). fold next (if b then record { items = before; closed = false }
-    else record { items = more; closed = false }) (told es true)) none
-    ∙ heard_told more es listens
-    ∙ ap (λ (items : List Item). record { items = items; closed = false })
-    (append_assoc before (OfEvent e ∷ []) (told es true))
-
--- the end among them, and their events
-end_told : (es : List Event) → list_any is_end (told es true) ≡ true
-end_told [] = refl
-end_told (e ∷ es) = end_told es
-
-events_told : (es : List Event) → events_of (told es true) ≡ es
-events_told es = events_of-push_end (map OfEvent es) ∙ events_of-map es
 
 -- ---- a subscriber
 
@@ -75,11 +44,11 @@ keeps_line h binding heard faithful ended open_yet =
     let took : applied_of heard ≡ es = sym (rises-of_firsts heard.items faithful.rising) ∙ whole.1 in
     let line_is : queue (line h) binding ≡ told es true = queue-line h binding ∙ ap (told es) whole.0 in
     let hears : fold next nothing (queue (line h) binding) ≡ record { items = told es true; closed = false } =
-    ap (fold next nothing) line_is ∙ heard_told [] es refl in
-    let all : rises (events_of (told es true)) ≡ es = ap rises (events_told es) ∙ rises-rising es rise in
+    ap (fold next nothing) line_is ∙ hears-told es in
+    let all : rises (events_of (told es true)) ≡ es = ap rises (events_told es rise true) ∙ rises-rising es rise in
     ap (λ (l : List Event). kept l (has_ended heard) heard.closed) took
     ∙ ap₂ (kept es) ended open_yet
-    ∙ sym (ap₂ (λ (l : List Event) (b : Bool). kept l b false) all (end_told es))
+    ∙ sym (ap₂ (λ (l : List Event) (b : Bool). kept l b false) all (ends-told es))
     ∙ sym (ap kept_of hears)
 
 pub unasked_keep : UnaskedKeepTheLine

@@ -1,17 +1,23 @@
 -- What the ends of a run leave, place by place.
-use Rattle.std.proofs.Common.{◌≡◌, ℕ, ◌+◌, List, [], ◌∷◌, ◌++◌, refl, sym, ap, ap₂, ◌∙◌, subst, map}
+use Rattle.std.proofs.Common.{◌≡◌, ℕ, ◌+◌, Bool, List, [], ◌∷◌, ◌++◌, refl, sym, ap, ap₂, ◌∙◌, subst, map}
+use Rattle.std.specs.Prelude.{Option}
 use Rattle.std.specs.List.{AllZip}
 use Rattle.cdc_ends.specs.BrokerEnds.{BrokerEndState}
 use Rattle.cdc_ends.specs.Clients.{ClientState}
 use Rattle.cdc_ends.specs.ConnectorEnds.{ConnectorEndState}
 use Rattle.cdc_ends.specs.LedgerEnds.{LedgerEndState}
 use Rattle.cdc_ends.specs.SubscriberEnds.{SubscriberState}
+use Rattle.cdc_progress.specs.Records.{Saved}
+use Rattle.cdc_run.specs.Made.{AreMade, made_clients, made_subscribers}
 use Rattle.cdc_run.specs.Scripted.{ScriptedState}
-use Rattle.cdc_run.specs.Tasks.{AreLeft, BrokerLeaves, ClientLeaves, ConnectorLeaves, LedgerLeaves, Leaves, Placed, SubscriberLeaves, left_at, numbered, tasks_at, with_scripts}
+use Rattle.cdc_run.specs.Tasks.{AreLeft, BrokerLeaves, ClientLeaves, ConnectorLeaves, LedgerLeaves, Leaves, Placed, SubscriberLeaves, left_at, numbered, places_of, tasks_at, with_scripts}
+use Rattle.cdc_run.specs.declared.configs.Config.{Config}
+use Rattle.cdc_run.specs.declared.ends.Ends.{Ends}
 use Rattle.cdc_run.specs.declared.placed.Left.{Left}
 use Rattle.cdc_run.specs.declared.placed.Left.TheVariants as left
 use Rattle.cdc_run.specs.declared.placed.Task.{Task}
 use Rattle.cdc_run.specs.declared.placed.Task.TheVariants as task
+use Rattle.cdc_run.specs.declared.plans.Faults.{Faults}
 use Rattle.cdc_types.specs.declared.batches.Batch.{Batch}
 
 module _ (S : Type 0) where
@@ -130,3 +136,22 @@ module _ (S : Type 0) where
   are_left old scripts tasks lefts new all same is =
       let placed = all_left old scripts lefts (subst (λ (l : List (Task S)). AllZip Leaves l lefts) same all) in
       subst (AreLeft old scripts) (sym (is placed.0 placed.1)) placed.2
+
+module _ {S : Type 0} (config : Config) (faults : Faults) (held : Option Saved) (honest : Bool) (ends : Ends S)
+    (made : AreMade config faults held honest ends) (new : Ends S) (scripts : List (List Batch))
+    (are : AreLeft (places_of ends) scripts (places_of new)) where
+  -- the clients that were made have left, each with its script
+  pub made_clients_left : AllZip ClientLeaves
+      (with_scripts (made_clients config.system made.wiring.to_ledger 1 made.wiring.to_clients) scripts)
+      new.clients.items
+  made_clients_left =
+      subst (λ (l : List ClientState). AllZip ClientLeaves (with_scripts l scripts) new.clients.items) made.clients
+      are.clients
+
+  -- and so have the subscribers
+  pub made_subscribers_left : AllZip SubscriberLeaves
+      (made_subscribers config.system made.wiring.to_broker 1 made.wiring.to_subscribers made.closes)
+      new.subscribers.items
+  made_subscribers_left =
+      subst (λ (l : List SubscriberState). AllZip SubscriberLeaves l new.subscribers.items) made.subscribers
+      are.subscribers

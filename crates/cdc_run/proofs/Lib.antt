@@ -19,7 +19,6 @@ mod Replied
 mod Reported
 mod RunMade
 mod Seated
-mod SeatedAt
 mod Streamed
 mod Subscribed
 mod SubscribersParted

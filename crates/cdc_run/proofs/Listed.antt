@@ -66,12 +66,14 @@ module _ (S : Type 0) where
       → all ≡ broker ++ numbered 1 subscribers → map (λ s. s) subscribers ≡ p.subscribers
       → all ≡ tasks_at p (map (λ s. s.items) scripts)
   all_listed p scripts pairs subscribers clients connector broker all one two three four five six =
-      let first : List (Task S) = task.Ledger p.ledger ∷ map task.Client (with_scripts p.clients (map (λ s. s.items) scripts)) in
+      let first : List (Task S) =
+      task.Ledger p.ledger ∷ map task.Client (with_scripts p.clients (map (λ s. s.items) scripts)) in
       let whole : clients ≡ first =
       one ∙ ap (λ l. task.Ledger p.ledger ∷ map client_task l) (sym (map-id pairs) ∙ two)
       ∙ ap (λ (l : List (Task S)). task.Ledger p.ledger ∷ l) (zipped p.clients scripts) in
       five ∙ ap (λ l. broker ++ numbered 1 l) (sym (map-id subscribers) ∙ six)
       ∙ ap (λ (l : List (Task S)). l ++ numbered 1 p.subscribers)
-      (four ∙ ap (λ (l : List (Task S)). l ++ task.Broker p.broker ∷ []) (three ∙ ap (λ (l : List (Task S)). l ++ task.Connector p.connector ∷ []) whole))
+      (four ∙ ap (λ (l : List (Task S)). l ++ task.Broker p.broker ∷ [])
+      (three ∙ ap (λ (l : List (Task S)). l ++ task.Connector p.connector ∷ []) whole))
       ∙ append_assoc (first ++ task.Connector p.connector ∷ []) (task.Broker p.broker ∷ []) (numbered 1 p.subscribers)
       ∙ append_assoc first (task.Connector p.connector ∷ []) (task.Broker p.broker ∷ numbered 1 p.subscribers)

@@ -123,7 +123,8 @@ ends_come pass law d c b place consumer s are found stopped =
     let came : map (λ e. e.1.0) s.inbox.received ≡ map Hands taken ++ Stop ∷ [] =
     subst (λ f. map (λ e. e.1.0) s.inbox.received ≡ map Hands taken ++ stop_if f) stopped.finished stopped.is.came in
     let received : messages (map (λ e. e.1) (s.inbox.received ++ left)) ≡ map Hands taken ++ Stop ∷ rest =
-    map-map (λ (m : ToSubscriber × Unit {0}). m.0) (λ (e : ℕ × (ToSubscriber × Unit {0})). e.1) (s.inbox.received ++ left)
+    map-map (λ (m : ToSubscriber × Unit {0}). m.0) (λ (e : ℕ × (ToSubscriber × Unit {0})). e.1)
+    (s.inbox.received ++ left)
     ∙ map-append (λ (e : ℕ × (ToSubscriber × Unit {0})). e.1.0) s.inbox.received left
     ∙ ap (λ (l : List ToSubscriber). l ++ rest) came
     ∙ append_assoc (map Hands taken) (Stop ∷ []) rest in

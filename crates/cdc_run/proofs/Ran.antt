@@ -1,5 +1,5 @@
 -- What a run comes to, from what its ends were made as and what they have left.
-use Rattle.std.proofs.Common.{◌≡◌, ℕ, ◌+◌, true, List, [], ◌∷◌, ◌++◌, refl, sym, ap, ap₂, ◌∙◌, subst, arith, length, map, false}
+use Rattle.std.proofs.Common.{◌≡◌, ℕ, ◌+◌, true, List, [], ◌∷◌, refl, sym, ap, ap₂, ◌∙◌, subst, arith, length, map, false}
 use Rattle.std.specs.Prelude.{All, Bool, None, Option, Some}
 use Rattle.std.specs.List.{AllZip}
 use Rattle.std.proofs.lemmas.List.Elements.{All-cons}
@@ -12,7 +12,7 @@ use Rattle.cdc_links.specs.Links.{LinkId, fresh_end}
 use Rattle.cdc_match.specs.declared.binding.Binding.{Binding}
 use Rattle.cdc_progress.specs.Records.{Saved}
 use Rattle.cdc_run.specs.Made.{AreMade, fresh_inbox, made_clients, made_subscribers}
-use Rattle.cdc_run.specs.Reports.{AreSubscribed, HasRun, IsReportOf, replies_of}
+use Rattle.cdc_run.specs.Reports.{AreSubscribed, HasRun, IsReportOf}
 use Rattle.cdc_run.specs.Seats.{BrokerSeat, ConnectorSeat, SubscriberSeat, broker_seat, connector_seat, start_if}
 use Rattle.cdc_run.specs.Tasks.{AreLeft, ClientLeaves, SubscriberLeaves, places_of, with_scripts}
 use Rattle.cdc_run.specs.declared.configs.Config.{Config}
@@ -24,6 +24,7 @@ use Rattle.cdc_traffic.specs.declared.messages.ToLedger.{ToLedger}
 use Rattle.cdc_traffic.specs.declared.messages.ToSubscriber.{ToSubscriber}
 use Rattle.cdc_traffic.specs.declared.requests.Reply.{Reply}
 use Rattle.cdc_types.specs.declared.batches.Batch.{Batch}
+use Rattle.cdc_run.proofs.Leaving.{made_clients_left, made_subscribers_left}
 
 -- new clients haven't finished
 clients_talk : (system : ℕ) (requests : LinkId ToLedger) (number : ℕ) (links : List (LinkId Reply))
@@ -68,7 +69,8 @@ closes_stay system acks number (link ∷ links) (close ∷ closes) (new ∷ news
     (closes_stay system acks (number + 1) links closes news fewer all.1)
 
 -- the bindings of new queues
-bindings_of_empty : (bindings : List Binding) → map (λ (q : QueueState). q.binding) (map empty_queue bindings) ≡ bindings
+bindings_of_empty : (bindings : List Binding)
+    → map (λ (q : QueueState). q.binding) (map empty_queue bindings) ≡ bindings
 bindings_of_empty [] = refl
 bindings_of_empty (binding ∷ bindings) = ap (λ (l : List Binding). binding ∷ l) (bindings_of_empty bindings)
 
@@ -90,8 +92,7 @@ module _ {S : Type 0} (config : Config) (faults : Faults) (held : Option Saved) 
       scripts_are =
           ap (map (map (λ (r : Reply). r.batch))) reported.replies
           ∙ scripts_submitted config.system made.wiring.to_ledger 1 made.wiring.to_clients scripts new.clients.items
-          (many ∙ sym made.clients_count)
-          (subst (λ (l : List ClientState). AllZip ClientLeaves (with_scripts l scripts) new.clients.items) made.clients are.clients);
+          (many ∙ sym made.clients_count) (made_clients_left config faults held honest ends made new scripts are);
     }
 
     -- and its subscribers have come to what they may rely on
@@ -107,7 +108,8 @@ module _ {S : Type 0} (config : Config) (faults : Faults) (held : Option Saved) 
         let closes : map (λ (s : SubscriberState). s.intake.close_after) new.subscribers.items ≡ made.closes =
         closes_stay config.system made.wiring.to_broker 1 made.wiring.to_subscribers made.closes new.subscribers.items
         (made.closes_count ∙ sym made.subscribers_count)
-        (subst (λ (l : List SubscriberState). AllZip SubscriberLeaves l new.subscribers.items) made.subscribers are.subscribers) in
+        (made_subscribers_left config faults held honest ends made new scripts are) in
         subst (λ (l : List Binding). AreSubscribed report.ledger l made.closes report.subscribers.items) bindings
-        (subst (λ (l : List (Option ℕ)). AreSubscribed report.ledger (broker_seat new.broker).bindings l report.subscribers.items) closes
+        (subst (λ (l : List (Option ℕ)).
+        AreSubscribed report.ledger (broker_seat new.broker).bindings l report.subscribers.items) closes
         (reported.subscribers start))

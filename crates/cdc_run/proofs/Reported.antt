@@ -1,13 +1,13 @@
 -- What is reported of ends that have finished.
-use Rattle.std.proofs.Common.{◌≡◌, ℕ, suc, ◌+◌, ◌-◌, Bool, true, false, List, [], ◌∷◌, refl, sym, ap, ◌∙◌, subst, length, map, arith}
-use Rattle.std.specs.Prelude.{Option, Some, None, is_none, slice_get, unwrap_or}
+use Rattle.std.proofs.Common.{◌≡◌, ℕ, suc, ◌+◌, ◌-◌, Bool, true, false, List, [], ◌∷◌, refl, sym, ap, subst, length, map, arith}
+use Rattle.std.specs.Prelude.{Option, Some, is_none, slice_get, unwrap_or}
 use Rattle.std.proofs.lemmas.Bool.{and_parts}
 use Rattle.cdc_broker.specs.Broker.{nobody, queue_of}
 use Rattle.cdc_broker.specs.Queues.{QueueState, empty_queue}
 use Rattle.cdc_ends.specs.BrokerEnds.{Desk as BrokerDesk}
 use Rattle.cdc_ends.specs.ConnectorEnds.{has_finished, start_of}
 use Rattle.cdc_ends.specs.LedgerEnds.{Desk as LedgerDesk, IsDesk}
-use Rattle.cdc_ends.specs.SubscriberEnds.{Intake, SubscriberState}
+use Rattle.cdc_ends.specs.SubscriberEnds.{SubscriberState}
 use Rattle.cdc_run.specs.ClientMail.{HasFinishedWith as LedgerHasFinishedWith}
 use Rattle.cdc_run.specs.Reports.{AreFinished, AreSubscribed}
 use Rattle.cdc_run.specs.Seats.{connector_seat, start_if}

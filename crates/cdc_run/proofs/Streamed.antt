@@ -25,7 +25,8 @@ its_own : {M N : Type 0} (entries : List (ℕ × (M × N))) (end : Outgoing M N)
 its_own entries end number named whole = subst (λ (k : ℕ). of_sender k entries ≡ end.sent) named whole
 
 -- with what was left in both links, ledger, connector and broker are through
-pub through : (d : LedgerDesk) (c : Publishing) (b : BrokerDesk) (m : Middle) (acks : List (Outgoing ToBroker (Unit {0})))
+pub through : (d : LedgerDesk) (c : Publishing) (b : BrokerDesk) (m : Middle)
+    (acks : List (Outgoing ToBroker (Unit {0})))
     (left : List (ℕ × (ToConnector × Option Past))) (left_of_packets : List (ℕ × (ToBroker × Unit {0})))
     → AreLeftBy d c m → IsBrokerEnd b → b.finished ≡ true → IsAccount m.inbox (m.replies ∷ b.confirms ∷ []) left
     → All (λ end. CanSend FollowsToConnector end.number end.sent) (m.replies ∷ b.confirms ∷ [])

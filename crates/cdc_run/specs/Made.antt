@@ -1,5 +1,5 @@
 -- The ends of a run before the first turn of any.
-use Rattle.std.specs.Prelude.{◌≡◌, ℕ, ◌+◌, Bool, Option, None, List, [], ◌∷◌, false, length, map}
+use Rattle.std.specs.Prelude.{◌≡◌, ℕ, ◌+◌, Bool, Option, None, List, [], ◌∷◌, length, map}
 use Rattle.cdc_broker.specs.Broker.{empty_broker}
 use Rattle.cdc_ends.specs.BrokerEnds.{BrokerEndState}
 use Rattle.cdc_ends.specs.BrokerTurns.{first_desk as first_broker}
@@ -94,8 +94,8 @@ pub record AreFreshSubscribers (system : ℕ) (acks : LinkId ToBroker) (given : 
   pub subscribers_are : subscribers ≡ made_subscribers system acks 1 inboxes closes
 
 -- over one wiring, with a link for each client and each subscriber, the ends of a run of which none has done anything
-pub record AreMade {S : Type 0} (config : Config) (faults : Faults) (held : Option Saved) (honest : Bool) (ends : Ends S)
-    : Type 0 where
+pub record AreMade {S : Type 0} (config : Config) (faults : Faults) (held : Option Saved) (honest : Bool)
+    (ends : Ends S) : Type 0 where
   pub wiring : Wiring
   pub clients_count : length wiring.to_clients ≡ config.clients
   pub subscribers_count : length wiring.to_subscribers ≡ length config.bindings.items

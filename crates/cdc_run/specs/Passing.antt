@@ -18,7 +18,8 @@ use Rattle.cdc_run.specs.Accounts.{IsAccounted}
 use Rattle.cdc_run.specs.Subscribing.{HasCome, HasPassed, Passage}
 
 -- a ledger's end, a connector and a broker that have finished, wired together, with what was left in the links to the
--- connector and to the broker; and the connector's store is honest, and held nothing or the timestamp 0 as the run began
+-- connector and to the broker; and the connector's store is honest, and held nothing or the timestamp 0 as the run
+-- began
 pub record AreThrough (d : LedgerDesk) (c : Publishing) (b : BrokerDesk) : Type 0 where
   pub desk : IsDesk d
   pub connector : IsConnectorEnd c

@@ -90,8 +90,8 @@ broker_seat end = record {
   bindings = map (λ q. q.binding) end.desk.broker.queues;
 }
 
--- a subscriber's: its system and its number, its inbox, over which link it acknowledges, and after how many events it is
--- to close
+-- a subscriber's: its system and its number, its inbox, over which link it acknowledges, and after how many events it
+-- is to close
 pub record SubscriberSeat : Type 0 where
   pub system : ℕ
   pub number : ℕ

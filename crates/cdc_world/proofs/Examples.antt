@@ -248,7 +248,8 @@ holding session = record start { held = Some (record { session = session; timest
 
 -- and in which the session of this number has just started
 abbrev running : ℕ → WorldState
-running session = record (holding session) { session = Some (new_course (record { session = session; timestamp = 0 }) 1) }
+running session =
+    record (holding session) { session = Some (new_course (record { session = session; timestamp = 0 }) 1) }
 
 -- the store may fail, and lacks no memory
 abbrev failing : Risks

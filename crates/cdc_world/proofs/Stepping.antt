@@ -84,7 +84,8 @@ moves_entry_err {q} {p} {new} step answer why is same moves =
 
 -- a step that is answered as it may be over the risks that are kept
 pub Moves-risked : (p : Parts) (step : Step) (answer : Result Did StepError) (p' : Parts)
-    → MovesBy Next p step answer p' → ((w : WorldState) → Stands p w → IsStepRisked p.risks (next w step) answer) → Moves p step answer p'
+    → MovesBy Next p step answer p'
+    → ((w : WorldState) → Stands p w → IsStepRisked p.risks (next w step) answer) → Moves p step answer p'
 Moves-risked p step answer p' moves risked honest w st =
     let after = moves honest w st in (after.0, (after.1.0, (after.1.1, risked w st)))
 

@@ -1,14 +1,14 @@
-use Rattle.std.proofs.Common.{◌≡◌, ◌∙◌, ℕ, true, false, List, refl, sym, ap, arith, subst, map, inr, rules}
+use Rattle.std.proofs.Common.{◌≡◌, ◌∙◌, ℕ, true, false, List, refl, sym, arith, subst, map, inr, rules}
 use Rattle.std.proofs.lemmas.Bool.{false≢true}
 use Rattle.cdc_ends.specs.ConnectorEnds.{has_finished}
-use Rattle.cdc_ends.specs.SubscriberEnds.{Intake, SubscriberState}
+use Rattle.cdc_ends.specs.SubscriberEnds.{SubscriberState}
 use Rattle.cdc_ledger.specs.History.{History}
 use Rattle.cdc_subscriber.specs.Kept.{Kept}
 use Rattle.cdc_run.specs.ClientMail.{HasFinishedWith as LedgerHasFinishedWith}
 use Rattle.cdc_run.specs.Reports.{AreFinished, AreSubscribed}
-use Rattle.cdc_run.specs.Seats.{broker_seat, connector_seat}
+use Rattle.cdc_run.specs.Seats.{broker_seat}
 use Rattle.cdc_run.specs.Streams.{Middle}
-use Rattle.cdc_run.specs.SubscriberMail.{AreSubscribersOf, HasFinishedWith as BrokerHasFinishedWith, intakes_of}
+use Rattle.cdc_run.specs.SubscriberMail.{AreSubscribersOf, HasFinishedWith as BrokerHasFinishedWith}
 use Rattle.cdc_run.proofs.Refused.{asked_more, handed_on}
 use Rattle.cdc_run.proofs.Reported.{all_subscribed, books_of, finished, left_by, streams_of}
 use Rattle.cdc_run.proofs.Seated.{AreBetween, joined, polls_to, wired}

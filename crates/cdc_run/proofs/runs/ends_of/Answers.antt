@@ -1,9 +1,9 @@
-use Rattle.std.proofs.Common.{◌≡◌, ◌∙◌, ap, sym, refl, rules}
+use Rattle.std.proofs.Common.{◌∙◌, ap, rules}
 use Rattle.std.proofs.lemmas.Iterator.Adapters.{YieldsList-from_vec}
 use Rattle.std.proofs.lemmas.Iterator.Consumers.{YieldsList-end}
 use Rattle.cdc_run.specs.Tasks.{Placed}
 use Rattle.cdc_run.specs.declared.placed.Left.TheVariants as left
-use Rattle.cdc_run.proofs.Found.{Found, all_found, found_client, found_in, found_step, found_subscriber, is_there, of_parts, same_placed}
+use Rattle.cdc_run.proofs.Found.{Found, all_found, found_client, found_step, found_subscriber, is_there, of_parts, same_placed}
 use Rattle.cdc_run.proofs.runs.ends_of.Goals as goal
 
 pub loop-end-preserved-in-Ledger : goal.loop-end-preserved-in-Ledger

@@ -1,12 +1,12 @@
-use Rattle.std.proofs.Common.{◌≡◌, ◌∙◌, ap, sym, List, length, map}
+use Rattle.std.proofs.Common.{◌≡◌, ◌∙◌, sym, List, length, map}
 use Rattle.std.proofs.lemmas.List.{length-map}
 use Rattle.std.proofs.lemmas.Result.{IfOk-weaker}
 use Rattle.cdc_types.specs.declared.batches.Batch.{Batch}
-use Rattle.cdc_run.specs.Reports.{AreSubscribed, HasRun, IsReportOf}
+use Rattle.cdc_run.specs.Reports.{HasRun, IsReportOf}
 use Rattle.cdc_run.specs.Tasks.{places_of}
 use Rattle.cdc_run.proofs.Leaving.{are_left, in_places}
 use Rattle.cdc_run.proofs.Ran.{has_run, have_subscribed, no_client_done}
-use Rattle.cdc_run.proofs.SeatedAt.{all_seated}
+use Rattle.cdc_run.proofs.Seated.{all_seated}
 use Rattle.cdc_run.proofs.runs.run.Goals as goal
 
 -- no client has finished yet

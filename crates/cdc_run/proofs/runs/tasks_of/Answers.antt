@@ -28,8 +28,9 @@ loop-subscriber-preserved g c =
     let count : c.loop-subscriber.number ≡ length c.loop-subscriber.yielded = c.loop-subscriber.invariant.0 in
     let long = length_push c.loop-subscriber.yielded c.in-Some-subscriber.subscriber in (
       omega arith,
-      subscriber_push g.row.S.Denot c.loop-subscriber.number c.loop-subscriber.yielded c.in-Some-subscriber.subscriber _ _ _
-          c.loop-subscriber.invariant.0 c.loop-subscriber.invariant.1 c.in_ok-push-5.ensures.items,
+      subscriber_push g.row.S.Denot c.loop-subscriber.number c.loop-subscriber.yielded
+          c.in-Some-subscriber.subscriber _ _ _ c.loop-subscriber.invariant.0 c.loop-subscriber.invariant.1
+          c.in_ok-push-5.ensures.items,
     )
 
 -- all are listed
@@ -46,7 +47,8 @@ returns g c =
     c.loop-subscriber.yielded c.loop-subscriber.subscriber-iterator c.loop-subscriber.yielded_by
     c.next-in-loop-subscriber.result c.next-in-loop-subscriber.new.self c.in-None-subscriber.is
     c.next-in-loop-subscriber.ensures.steps in
-    all_listed g.row.S.Denot (places_of c.args.ends) c.args.scripts.items c.loop-client.yielded c.loop-subscriber.yielded
-    c.loop-client.tasks.items c.push-2.new.self.items c.push-3.new.self.items c.loop-subscriber.tasks.items
+    all_listed g.row.S.Denot (places_of c.args.ends) c.args.scripts.items c.loop-client.yielded
+    c.loop-subscriber.yielded c.loop-client.tasks.items c.push-2.new.self.items c.push-3.new.self.items
+    c.loop-subscriber.tasks.items
     c.loop-client.invariant pairs.0 c.in_ok-push-3.ensures.items c.in_ok-push-4.ensures.items
     c.loop-subscriber.invariant.1 subscribers.0

@@ -62,7 +62,8 @@ returns-clause-come c d work are =
     c.in_ok-links.links.items (map (λ (x : Consumer). x.link) b.consumers) c.in_ok-mail.ensures.mail.inboxes
     (c.in_ok-links.ensures ∙ ap (map (λ (x : Consumer). x.link)) is.consumers_are) c.in_ok-settle_each.ensures in
     all_come c.passing_laws.ensures.come d work b
-    (through d work b m c.in_ok-mail.mail.acks.items pair.0 link.0 are c.in-Some.ensures.kept over account lawful packets)
+    (through d work b m c.in_ok-mail.mail.acks.items pair.0 link.0 are c.in-Some.ensures.kept over account lawful
+    packets)
     0 c.args.system 1 subscribers b.consumers c.in_ok-mail.ensures.are accounts (λ k x found.
     let same : k ≡ 0 + k = omega arith in
     subst (λ (n : ℕ). slice_get b.consumers n ≡ Some x) same found)

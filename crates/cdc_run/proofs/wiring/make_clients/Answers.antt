@@ -1,5 +1,5 @@
-use Rattle.std.proofs.Common.{◌≡◌, ◌+◌, IfOk, List, ◌∷◌, [], ◌++◌, All, length, get_or, ap, sym, subst, ◌∙◌, arith, map, vec_len}
-use Rattle.std.proofs.lemmas.List.{length-map, length_push, map_push}
+use Rattle.std.proofs.Common.{◌≡◌, ◌+◌, ◌∷◌, [], ◌++◌, length, ap, ◌∙◌, arith}
+use Rattle.std.proofs.lemmas.List.{length_push}
 use Rattle.cdc_links.specs.Links.{Incoming, Outgoing}
 use Rattle.cdc_traffic.specs.declared.messages.ToLedger.{ToLedger}
 use Rattle.cdc_traffic.specs.declared.pasts.Past.{Past}
@@ -15,8 +15,8 @@ new-requires c =
     let loop = c.loop-request in
     let z = c.zip-request-items.ensures in
     let over = is_over c.args.requests.items c.args.answers.items c.into_iter.result c.zip-request-items.result
-    c.into_iter-request-iterator.result c.into_iter.ensures.rest (c.into_iter.ensures.len ∙ c.args.requests.ok.0) z.first
-    z.second.0 (z.second.1 ∙ c.args.answers.ok.0) c.into_iter-request-iterator.ensures.into_iter_gives in
+    c.into_iter-request-iterator.result c.into_iter.ensures.rest (c.into_iter.ensures.len ∙ c.args.requests.ok.0)
+    z.first z.second.0 (z.second.1 ∙ c.args.answers.ok.0) c.into_iter-request-iterator.ensures.into_iter_gives in
     let pair = next_pair c.args.requests.items c.args.answers.items c.into_iter-request-iterator.result
     loop.request-iterator c.next.new.self loop.yielded c.next.result over loop.yielded_by
     c.next.ensures.steps c.requires.requests.0 (c.in-Some.request, c.in-Some.answer) c.in-Some.is
@@ -37,8 +37,8 @@ loop-request-preserved c =
     let pair : Outgoing ToLedger (Unit {0}) × Incoming Reply Past = (c.in-Some.request, c.in-Some.answer) in
     let z = c.zip-request-items.ensures in
     let over = is_over c.args.requests.items c.args.answers.items c.into_iter.result c.zip-request-items.result
-    c.into_iter-request-iterator.result c.into_iter.ensures.rest (c.into_iter.ensures.len ∙ c.args.requests.ok.0) z.first
-    z.second.0 (z.second.1 ∙ c.args.answers.ok.0) c.into_iter-request-iterator.ensures.into_iter_gives in
+    c.into_iter-request-iterator.result c.into_iter.ensures.rest (c.into_iter.ensures.len ∙ c.args.requests.ok.0)
+    z.first z.second.0 (z.second.1 ∙ c.args.answers.ok.0) c.into_iter-request-iterator.ensures.into_iter_gives in
     let number : c.len.result + 1 ≡ 1 + length loop.yielded = omega arith in (
       omega (arith, pushed.len, length_push loop.yielded pair),
       λ link are.
@@ -56,8 +56,8 @@ returns c =
     let loop = c.loop-request in
     let z = c.zip-request-items.ensures in
     let over = is_over c.args.requests.items c.args.answers.items c.into_iter.result c.zip-request-items.result
-    c.into_iter-request-iterator.result c.into_iter.ensures.rest (c.into_iter.ensures.len ∙ c.args.requests.ok.0) z.first
-    z.second.0 (z.second.1 ∙ c.args.answers.ok.0) c.into_iter-request-iterator.ensures.into_iter_gives in
+    c.into_iter-request-iterator.result c.into_iter.ensures.rest (c.into_iter.ensures.len ∙ c.args.requests.ok.0)
+    z.first z.second.0 (z.second.1 ∙ c.args.answers.ok.0) c.into_iter-request-iterator.ensures.into_iter_gives in
     λ link are.
     loop.invariant.1 link are
     ∙ ap (λ links. made_clients c.args.system link 1 links)

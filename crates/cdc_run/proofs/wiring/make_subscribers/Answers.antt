@@ -1,5 +1,5 @@
-use Rattle.std.proofs.Common.{◌≡◌, ◌+◌, IfOk, List, ◌∷◌, [], ◌++◌, All, length, get_or, ap, sym, subst, ◌∙◌, arith, map, vec_len}
-use Rattle.std.proofs.lemmas.List.{length-map, length_push, map_push}
+use Rattle.std.proofs.Common.{◌≡◌, ◌+◌, ◌∷◌, [], ◌++◌, length, ap, subst, ◌∙◌, arith}
+use Rattle.std.proofs.lemmas.List.{length_push}
 use Rattle.cdc_links.specs.Links.{Incoming, Outgoing}
 use Rattle.cdc_traffic.specs.declared.messages.ToBroker.{ToBroker}
 use Rattle.cdc_traffic.specs.declared.messages.ToSubscriber.{ToSubscriber}
@@ -41,8 +41,9 @@ loop-ack-preserved c =
     let number : c.len.result + 1 ≡ 1 + length loop.yielded = omega arith in (
       omega (arith, pushed.len, length_push loop.yielded pair),
       λ link are.
-          let more = subscriber_more c.args.system link c.args.faults.now.close.items loop.yielded pair loop.subscribers.items
-          (c.len.result + 1) c.close_after-close_after.result (loop.invariant.1 link are) number c.close_after-close_after.ensures
+          let more = subscriber_more c.args.system link c.args.faults.now.close.items loop.yielded pair
+          loop.subscribers.items (c.len.result + 1) c.close_after-close_after.result (loop.invariant.1 link are) number
+          c.close_after-close_after.ensures
           (next_pair c.args.acks.items c.args.inboxes.items c.into_iter-ack-iterator.result
           loop.ack-iterator c.next.new.self loop.yielded c.next.result over loop.yielded_by
           c.next.ensures.steps link pair c.in-Some.is are c.requires.inboxes) in

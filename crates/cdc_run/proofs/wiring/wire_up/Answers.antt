@@ -1,4 +1,4 @@
-use Rattle.std.proofs.Common.{◌≡◌, ◌+◌, sym, ap, ◌∙◌, subst, arith, length, vec_len}
+use Rattle.std.proofs.Common.{sym, ap, ◌∙◌, subst, arith, length, vec_len}
 use Rattle.std.specs.Prelude.{Option}
 use Rattle.cdc_links.specs.Links.{Outgoing}
 use Rattle.cdc_traffic.specs.declared.messages.ToBroker.{ToBroker}
@@ -178,6 +178,7 @@ returns-clause-made g c =
     subst (λ m. AreWired c.args.config.clients m w) c.args.config.bindings.ok.0 wired in
     let requests = wired.requests ∙ ap (λ n. fresh_from w.to_ledger.link 1 n) (sym wired.clients) in
     let acks = wired.acks ∙ ap (λ n. fresh_from w.to_broker.link 1 n) (sym wired.subscribers) in
-    are_made c.args.config c.args.faults (g.S.ProgressStore.held c.args.store) (g.S.ProgressStore.is_honest c.args.store)
-    _ w all c.new-2.ensures (c.in_ok-clients.ensures w.to_ledger.link requests) c.new-3.ensures c.in_ok-broker.ensures
+    are_made c.args.config c.args.faults (g.S.ProgressStore.held c.args.store)
+    (g.S.ProgressStore.is_honest c.args.store) _ w all c.new-2.ensures
+    (c.in_ok-clients.ensures w.to_ledger.link requests) c.new-3.ensures c.in_ok-broker.ensures
     (c.in_ok-subscribers.ensures w.to_broker.link acks)

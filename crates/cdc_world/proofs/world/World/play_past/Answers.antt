@@ -27,7 +27,8 @@ returns-in-Err-clause-plays g c =
 
 pub returns-in-Err-clause-fixed : goal.returns-in-Err-clause-fixed
 returns-in-Err-clause-fixed g c =
-    PlayFixesClosed-plays (NextPast c.args.self.now.risks c.args.tries) (AllStay-past c.args.self.now.risks c.args.tries)
+    PlayFixesClosed-plays (NextPast c.args.self.now.risks c.args.tries)
+    (AllStay-past c.args.self.now.risks c.args.tries)
     c.args.self.now c.args.steps.now c.loop-done.done (Some c.in-Err.why) c.step_past.new.self
     (Plays-stopped (NextPast c.args.self.now.risks c.args.tries) c.args.self.now
     c.loop-done.self c.step_past.new.self c.args.steps.now c.loop-done.done
@@ -38,7 +39,8 @@ returns-in-Err-clause-fixed g c =
 
 pub returns-clause-fixed : goal.returns-clause-fixed
 returns-clause-fixed g c =
-    PlayFixesClosed-plays (NextPast c.args.self.now.risks c.args.tries) (AllStay-past c.args.self.now.risks c.args.tries)
+    PlayFixesClosed-plays (NextPast c.args.self.now.risks c.args.tries)
+    (AllStay-past c.args.self.now.risks c.args.tries)
     c.args.self.now c.args.steps.now (length c.args.steps.now) None c.loop-done.self
     (Plays-ended (NextPast c.args.self.now.risks c.args.tries) c.args.self.now c.loop-done.self c.args.steps.now
     c.loop-done.done c.loop-done-test.false

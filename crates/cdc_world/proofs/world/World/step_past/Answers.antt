@@ -7,8 +7,8 @@ loop-init g c = record { within = omega arith; failed = HasFailed-none c.args.se
 
 pub returns-then-not-is_passing-clause-next : goal.returns-then-not-is_passing-clause-next
 returns-then-not-is_passing-clause-next g c =
-    MovesPast-last c.args.self.now c.loop.self c.step-answer.new.self c.args.step.now c.args.tries c.loop.counter c.step-answer.result
-    c.loop.invariant.within
+    MovesPast-last c.args.self.now c.loop.self c.step-answer.new.self c.args.step.now c.args.tries c.loop.counter
+    c.step-answer.result c.loop.invariant.within
     (isnt_passing c.step-answer.result (sym c.is_passing.ensures ∙ c.if-not-is_passing.true))
     c.loop.invariant.failed c.step-answer.ensures.next
 
@@ -18,8 +18,9 @@ returns-then-not-is_passing-clause-honest g c = c.step-answer.ensures.honest ∙
 pub loop-preserved : goal.loop-preserved
 loop-preserved g c = record {
   within = omega arith;
-  failed = HasFailed-more c.args.self.now c.loop.self c.step-answer.new.self c.args.step.now c.loop.counter c.step-answer.result
-      (sym c.is_passing.ensures ∙ c.if-not-is_passing.false) c.loop.invariant.failed c.step-answer.ensures.next
+  failed = HasFailed-more c.args.self.now c.loop.self c.step-answer.new.self c.args.step.now c.loop.counter
+      c.step-answer.result (sym c.is_passing.ensures ∙ c.if-not-is_passing.false) c.loop.invariant.failed
+      c.step-answer.ensures.next
       c.step-answer.ensures.honest c.step-answer.ensures.risks;
 }
 
