@@ -309,7 +309,7 @@ class Sources:
 
 # An error in a proof file that only says that a name is gone, which an edit can bring about without being wrong.
 NAME_IS_GONE = re.compile(r"has no field|is not in scope|has no `")
-FOLLOWS = re.compile(r"was not admitted")
+FOLLOWS = re.compile(r"was not admitted|which was rejected, (was|were) not checked")
 PROVED, REFUSED, NAMES_ONLY, CALLS, UNCLEAR = "proved", "refused", "names only", "calls", "unclear"
 
 
@@ -426,11 +426,13 @@ class Trial:
         edits = [it for it in map(self.read, good) if it]
         alone = [it for it in edits if not it.change]
         grouped = [it for it in edits if it.change]
-        for group in self.groups(grouped):
-            results += self.try_group(*group)
-        # the prover doesn't search where a callee isn't proved, so what called an edit of its group is tried without it
-        for it in [it for it in grouped if it.name not in self.results]:
-            results += self.try_group([it], self.controls({it.change.function}))
+        # (the prover doesn't search where a callee isn't proved, so what calls an edit of its group is left for the next)
+        left, was_told = grouped, True
+        while left:
+            group = self.one_of_each(left) if was_told else left[:1]
+            results += self.try_group(group)
+            count, left = len(left), [it for it in left if it.name not in self.results]
+            was_told = len(left) < count
         for it in alone:
             self.try_alone(it)
         refused = [it.change.function for it in grouped if self.results[it.name].passed]
@@ -464,16 +466,9 @@ class Trial:
         paths = sorted({it.path.partition("::")[2] for it in functions})
         return [word for it in paths for word in ("--only", it)]
 
-    def groups(self, edits):
-        """Parts the edits into groups, each with one edit of a function at the most. With each group come two changes more,
-        one that does no harm and one that has to be refused."""
-        while edits:
-            group, taken, left = [], set(), []
-            for it in edits:
-                (left if it.change.function in taken else group).append(it)
-                taken.add(it.change.function)
-            yield group, self.controls(taken)
-            edits = left
+    def one_of_each(self, edits):
+        """Returns a group: the first edit of each function."""
+        return [*{it.change.function: it for it in reversed(edits)}.values()]
 
     def controls(self, taken):
         """Returns the harmless change, in a function that calls none of those taken, and the false one, in another, which
@@ -497,10 +492,11 @@ class Trial:
         pairs = ("a_harmless_addition", HARMLESS), ("a_false_addition", CONTROL)
         return [self.sources.with_function(*it) for it in pairs]
 
-    def try_group(self, group, own):
-        """Checks the crate once with all edits of the group and the two of the script's own, and reads how each came out."""
+    def try_group(self, group):
+        """Checks the functions of a group's edits once, with all these and two of the script's own, one that does no harm and
+        one that has to be refused, and reads how each came out."""
+        own = self.controls({it.change.function for it in group})
         harmless, control = (it.function for it in own)
-        group = [*group]
         while True:
             changes = [it.change for it in group] + own
             texts, lines = self.sources.with_changes(changes)
