@@ -558,7 +558,8 @@ class Trial:
         quick = {name: self.check(it, ["--only", ""]) for name, it in texts.items()}
         bad = {name: it.first_line() for name, it in quick.items() if it.status}
         if unread and not bad:
-            found = {name: self.check(it).unread(it) for name, it in texts.items()}
+            only = {it.name: self.only([it.change.function]) for it in group}
+            found = {name: self.check(it, only[name]).unread(it) for name, it in texts.items()}
             bad = {name: lines[0] for name, lines in found.items() if lines}
         for it in group:
             if it.name in bad:
