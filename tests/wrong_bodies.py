@@ -74,6 +74,14 @@ def tokens_of(files):
     return [[Token(int(it[1]), int(it[2]), it[3], json.loads(it[4])) for it in row.finditer(part)] for part in parts]
 
 
+def tokens_in(text):
+    """Returns the tokens of a text."""
+    with tempfile.NamedTemporaryFile(suffix=".rt") as copy:
+        copy.write(text)
+        copy.flush()
+        return tokens_of([copy.name])[0]
+
+
 def module_of(file):
     """Returns the path of the module that a file below src/ is, as a list of names."""
     parts = os.path.relpath(file, "src")[: -len(".rt")].split(os.sep)
@@ -235,10 +243,7 @@ class Sources:
         if len(changed) != 1 or changed[0][0] not in self.tokens:
             return None
         file, text = changed[0]
-        with tempfile.NamedTemporaryFile(suffix=".rt") as copy:
-            copy.write(text)
-            copy.flush()
-            tokens = tokens_of([copy.name])[0]
+        tokens = tokens_in(text)
         now, was = self.functions_in(file, tokens), self.functions[file]
         if [it.path for it in now] != [it.path for it in was]:
             return None
@@ -251,6 +256,23 @@ class Sources:
         # (what stands before the body may have got a `mut`, so the whole function is taken)
         start = tokens[other.tokens[0]].start
         return Change(file, function, text[start : other.end])
+
+    def touched(self, texts):
+        """Returns the functions that have another text in these files, each with the lines in which it stands there."""
+        words = lambda tokens, it: [token.text for token in tokens[it.tokens[0] : it.tokens[2] + 1]]
+        found = {}
+        for file, text in texts.items():
+            if file not in self.texts:
+                continue
+            text = text.encode()
+            tokens = tokens_in(text)
+            was = {it.path: it for it in self.functions[file] if self.count[it.path] == 1}
+            for it in self.functions_in(file, tokens):
+                old = was.get(it.path)
+                if old and words(tokens, it) != words(self.tokens[file], old):
+                    places = tokens[it.tokens[0]].start, it.end
+                    found[old] = (file, *(text[:place].count(b"\n") + 1 for place in places))
+        return found
 
     def stands_for_itself(self, function):
         """Returns whether no other function has its path, and no check runs it, so that its body is seen by no other."""
@@ -309,7 +331,7 @@ class Sources:
 
 # An error in a proof file that only says that a name is gone, which an edit can bring about without being wrong.
 NAME_IS_GONE = re.compile(r"has no field|is not in scope|has no `")
-FOLLOWS = re.compile(r"was not admitted")
+FOLLOWS = re.compile(r"was not admitted|which was rejected, (was|were) not checked")
 PROVED, REFUSED, NAMES_ONLY, CALLS, UNCLEAR = "proved", "refused", "names only", "calls", "unclear"
 
 
@@ -426,17 +448,18 @@ class Trial:
         edits = [it for it in map(self.read, good) if it]
         alone = [it for it in edits if not it.change]
         grouped = [it for it in edits if it.change]
-        for group in self.groups(grouped):
-            results += self.try_group(*group)
-        # the prover doesn't search where a callee isn't proved, so what called an edit of its group is tried without it
-        for it in [it for it in grouped if it.name not in self.results]:
-            results += self.try_group([it], self.controls({it.change.function}))
-        for it in alone:
-            self.try_alone(it)
-        refused = [it.change.function for it in grouped if self.results[it.name].passed]
-        if alone or refused:
-            # an edit that is tried alone may touch anything, so beside one the whole crate has to be proved
-            last = self.check({}, [] if alone else self.only(refused))
+        # (the prover doesn't search where a callee isn't proved, so what calls an edit of its group is left for the next)
+        left, was_told = grouped, True
+        while left:
+            group = self.one_of_each(left) if was_told else left[:1]
+            results += self.try_group(group)
+            count, left = len(left), [it for it in left if it.name not in self.results]
+            was_told = len(left) < count
+        refused = {it.change.function for it in grouped if self.results[it.name].passed}
+        refused |= {self.try_alone(it) for it in alone}
+        if refused:
+            # (beside an edit of which no function can be named, the whole crate has to be proved)
+            last = self.check({}, [] if None in refused else self.only(refused))
             if last.is_stale or not last.is_proved:
                 why = f"unedited it is not proved over the kept work, so no answer counts: {last.first_line()}"
                 return self.failure(why)
@@ -464,16 +487,9 @@ class Trial:
         paths = sorted({it.path.partition("::")[2] for it in functions})
         return [word for it in paths for word in ("--only", it)]
 
-    def groups(self, edits):
-        """Parts the edits into groups, each with one edit of a function at the most. With each group come two changes more,
-        one that does no harm and one that has to be refused."""
-        while edits:
-            group, taken, left = [], set(), []
-            for it in edits:
-                (left if it.change.function in taken else group).append(it)
-                taken.add(it.change.function)
-            yield group, self.controls(taken)
-            edits = left
+    def one_of_each(self, edits):
+        """Returns a group: the first edit of each function."""
+        return [*{it.change.function: it for it in reversed(edits)}.values()]
 
     def controls(self, taken):
         """Returns the harmless change, in a function that calls none of those taken, and the false one, in another, which
@@ -497,10 +513,11 @@ class Trial:
         pairs = ("a_harmless_addition", HARMLESS), ("a_false_addition", CONTROL)
         return [self.sources.with_function(*it) for it in pairs]
 
-    def try_group(self, group, own):
-        """Checks the crate once with all edits of the group and the two of the script's own, and reads how each came out."""
+    def try_group(self, group):
+        """Checks the functions of a group's edits once, with all these and two of the script's own, one that does no harm and
+        one that has to be refused, and reads how each came out."""
+        own = self.controls({it.change.function for it in group})
         harmless, control = (it.function for it in own)
-        group = [*group]
         while True:
             changes = [it.change for it in group] + own
             texts, lines = self.sources.with_changes(changes)
@@ -541,7 +558,8 @@ class Trial:
         quick = {name: self.check(it, ["--only", ""]) for name, it in texts.items()}
         bad = {name: it.first_line() for name, it in quick.items() if it.status}
         if unread and not bad:
-            found = {name: self.check(it).unread(it) for name, it in texts.items()}
+            only = {it.name: self.only([it.change.function]) for it in group}
+            found = {name: self.check(it, only[name]).unread(it) for name, it in texts.items()}
             bad = {name: lines[0] for name, lines in found.items() if lines}
         for it in group:
             if it.name in bad:
@@ -566,10 +584,20 @@ class Trial:
             self.put(edit, False, f"CANNOT BE TOLD: {path}: {why[:160]}")
 
     def try_alone(self, edit):
-        """Tries an edit outside a body as `rt must-fail` does."""
+        """Tries an edit of more than one body, and returns the function that was refused. Where it is none of those whose
+        text the edit changes, the edit is tried as `rt must-fail` does it, and no function is returned."""
+        touched = self.sources.touched(edit.texts)
+        answer = self.check(edit.texts, self.only(touched)) if touched else None
+        if answer and answer.is_refused and not answer.is_stale and not answer.unread(edit.texts):
+            for function, lines in touched.items():
+                how, why = answer.of(function.path, lines)
+                if how == REFUSED:
+                    self.put(edit, True, f"refused, alone: {why[:160]}")
+                    return function
         passed, text = rt.must_fail(self.crate, edit.path, ONE_JOB, self.kept)
-        said = text.partition(": ")[2].replace("refused, as it must be", "refused, alone")
+        said = text.partition(": ")[2].replace("refused, as it must be", "refused, alone, by the whole crate")
         self.put(edit, passed, said)
+        return None
 
 
 # ---------------------------------------------------------------------------------------------------------------------

@@ -1,6 +1,6 @@
 //! That a broker's end without peers says so, and that it finds memory: it answers, hands out, and finishes.
 
-ghost use Rattle.std.specs.Prelude.{◌≡◌, []};
+ghost use Rattle.std.specs.Prelude.{◌≡◌, [], vec_len};
 
 use crate::names::Nothing;
 use cdc_ends::{BrokerEnd, BrokerPlan, RunFault, Turn};
@@ -13,7 +13,9 @@ use std::process::Abort;
 use std::sync::Wait;
 
 // The bindings of one subscriber, to all events.
-fn all_events(rt: &impl Abort, alloc: Global) -> Vec<Binding> {
+fn all_events(rt: &impl Abort, alloc: Global) -> Vec<Binding>
+    ensures { vec_len result ≡ 1 }
+{
     let binding = Binding::parse(alloc, &["all"]).expect(rt, "a binding");
     let mut bindings = Vec::new(alloc);
     bindings.push(binding).expect(rt, "memory");
