@@ -24,7 +24,8 @@ use Rattle.cdc_traffic.specs.declared.requests.Reply.{Reply}
 -- ---- made
 
 -- the next after so many
-slice_at : {A : Type 0} (before : List A) (x : A) (rest : List A) → slice_get (before ++ x ∷ rest) (length before) ≡ Some x
+slice_at : {A : Type 0} (before : List A) (x : A) (rest : List A)
+    → slice_get (before ++ x ∷ rest) (length before) ≡ Some x
 slice_at [] x rest = refl
 slice_at (first ∷ before) x rest = slice_at before x rest
 
@@ -140,7 +141,8 @@ same_seats {l} {l'} {c} {c'} {k} {k'} {b} {b'} {s} {s'} ledger clients connector
 -- ---- to be settled
 
 -- what is so of what is read of each is so of each
-read_back : {A B : Type 0} (P : B → Type 0) (read : A → B) (xs : List A) → All P (map read xs) → All (λ x. P (read x)) xs
+read_back : {A B : Type 0} (P : B → Type 0) (read : A → B) (xs : List A) → All P (map read xs)
+    → All (λ x. P (read x)) xs
 read_back P read xs all = λ k d below.
     let within : k < length (map read xs) = omega (arith, length-map xs read) in
     subst P (get_or-map read xs k d) (all k (read d) within)
