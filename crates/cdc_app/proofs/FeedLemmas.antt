@@ -22,7 +22,7 @@ use Rattle.cdc_types.specs.Widths.{max_64}
 use Rattle.cdc_subscriber.specs.Heard.{nothing, next, kept_of}
 use Rattle.cdc_subscriber.specs.Kept.{Kept}
 use Rattle.cdc_app.specs.Feeds.{hearing}
-use Rattle.cdc_app.specs.Private.Queues.{TakesNext, filled, filled_queues, hearing_delivery}
+use Rattle.cdc_app.specs.Private.Queues.{TakesDelivery, filled, filled_queues, hearing_delivery}
 use Rattle.cdc_app.proofs.Places.{take_found}
 use Rattle.std.proofs.lemmas.List.Elements.{filter-append}
 
@@ -164,7 +164,7 @@ hearing-push items item = fold-append next nothing items (item ∷ [])
 pub IsTaking-more : (i counter : ℕ) (old now new : BrokerState) (before after : Kept) (item : Item)
     → i - 1 < length old.queues
     → IsTaking i counter old now before → slice_get (queue_of old i).items counter ≡ Some item
-    → TakesNext i now new before after → IsTaking i (counter + 1) old new after
+    → TakesDelivery i now new before after → IsTaking i (counter + 1) old new after
 IsTaking-more i counter old now new before after item inside taking found takes =
     let q = taking.queue in
     let this : queue_of now i ≡ q = ap (λ s. queue_of s i) taking.now_is ∙ queue_of-with_queue old i q inside in

@@ -1,10 +1,8 @@
 -- What a subscriber keeps that has taken its whole queue of a closed ledger.
-use Rattle.std.proofs.Common.{◌≡◌, ℕ, ◌+◌, ◌-◌, ◌<◌, ◌≤◌, ◌^◌, Bool, true, false, List, [], ◌∷◌, ◌++◌, refl, sym, ap, ap₂, ◌∙◌, map, length, append_assoc, append-nil, subst, arith}
-use Rattle.std.specs.Prelude.{◌||◌, filter, fold, min, if◌then◌else◌}
-use Rattle.std.specs.List.{AllByRecursion, list_any}
+use Rattle.std.proofs.Common.{◌≡◌, ℕ, ◌+◌, ◌-◌, ◌<◌, ◌≤◌, ◌^◌, Bool, true, false, List, [], ◌∷◌, refl, sym, ap, ap₂, ◌∙◌, map, length, append-nil, subst, arith}
+use Rattle.std.specs.Prelude.{filter, min, if◌then◌else◌}
+use Rattle.std.specs.List.{AllByRecursion}
 use Rattle.std.proofs.lemmas.List.{length-map}
-use Rattle.std.proofs.lemmas.List.Folds.{list_any-append}
-use Rattle.std.proofs.lemmas.List.Sums.{fold-append}
 use Rattle.cdc_types.specs.declared.events.Entry.{Entry}
 use Rattle.cdc_types.specs.declared.events.Event.{Event}
 use Rattle.cdc_types.specs.Timestamps.{last_timestamp}
@@ -17,15 +15,14 @@ use Rattle.cdc_ledger.proofs.SoundLaws.{IsSound-empty, IsSound-closed}
 use Rattle.cdc_match.specs.Arguments.{Arguments}
 use Rattle.cdc_match.specs.Queue.{queue, takes_event}
 use Rattle.cdc_message.specs.declared.items.Item.{Item}
-use Rattle.cdc_message.specs.declared.items.Item.TheVariants.{Event as OfEvent, EndMark}
 use Rattle.cdc_message.specs.Replays.{IsPrefix, IsReplay}
 use Rattle.cdc_subscriber.specs.Book.{accounts_of, book_of}
-use Rattle.cdc_subscriber.specs.Heard.{Heard, has_ended, is_end, next, nothing}
+use Rattle.cdc_subscriber.specs.Heard.{Heard, has_ended}
 use Rattle.cdc_subscriber.specs.Kept.{Kept}
 use Rattle.cdc_laws.specs.Faithful.{IsFaithful, applied}
 use Rattle.cdc_laws.specs.Line.{feed_of, line, told}
 use Rattle.cdc_laws.proofs.Books.{book_of-prefix}
-use Rattle.cdc_laws.proofs.Faithful.{hears-all, kept_of-line}
+use Rattle.cdc_laws.proofs.Faithful.{hears-all, hears-told, kept_of-line}
 use Rattle.cdc_laws.proofs.Feeds.{queue-line}
 use Rattle.cdc_laws.proofs.Replays.{IsReplay-same}
 use Rattle.cdc_script.specs.declared.scripts.Script.{Script}
@@ -63,35 +60,6 @@ length_filter p (e ∷ es) = kept_or_not (p e) (length_filter p es)
     kept_or_not true rest = omega (arith, rest)
     kept_or_not false rest = omega (arith, rest)
 
--- ---- what is heard of a queue
-
--- of events alone each is heard
-heard_more : (before : List Item) (es : List Event) → list_any is_end before ≡ false
-    → fold next (record { items = before; closed = false }) (map OfEvent es)
-    ≡ record { items = before ++ map OfEvent es; closed = false }
-heard_more before [] none =
-    ap (λ (items : List Item). record { items = items; closed = false }) (sym (append-nil before))
-heard_more before (e ∷ es) none =
-    ap (λ (b : Bool). fold next (if b then record { items = before; closed = false }
-    else record { items = before ++ OfEvent e ∷ []; closed = false }) (map OfEvent es)) none
-    ∙ heard_more (before ++ OfEvent e ∷ []) es
-    (list_any-append is_end before (OfEvent e ∷ []) ∙ ap (λ b. b || false) none)
-    ∙ ap (λ (items : List Item). record { items = items; closed = false })
-    (append_assoc before (OfEvent e ∷ []) (map OfEvent es))
-
--- among the messages of events there is no end mark
-no_end : (es : List Event) → list_any is_end (map OfEvent es) ≡ false
-no_end [] = refl
-no_end (e ∷ es) = no_end es
-
--- and then the end
-hearing_told : (es : List Event) → hearing (told es true) ≡ record { items = told es true; closed = false }
-hearing_told es =
-    fold-append next nothing (map OfEvent es) (EndMark ∷ [])
-    ∙ ap (λ (heard : Heard). next heard EndMark) (heard_more [] es refl)
-    ∙ ap (λ (b : Bool). if b then record { items = map OfEvent es; closed = false }
-    else record { items = map OfEvent es ++ EndMark ∷ []; closed = false }) (no_end es)
-
 -- ---- a subscriber of a closed ledger
 
 module _ (h : History) (binding : Arguments) (is : sound.IsSound h) (shut : h.closed ≡ true) where
@@ -102,7 +70,7 @@ module _ (h : History) (binding : Arguments) (is : sound.IsSound h) (shut : h.cl
   -- it hears it all
   hears_queue : heard_of (line h) binding ≡ record { items = queue (line h) binding; closed = false }
   hears_queue =
-      ap hearing whole_queue ∙ hearing_told (feed_of h binding)
+      ap hearing whole_queue ∙ hears-told (feed_of h binding)
       ∙ ap (λ (items : List Item). record { items = items; closed = false }) (sym whole_queue)
 
   -- so it has ended and is faithful

@@ -10,7 +10,8 @@ use thiserror::Error;
 /// What the words ask for.
 #[derive(Drop)]
 pub enum Options<'a> {
-    /// The results of a script's batches and the book of a subscriber, of the script in this file; `-` is standard input.
+    /// The results of a script's batches and the book of a subscriber, of the script in this file; `-` is standard
+    /// input.
     Books {
         file: &'a str,
         /// Whether standard error says why each item wasn't accepted.
@@ -36,8 +37,8 @@ pub enum Options<'a> {
         plan: RunPlan,
         progress: Option<&'a str>,
     },
-    /// Whether the script in the first file is good, and the step file, where one is named; `-` as the script is standard
-    /// input.
+    /// Whether the script in the first file is good, and the step file, where one is named; `-` as the script is
+    /// standard input.
     Check {
         file: &'a str,
         steps: Option<&'a str>,

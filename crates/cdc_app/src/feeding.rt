@@ -6,7 +6,7 @@ ghost use Rattle.cdc_subscriber.specs.Heard.{kept_of};
 ghost use Rattle.cdc_subscriber.specs.Lines.{subscriber_text};
 ghost use Rattle.cdc_laws.specs.Line.{told};
 ghost use Rattle.cdc_app.specs.Feeds.{hearing};
-ghost use Rattle.cdc_app.specs.Private.Queues.{ChangesQueue, IsUntaken, TakesNext};
+ghost use Rattle.cdc_app.specs.Private.Queues.{ChangesQueue, IsUntaken, TakesDelivery};
 ghost use Rattle.cdc_app.specs.Private.Queues.{filled_queues, takers_text};
 
 use cdc_broker::Broker;
@@ -19,7 +19,8 @@ use std::alloc::{AllocError, Global};
 /// The number of the one connection.
 const CONNECTION: u64 = 1;
 
-/// A broker with a queue for each binding, to which the events of a closed ledger were published, and then the end mark.
+/// A broker with a queue for each binding, to which the events of a closed ledger were published, and then the end
+/// mark.
 pub fn publish_log(
     alloc: Global,
     bindings: Vec<Binding>,
@@ -92,7 +93,7 @@ fn take_next(
 ) -> Result<(), AllocError>
     requires first { 0 < i }
     requires last { i ≤ length broker.old.queues }
-    ensures { OnOk result (TakesNext i broker.old broker.new subscriber.old subscriber.new) }
+    ensures { OnOk result (TakesDelivery i broker.old broker.new subscriber.old subscriber.new) }
 {
     if let Some(delivery) = broker.next_for(alloc, i)? {
         subscriber.take(alloc, &delivery).map_err(want_of_memory)?;

@@ -116,8 +116,8 @@ fn run_messages(rt: &HostRuntime, file: &str) -> Ending {
     ending
 }
 
-/// Runs `simulate` over the script and the step file of these names, and tells on standard error what is asked for, why a
-/// step was refused, or why the command gave up.
+/// Runs `simulate` over the script and the step file of these names, and tells on standard error what is asked for, why
+/// a step was refused, or why the command gave up.
 fn run_simulation(
     rt: &HostRuntime,
     file: &str,

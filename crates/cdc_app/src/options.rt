@@ -222,8 +222,8 @@ fn asked_of<'a>(
     }
 }
 
-/// A simulation of these files, with the window that a word says, or that of one event; where only a check is asked for,
-/// that of the files.
+/// A simulation of these files, with the window that a word says, or that of one event; where only a check is asked
+/// for, that of the files.
 fn simulation<'a>(
     alloc: Global,
     file: &'a str,

@@ -1,6 +1,6 @@
 //! What standard error tells of a command that was done, beside what it printed: why items weren't accepted, why a step
-//! was refused, and what each step did. Where memory runs out on the way nothing is told, and a write that fails is passed
-//! over: the command has ended by then.
+//! was refused, and what each step did. Where memory runs out on the way nothing is told, and a write that fails is
+//! passed over: the command has ended by then.
 
 ghost use Rattle.cdc_app.specs.Options.{IsWindow};
 
@@ -45,7 +45,8 @@ pub fn hint(rt: &HostRuntime, printed: &[u8], why: &str) {
     );
 }
 
-/// Tells a simulation as it is asked for, and why a step was refused, where one was. Says whether it could tell the latter.
+/// Tells a simulation as it is asked for, and why a step was refused, where one was. Says whether it could tell the
+/// latter.
 pub fn tell_simulation(rt: &HostRuntime, inputs: Inputs<'_>, telling: Telling<'_>) -> bool
     requires { IsWindow inputs.window }
 {

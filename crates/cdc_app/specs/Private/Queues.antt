@@ -39,8 +39,8 @@ hearing_delivery None heard = heard
 hearing_delivery (Some delivery) heard = next heard delivery.item
 
 -- a subscriber that stands for what it has heard takes what a queue hands out next, if there is something
-abbrev pub TakesNext : ℕ → BrokerState → BrokerState → Kept → Kept → Type 0
-TakesNext i old new before after =
+abbrev pub TakesDelivery : ℕ → BrokerState → BrokerState → Kept → Kept → Type 0
+TakesDelivery i old new before after =
     (new ≡ with_queue i (with_delivery (next_delivery (queue_of old i)) (queue_of old i)) old)
     × ((heard : Heard) → before ≡ kept_of heard
     → after ≡ kept_of (hearing_delivery (next_delivery (queue_of old i)) heard))

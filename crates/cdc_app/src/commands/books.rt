@@ -1,5 +1,5 @@
-//! The command `books`: the results of a script's batches, and the books of its subscribers, each of which has taken its
-//! queue of what was published.
+//! The command `books`: the results of a script's batches, and the books of its subscribers, each of which has taken
+//! its queue of what was published.
 
 ghost use Rattle.std.specs.Prelude.{◌≡◌, ◌+◌, IfErr, IfOk, IfSome};
 ghost use Rattle.cdc_match.specs.Arguments.{Arguments};

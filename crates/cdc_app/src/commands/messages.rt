@@ -22,9 +22,9 @@ use itoa::Integer;
 use std::alloc::{AllocError, Global};
 use std::io::{Read, Write};
 
-/// What `messages` prints for the bytes of a script, and how it ends: for each event a line of what its message is routed
-/// by and of its second, and a line that is its body (TigerBeetle, Change Data Capture, headers and message body); of a
-/// bad script its fault. There is none where no memory was left.
+/// What `messages` prints for the bytes of a script, and how it ends: for each event a line of what its message is
+/// routed by and of its second, and a line that is its body (TigerBeetle, Change Data Capture, headers and message
+/// body); of a bad script its fault. There is none where no memory was left.
 pub fn messages_of(alloc: Global, bytes: &[u8]) -> Result<Output, AllocError>
     ensures output { IfOk result (λ output. outcome_of output ≡ messages_outcome bytes.now) }
     ensures ending { IfOk result (λ output. IsScriptEnding output.ending) }
@@ -39,8 +39,8 @@ pub fn messages_of(alloc: Global, bytes: &[u8]) -> Result<Output, AllocError>
     }
 }
 
-/// Reads a script, and prints what `messages_of` says of its bytes. A command that gives up prints why, and nothing else;
-/// nothing is written after a write that failed.
+/// Reads a script, and prints what `messages_of` says of its bytes. A command that gives up prints why, and nothing
+/// else; nothing is written after a write that failed.
 pub fn messages<R: Read, W: Write>(alloc: Global, reader: &mut R, writer: &mut W) -> Ending
     ensures writes { Writes (PrintsOutcome messages_outcome (R.remaining reader.old))
         (W.contents writer.old) (W.contents writer.new) result }

@@ -16,10 +16,10 @@ use cdc_script::{ReadError, Script, ScriptError, parse_script, parse_steps, read
 use std::alloc::Global;
 use std::io::{Read, Write};
 
-/// What `simulate` prints for the bytes of a script and of a step file, and how it ends: the steps are taken in order, up
-/// to the first that is refused, and it prints the results of the batches that were taken, how many steps were done, what
-/// the session has saved, and what each subscriber then holds; of a bad script or a bad step file its fault. There is
-/// none where no memory was left.
+/// What `simulate` prints for the bytes of a script and of a step file, and how it ends: the steps are taken in order,
+/// up to the first that is refused, and it prints the results of the batches that were taken, how many steps were done,
+/// what the session has saved, and what each subscriber then holds; of a bad script or a bad step file its fault. There
+/// is none where no memory was left.
 pub fn simulation_of(
     alloc: Global,
     script: &[u8],
