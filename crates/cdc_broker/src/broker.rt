@@ -34,11 +34,21 @@ pub enum Taken {
 
 /// A broker in memory, with a queue for each binding, numbered from 1. A clause sees the current connection, the tag that
 /// is taken next, and the queues.
-#[derive(Drop)]
 pub struct Broker {
     connection: u64,
     expected: Option<u64>,
     queues: Vec<Queue>,
+}
+
+// By hand, so that whoever lets go of a broker calls this, and doesn't take it apart anew.
+impl Drop for Broker {
+    fn drop(self) {
+        let Broker {
+            connection: _,
+            expected: _,
+            queues: _,
+        } = self;
+    }
 }
 
 impl Model for Broker {

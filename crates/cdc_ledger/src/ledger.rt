@@ -24,9 +24,15 @@ use std::marker::Model;
 
 /// A ledger: accounts and transfers, taken in batches, and the events that they make. A clause sees its history: all
 /// that was ever accepted, the last timestamp, and whether it is closed.
-#[derive(Drop)]
 pub struct Ledger {
     tables: Tables,
+}
+
+// By hand, so that whoever lets go of a ledger calls this, and doesn't take it apart anew.
+impl Drop for Ledger {
+    fn drop(self) {
+        let Ledger { tables: _ } = self;
+    }
 }
 
 impl Model for Ledger {

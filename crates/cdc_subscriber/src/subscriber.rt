@@ -33,13 +33,25 @@ pub enum Taking {
 /// A subscriber. Events may come to it in any order and again; it applies those that are later than all before;
 /// it keeps the book of what it has applied. Once it has heard the end, or is closed, it applies no more. A clause sees
 /// what its readers give: for whatever list of items it heard, that is `kept_of` of this list.
-#[derive(Drop)]
 pub struct Subscriber {
     book: Book,
     last: u64,
     applied: u64,
     ended: bool,
     closed: bool,
+}
+
+// By hand, so that whoever lets go of a subscriber calls this, and doesn't take it apart anew.
+impl Drop for Subscriber {
+    fn drop(self) {
+        let Subscriber {
+            book: _,
+            last: _,
+            applied: _,
+            ended: _,
+            closed: _,
+        } = self;
+    }
 }
 
 impl Model for Subscriber {
