@@ -501,9 +501,10 @@ class Trial:
             if it not in taken
             and self.sources.stands_for_itself(it)
             and not it.names & {"|", "||", "fn"}
+            and it.path.rpartition("::")[2] != "drop"
             and not any(os.path.isdir(f"{self.crate.folder}/{folder}") for folder in proof_folders(it.path))
         ]
-        # (what they call is checked too, so those that call little come first)
+        # (a check has no name for a `drop`; what the others call is checked too, so those that call little come first)
         free.sort(key=lambda it: (len(self.sources.reached_from(it)), it.end - it.start))
         for control in (it for it in free if it not in reached):
             for harmless in free:
