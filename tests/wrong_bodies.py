@@ -51,9 +51,9 @@ ONE_JOB = ["--jobs", "1"]
 # The functions of a source file, and what an edit changes of it.
 
 # A function: its full path as a check prints it, the bytes of its body with the braces, the places in the list of
-# tokens where its text begins and where its body begins and ends (none for one that the script adds), and the words that
-# its body has.
-Function = namedtuple("Function", "path start end tokens names")
+# tokens where its text begins and where its body begins and ends (none for one that the script adds), the words that its
+# body has, and whether it is of an impl of a trait.
+Function = namedtuple("Function", "path start end tokens names is_of_trait")
 Token = namedtuple("Token", "start end kind text")
 # An edit that changes one function's body and nothing else: the file, the function, and its other body.
 Change = namedtuple("Change", "file function body")
@@ -154,7 +154,7 @@ def functions_of(crate_name, file, tokens, homes):
     trait's are named by the module of their type."""
     # (clauses are antt's text; braces count in Rattle's own code alone)
     code = [(at, it) for at, it in enumerate(tokens) if it.kind == "Code"]
-    scope, head, found, place = [(0, module_of(file))], [], [], 0
+    scope, head, found, place = [(0, module_of(file), False)], [], [], 0
     depth = 0
 
     def closing(place):
@@ -179,18 +179,18 @@ def functions_of(crate_name, file, tokens, homes):
                 path = "::".join([crate_name, *scope[-1][1], name])
                 names = frozenset(it.text for _, it in code[place : end + 1])
                 span = (head[0][0], at, code[end][0])
-                found.append(Function(path, token.start, code[end][1].end, span, names))
+                found.append(Function(path, token.start, code[end][1].end, span, names, scope[-1][2]))
                 place = end
             elif word == "{":
                 depth += 1
-                inner = [*scope[-1][1]]
+                inner, is_of_trait = [*scope[-1][1]], kind == "impl" and "for" in words
                 if kind in ("impl", "trait"):
                     owner = owner_of(words[words.index(kind) :])
-                    is_own = kind == "impl" and "for" not in words
+                    is_own = kind == "impl" and not is_of_trait
                     inner = [*(homes.get(owner, inner) if is_own else inner), owner]
                 elif kind == "mod":
                     inner.append(words[words.index("mod") + 1])
-                scope.append((depth, inner))
+                scope.append((depth, inner, is_of_trait))
             elif word == "}":
                 depth -= 1
                 scope.pop()
@@ -309,7 +309,7 @@ class Sources:
         while any(name.encode() in it for it in self.texts.values()):
             name += "_"
         end = len(self.texts[file])
-        function = Function(f"{self.crate.name}::{name}", end, end, None, frozenset())
+        function = Function(f"{self.crate.name}::{name}", end, end, None, frozenset(), False)
         return Change(file, function, f"\nfn {name}() {{\n    {statement}\n}}\n".encode())
 
     def reached_from(self, function):
@@ -501,10 +501,10 @@ class Trial:
             if it not in taken
             and self.sources.stands_for_itself(it)
             and not it.names & {"|", "||", "fn"}
-            and it.path.rpartition("::")[2] != "drop"
+            and not it.is_of_trait
             and not any(os.path.isdir(f"{self.crate.folder}/{folder}") for folder in proof_folders(it.path))
         ]
-        # (a check has no name for a `drop`; what the others call is checked too, so those that call little come first)
+        # (what they call is checked too, so those that call little come first)
         free.sort(key=lambda it: (len(self.sources.reached_from(it)), it.end - it.start))
         for control in (it for it in free if it not in reached):
             for harmless in free:
