@@ -1,17 +1,19 @@
 //! The ends of a link.
 
-ghost use Rattle.std.specs.Prelude.{◌≡◌, ◌<◌, ◌-◌, ◌^◌, ℕ, [], ◌∷◌, ◌++◌, List, length, All, sum_by, min, IfOk, IfErr, vec_len};
-ghost use Rattle.crossbeam_channel.specs.Claims.{view as known};
-ghost use Rattle.crossbeam_channel.specs.Ends.{sends_on};
+ghost use Rattle.std.specs.Prelude.{◌≡◌, ◌<◌, ◌-◌, ◌^◌, ℕ, true, [], ◌∷◌, ◌++◌, List, length, All, sum_by, min, IfOk, IfErr, vec_len};
+ghost use Rattle.crossbeam_channel.specs.Claims.{IsSeatAt, view as known};
+ghost use Rattle.crossbeam_channel.specs.Ends.{receives_on, sends_on};
 ghost use Rattle.cdc_links.specs.declared.errors.LinkFault.TheVariants.{PeerGone, OutOfMemory};
 ghost use Rattle.cdc_links.specs.Links.{of_sender, fresh_end, fresh_ends, with_sent, with_sender, Takes, CanSend, IsAccount};
-ghost use Rattle.cdc_links.specs.Rule.{IsPassOf, IsReceiver, HasTakenNone, with_joined, with_all_joined, IsSettled, IsLinkOf};
+ghost use Rattle.cdc_links.specs.Rule.{IsPassOf, Received, IsReceiver, HasTakenNone, with_joined, with_all_joined, IsSettled, IsLinkOf};
 
 use crate::errors::{LinkFault, SendRefused};
 use crate::messages::{Message, Naming};
+use crate::patience::Patience;
 use crate::rule::{HandsBack, Knowledge, Parcel, Receives, Ruled, Seats, Sends, Settles, TakesIn};
-use crossbeam_channel::{Pass, RuledReceiver, RuledSender, bounded_with};
+use crossbeam_channel::{Pass, RecvError, RuledReceiver, RuledSender, TryRecvError, bounded_with};
 use std::alloc::{AllocError, Global};
+use std::hint::spin_loop;
 use std::marker::Model;
 use std::sync::Wait;
 
@@ -150,6 +152,7 @@ impl<M: Message> Handed<M> {
 #[derive(Drop)]
 pub struct LinkIn<M: Message> {
     received: u64,
+    patience: Patience,
     receiver: RuledReceiver<Parcel<M>, Knowledge<M, M::Name>, Ruled>,
     pass: Pass<Parcel<M>, Knowledge<M, M::Name>>,
 }
@@ -165,6 +168,36 @@ impl<M: Message> Model for LinkIn<M> {
     ghost invariant = { λ into. KeepsIn M.may_follow into.receiver into.pass into.received };
 }
 
+// The parcel at the front. Where there is none it looks again, as often as that has paid lately, and then sleeps until
+// there is one.
+fn next_parcel<M: Message, R: Wait>(
+    rt: &R,
+    receiver: &RuledReceiver<Parcel<M>, Knowledge<M, M::Name>, Ruled>,
+    pass: &mut Pass<Parcel<M>, Knowledge<M, M::Name>>,
+    patience: &mut Patience,
+) -> Result<Parcel<M>, RecvError>
+    requires channel { IsSeatAt (receives_on receiver.now) pass.old }
+    requires receiver { (known pass.old).receives ≡ true }
+    ensures channel { IsSeatAt (receives_on receiver.now) pass.new }
+    ensures received { IfOk result (λ parcel. Received M.may_follow (known pass.old) parcel (known pass.new)) }
+    ensures refused { IfErr result (λ _. known pass.new ≡ known pass.old) }
+{
+    for look in 0..patience.looks() {
+        match receiver.try_recv_as::<Receives, R>(rt, pass) {
+            Ok(parcel) => {
+                if look > 0 {
+                    patience.note_found();
+                }
+                return Ok(parcel);
+            }
+            Err(TryRecvError::Disconnected) => return Err(RecvError),
+            Err(TryRecvError::Empty) => spin_loop(),
+        }
+    }
+    patience.note_sleep();
+    receiver.recv_as::<Receives, R>(rt, pass)
+}
+
 impl<M: Message> LinkIn<M> {
     /// Receives the message at the front. It waits while there is none. Where the senders are gone, or 2^64 - 1 messages
     /// were received, nothing has changed.
@@ -175,7 +208,7 @@ impl<M: Message> LinkIn<M> {
         if self.received == u64::MAX {
             return Err(LinkFault::PeerGone);
         }
-        match self.receiver.recv_as::<Receives, R>(rt, &mut self.pass) {
+        match next_parcel(rt, &self.receiver, &mut self.pass, &mut self.patience) {
             Ok(parcel) => {
                 self.received += 1;
                 Ok(parcel.value)
@@ -217,6 +250,7 @@ impl<M: Message> LinkIn<M> {
         >(alloc, capacity)?;
         let into = LinkIn {
             received: 0,
+            patience: Patience::new(),
             receiver,
             pass,
         };
@@ -307,6 +341,7 @@ pub fn settle<M: Message>(into: LinkIn<M>, handed: Vec<Handed<M>>) -> Tally
 {
     let LinkIn {
         received,
+        patience: _,
         receiver: _,
         mut pass,
     } = into;

@@ -5,6 +5,7 @@
 mod ends;
 pub mod errors;
 mod messages;
+mod patience;
 mod rule;
 
 pub use ends::{Handed, LinkIn, LinkOut, Tally, link, settle};
