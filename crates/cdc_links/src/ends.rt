@@ -231,6 +231,7 @@ impl<M: Message> LinkIn<M> {
     fn new(
         alloc: Global,
         capacity: usize,
+        patience: Patience,
     ) -> Result<
         (
             RuledSender<Parcel<M>, Knowledge<M, M::Name>, Ruled>,
@@ -250,7 +251,7 @@ impl<M: Message> LinkIn<M> {
         >(alloc, capacity)?;
         let into = LinkIn {
             received: 0,
-            patience: Patience::new(),
+            patience,
             receiver,
             pass,
         };
@@ -292,7 +293,7 @@ pub fn link<M: Message>(
     ensures memory { IfErr result (λ fault. fault ≡ OutOfMemory) }
 {
     let mut outs = Vec::with_capacity(alloc, senders)?;
-    let (sender, mut into) = LinkIn::<M>::new(alloc, capacity)?;
+    let (sender, mut into) = LinkIn::<M>::new(alloc, capacity, Patience::new(senders))?;
     while outs.len() < senders {
         let end = into.add_sender(&sender, outs.len() as u64)?;
         outs.push_reserved(end);

@@ -2,7 +2,7 @@
 
 /// How often a receiver that has to wait looks for a message before it sleeps. Where another processor is at work on the
 /// answer, that comes sooner than a sleeper wakes; where the answer needs this very processor, each look puts it off. So
-/// an end looks as often as has paid lately.
+/// an end looks as often as has paid lately, or never.
 #[derive(Clone, Copy)]
 pub(crate) struct Patience {
     looks: u32,
@@ -17,15 +17,16 @@ const MOST_LOOKS: u32 = 256;
 const SLEEPS_UNTIL_TRIED: u32 = 64;
 
 impl Patience {
-    /// That of a new end, which looks as often as any may.
-    pub(crate) fn new() -> Patience {
+    /// That of a new end. One that several send to stands between them, and they wait for it. One of a single sender is
+    /// where a way ends: it leaves the processor to the others, and never looks.
+    pub(crate) fn new(senders: usize) -> Patience {
         Patience {
-            looks: MOST_LOOKS,
+            looks: if senders > 1 { MOST_LOOKS } else { 0 },
             sleeps: 0,
         }
     }
 
-    /// How often to look before the next sleep, at least once.
+    /// How often to look before the next sleep.
     pub(crate) fn looks(&self) -> u32 {
         self.looks
     }
@@ -35,8 +36,11 @@ impl Patience {
         self.looks = MOST_LOOKS;
     }
 
-    /// No message came, and the end sleeps.
+    /// No message came, and the end sleeps. One that looks at all does so at least once.
     pub(crate) fn note_sleep(&mut self) {
+        if self.looks == 0 {
+            return;
+        }
         self.sleeps = self.sleeps.wrapping_add(1);
         self.looks = if self.sleeps.is_multiple_of(SLEEPS_UNTIL_TRIED) {
             MOST_LOOKS

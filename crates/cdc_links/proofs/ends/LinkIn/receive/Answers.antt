@@ -1,4 +1,4 @@
-use Rattle.std.proofs.Common.{ap, sym, ◌∙◌}
+use Rattle.std.proofs.Common.{sym, ◌∙◌}
 use Rattle.crossbeam_channel.specs.Claims.{view as known}
 use Rattle.cdc_links.proofs.Stays.{received_stays, received_answer}
 use Rattle.cdc_links.proofs.ends.LinkIn.receive.Goals as goal
