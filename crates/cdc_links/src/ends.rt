@@ -179,7 +179,8 @@ fn next_parcel<M: Message, R: Wait>(
     requires channel { IsSeatAt (receives_on receiver.now) pass.old }
     requires receiver { (known pass.old).receives ≡ true }
     ensures channel { IsSeatAt (receives_on receiver.now) pass.new }
-    ensures received { IfOk result (λ parcel. Received M.may_follow (known pass.old) parcel (known pass.new)) }
+    ensures received { IfOk result (λ parcel.
+        Received M.may_follow (known pass.old) parcel (known pass.new)) }
     ensures refused { IfErr result (λ _. known pass.new ≡ known pass.old) }
 {
     for look in 0..patience.looks() {
