@@ -2,10 +2,14 @@
 """Times `run` beside `books`, on a script that is as long as one may be.
 
     tests/speed.py [--program PATH] [--times N] [--processors N]
+    tests/speed.py --hand-offs
 
 For one subscriber and for two: the least and the middle of the wall times and of the processor times, commands in turn,
 and how many events a second come from the first line of the script to the printed book. Other work on the machine shows
 in all of them, in the least ones least; under `chrt -f 10`, which root may say, it hardly does.
+
+With --hand-offs, what a thread's hand-off to another takes on this machine by itself (handoff.c): where the one that
+waits sleeps, on one processor and between two, and where it looks first.
 """
 import os
 import pathlib
@@ -47,10 +51,28 @@ def timed(words, folder, processors):
     return time.monotonic() - begun, used.ru_utime + used.ru_stime
 
 
+def print_hand_offs(times=50_000, looks=256):
+    """Prints what a hand-off takes, in microseconds."""
+    source = pathlib.Path(__file__).parent / 'handoff.c'
+    with rooms.room('handoff-') as folder:
+        program = pathlib.Path(folder) / 'handoff'
+        subprocess.run(['cc', '-O2', '-pthread', '-o', program, source], check=True)
+        for how, processors, count in (('sleeps', 1, 0), ('sleeps', 2, 0), (f'looks {looks} times', 2, looks)):
+            words = [program, str(times), str(count)]
+            found = subprocess.run(
+                words, capture_output=True, text=True, check=True, preexec_fn=stress.on_processors(processors)
+            )
+            print(f'processors {processors}, one that waits {how}: {found.stdout.strip()} microseconds a hand-off')
+
+
 def main(words):
     parser = rooms.parser_of(__doc__)
     parser.add_argument('--times', type=int, default=9)
     parser.add_argument('--processors', type=int, default=4)
+    parser.add_argument('--hand-offs', action='store_true')
+    if parser.parse_args(words).hand_offs:
+        print_hand_offs()
+        return
     options = rooms.options_of(parser, words)
     with rooms.room('speed-') as folder:
         for subscribers in (1, 2):
