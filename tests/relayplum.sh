@@ -174,6 +174,13 @@ RT_JOBS=1 call "$room/top/relayplum" books x
 check 'one at a time: in turn' "$(printf '%s\n' 'low: lib --jobs 1' 'low: done' 'side: lib --jobs 1' 'side: done' \
     'high: lib --jobs 1' 'cdc_app: run -- --version')" "$calls"
 
+echo '// four' >>"$room/top/crates/side/src/lib.rt"
+printf 'low side 5\nside low 5\n' >"$SLOW"
+RT_JOBS=4 call "$room/top/relayplum" books x
+check 'four jobs: two for each of two' "$(printf '%s\n' 'low: lib --jobs 2' 'side: lib --jobs 2')" \
+    "$(head -n 2 <<<"$calls" | LC_ALL=C sort)"
+check 'four jobs: all for what everything left stands on' 'high: lib --jobs 4' "$(grep '^high: lib' <<<"$calls")"
+
 # One that is refused ends the other that is being proved.
 echo low >"$REFUSED"
 echo '// wrong' >>"$room/top/crates/low/src/lib.rt"
