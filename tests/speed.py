@@ -5,8 +5,10 @@
     tests/speed.py --hand-offs
 
 For one subscriber and for two: the least and the middle of the wall times and of the processor times, commands in turn,
-and how many events a second come from the first line of the script to the printed book. Other work on the machine shows
-in all of them, in the least ones least; under `chrt -f 10`, which root may say, it hardly does.
+and how many events a second come from the first line of the script to the printed book; then how many times as long a
+run took as the `books` just before it, in the middle and over all. Other work on the machine shows in all of them, in the
+least ones least; under `chrt -f 10`, which root may say, it hardly does. Where other machines of the host take from the
+processors, a `books` on one of them finds it quiet sooner than a run on four: then the pairs say more than the least ones.
 
 With --hand-offs, what a thread's hand-off to another takes on this machine by itself (handoff.c): where the one that
 waits sleeps, on one processor and between two, and where it looks first.
@@ -90,6 +92,12 @@ def main(words):
                     f' {statistics.median(wall):.2f} in the middle; processors {min(used):.2f} s,'
                     f' {statistics.median(used):.2f} in the middle; {events / min(wall):,.0f} events a second'
                 )
+            walls = [[wall for wall, _ in times[command]] for command in ('run', 'books')]
+            middle = statistics.median(run / books for run, books in zip(*walls))
+            print(
+                f'{events} transfers, subscribers {subscribers}, run beside books: {middle:.2f} times as long in the'
+                f' middle, {sum(walls[0]) / sum(walls[1]):.2f} over all'
+            )
 
 
 if __name__ == '__main__':
