@@ -2,8 +2,15 @@
 # The page of the manual and the completions beside the program's own help: each command and each flag that the help
 # names stands in each of them, and no other does. Flags are compared command by command but for the page, which has them
 # in one list.
-# Takes the program's path, crates/cdc_app/out/cdc_app where none is given. Prints each check that fails.
+# Then docs/help, which `relayplum` answers from before there is a program: each text is what the program prints.
+# Takes the program's path, crates/cdc_app/out/cdc_app where none is given; with `--write` before it, it writes docs/help.
+# Prints each check that fails.
 set -uo pipefail
+writes=false
+if [ "${1-}" == --write ]; then
+    writes=true
+    shift
+fi
 top=$(cd "$(dirname "${BASH_SOURCE[0]}")/.." && pwd)
 program=$(realpath "${1:-$top/crates/cdc_app/out/cdc_app}")
 page=$top/docs/relayplum.1
@@ -73,6 +80,20 @@ same 'fish: the first word' "$(flags)" "$(grep -e '-n __fish_use_subcommand' -e 
 for command in $with_flags; do
     same "fish: $command" "$(flags "$command")" \
         "$(grep -e "'__fish_seen_subcommand_from [a-z ]*\b$command\b" -e "-n 'not " "$fish_words" | fish_flags)"
+done
+
+# docs/help: a text for the program, one for its version, and one for each command.
+for name in relayplum version $with_flags; do
+    case $name in
+    relayplum) words=(--help) ;;
+    version) words=(--version) ;;
+    *) words=("$name" --help) ;;
+    esac
+    ! $writes || "$program" "${words[@]}" >"$top/docs/help/$name.txt"
+    checks=$((checks + 1))
+    "$program" "${words[@]}" | cmp -s - "$top/docs/help/$name.txt" && continue
+    failed=$((failed + 1))
+    printf 'failed: docs/help/%s.txt is not what the program prints (tests/pages.sh --write writes it)\n' "$name"
 done
 
 echo "pages: $checks checks, $failed failed"

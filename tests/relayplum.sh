@@ -26,26 +26,53 @@ has() { # has NAME PATTERN TEXT
     fi
 }
 
-# A repository of two crates, a program that stands on them and one more crate, and an `rt` that writes down how it is
-# called.
-mkdir -p "$room/bin" "$room/top/crates"/{low,high,cdc_app,aside}/src "$room/top/crates/low/specs" "$room/elsewhere"
+# A repository of two crates, a program that stands on them and one more crate, and a toolchain of these tests, which writes
+# down how it is called.
+mkdir -p "$room/bin" "$room/kit/bin" "$room/top/crates"/{low,high,cdc_app,aside}/src "$room/top/crates/low/specs" "$room/elsewhere"
 cp "$here/relayplum" "$room/top/relayplum"
 printf '# lowest first\nlow:\naside: low\nhigh: low\ncdc_app: low high clap\n' >"$room/top/crates.txt"
-for crate in low aside high cdc_app; do echo "// $crate" >"$room/top/crates/$crate/src/lib.rt"; done
+for crate in low aside high; do echo "// $crate" >"$room/top/crates/$crate/src/lib.rt"; done
+echo '// cdc_app' >"$room/top/crates/cdc_app/src/main.rt"
 echo '-- a definition' >"$room/top/crates/low/specs/Low.antt"
+echo 'a toolchain 1' >"$room/kit/KIT-ID"
 cat >"$room/bin/rt" <<'RT'
 #!/usr/bin/env bash
-name=$(basename "$PWD")
-echo "$name: $*" >>"$CALLS"
 case "$1" in
-lib)
-    # the real one waits where another works in a crate of the same tree
-    for folder in ../*/; do
-        exec {held}<"$folder"
-        flock -n "$held" || echo "$name: waits for another" >>"$CALLS"
-    done
-    mkdir -p out
-    echo "$name" >>out/kept
+doc) echo "${0%/bin/rt}/kit/START-HERE.md" ;;
+try)
+    echo "$(basename "$PWD"): $*" >>"$CALLS"
+    echo "tried: $*"
+    for word in "$@"; do case "$word" in *=*) cat "${word#*=}" 2>/dev/null ;; esac; done
+    echo "interpreter: no-answer: a call of a function of an \`extern\` block" >&2
+    echo "the program's own line" >&2
+    echo "checked: ended status=0" >&2
+    echo "run=ended status=0 proved=no" >&2
+    ;;
+esac
+RT
+cat >"$room/kit/bin/rattle" <<'RATTLE'
+#!/usr/bin/env bash
+name='' to='' jobs='' record='' all=" $* "
+while [ $# -gt 0 ]; do
+    case "$1" in
+    --crate-name) name=$2 ;;
+    -o) to=$2 ;;
+    --jobs) jobs=$2 ;;
+    --crate-checked) record=$2 ;;
+    esac
+    shift
+done
+# each library that it stands on has to be there
+for word in $all; do
+    case "$word" in
+    *=*/start/*.rlib) [ -e "${word#*=}" ] || { echo "error: $word is missing"; exit 2; } ;;
+    esac
+done
+if [ -n "$record" ]; then
+    echo "$name: record" >>"$CALLS"
+    grep -q proved "$record/verdict" || { echo 'error: a record is not as it was written'; exit 1; }
+else
+    echo "$name: proved, jobs $jobs" >>"$CALLS"
     # one that is named in SLOW waits for the other that is named there, and at most so many seconds
     if [ -f "$SLOW" ] && grep -q "^$name " "$SLOW"; then
         read -r _ other seconds < <(grep "^$name " "$SLOW")
@@ -55,27 +82,20 @@ lib)
         done
         echo "$name: done" >>"$CALLS"
     fi
-    ;;
-run)
-    mkdir -p out
-    # the real one leaves a program alone whose sources have the content that it was built from
-    [ -x out/cdc_app ] || printf '#!/bin/sh\necho "run with $*"\n[ "$1" != fail ]\n' >out/cdc_app
-    chmod +x out/cdc_app
-    ;;
-try)
-    echo "tried: $*"
-    for word in "$@"; do case "$word" in *=*) cat "${word#*=}" ;; esac; done
-    echo "the program's own line" >&2
-    echo "checked: ended status=0" >&2
-    echo "run=ended status=0 proved=no" >&2
-    ;;
-esac
+fi
 if [ -f "$REFUSED" ] && [ "$name" = "$(cat "$REFUSED")" ]; then
     echo "no proof: a goal is open"
     exit 1
 fi
-RT
-chmod +x "$room/bin/rt"
+echo "$name" >"$to"
+RATTLE
+cat >"$room/kit/bin/rattle-link" <<'LINK'
+#!/usr/bin/env bash
+while [ "$1" != -o ]; do shift; done
+printf '#!/bin/sh\necho "run with $*"\n[ "$1" != fail ]\n' >"$2"
+chmod +x "$2"
+LINK
+chmod +x "$room/bin/rt" "$room/kit/bin"/*
 export PATH=$room/bin:$PATH CALLS=$room/calls REFUSED=$room/refused SLOW=$room/slow
 
 call() { # runs the script; $out, $err, $status and $calls say what came of it
@@ -86,9 +106,11 @@ call() { # runs the script; $out, $err, $status and $calls say what came of it
     calls=$(cat "$CALLS")
 }
 
-built='low: lib --jobs 1
-high: lib --jobs 1
-cdc_app: run -- --version'
+built='low: proved, jobs 1
+high: proved, jobs 1
+cdc_app: proved, jobs 1'
+upwards='high: proved, jobs 1
+cdc_app: proved, jobs 1'
 # one job at a time, where nothing else is said
 export RT_JOBS=1
 
@@ -96,10 +118,9 @@ call "$room/top/relayplum" books x
 check 'the first call builds each crate below the program in its order' "$built" "$calls"
 check 'the first call then runs the program' 'run with books x' "$out"
 has 'it says what it waits for' '^relayplum: proving low, 1 of 3$' "$err"
-has 'it says what is proved' '^relayplum: high proved, 2 of 3, [0-9]* s$' "$err"
-has 'it says that of the program too' '^relayplum: cdc_app proved, 3 of 3, [0-9]* s$' "$err"
-check 'what a crate kept is in its place' 'low high' "$(cat "$room/top/crates"/{low,high}/out/kept | tr '\n' ' ' | sed 's/ $//')"
-check 'no room is left' '' "$(find "$room/top" -name rooms)"
+has 'it says what is proved' '^relayplum: high proved, [0-9]* s$' "$err"
+has 'it says that of the program too' '^relayplum: cdc_app proved, [0-9]* s$' "$err"
+has 'it says what was proved here' '^relayplum: proved here: low high cdc_app$' "$err"
 
 call "$room/top/relayplum" books x
 check 'the second call builds nothing' '' "$calls"
@@ -144,6 +165,7 @@ sleep 1.1
 echo '// wrong' >>"$room/top/crates/high/src/lib.rt"
 call "$room/top/relayplum" books x
 check 'a crate that is refused ends the script' 1 "$status"
+check 'what it stands on is not proved again' 'high: proved, jobs 1' "$calls"
 check 'no program runs then' '' "$out"
 has 'it names the crate' '^relayplum: high isn.t proved$' "$err"
 has 'it shows why' 'a goal is open' "$err"
@@ -151,39 +173,44 @@ call "$room/top/relayplum" books x
 check 'and again, until it is mended' 1 "$status"
 rm "$REFUSED"
 call "$room/top/relayplum" books x
-check 'a mended crate builds' "$built" "$calls"
+check 'a mended crate builds, and what stands on it' "$upwards" "$calls"
 
 # Side by side: `side` stands on nothing, so it starts beside `low`, and `high` only after both. Lines come in any order.
 mkdir -p "$room/top/crates/side/src"
 echo '// side' >"$room/top/crates/side/src/lib.rt"
+echo '// beside' >>"$room/top/crates/low/src/lib.rt"
 printf 'cdc_app : low, high side clap\nhigh may_abort=0: low  side # both\n\nlow:\nside:\n' >"$room/top/crates.txt"
 printf 'low side 5\nside low 5\n' >"$SLOW"
 RT_JOBS=2 call "$room/top/relayplum" books x
 check 'side by side: the program runs' 'run with books x' "$out"
-check 'side by side: each has begun before the other ends' "$(printf '%s\n' 'low: lib --jobs 1' 'side: lib --jobs 1')" \
+check 'side by side: each has begun before the other ends' "$(printf '%s\n' 'low: proved, jobs 1' 'side: proved, jobs 1')" \
     "$(head -n 2 <<<"$calls" | LC_ALL=C sort)"
-check 'side by side: neither waits in the tree of the other' '' "$(grep waits <<<"$calls")"
-check 'side by side: what stands on both comes after them' "$(printf '%s\n' 'low: done' 'side: done' 'high: lib --jobs 2' \
-    'cdc_app: run -- --version')" "$(tail -n +3 <<<"$calls" | sed '1,2{s/^side: done$/low: done/;}' | sed '2s/low/side/')"
-has 'side by side: it says what it waits for' '^relayplum: proving side, 2 of 4$' "$err"
-has 'side by side: the last' '^relayplum: cdc_app proved, 4 of 4, [0-9]* s$' "$err"
+check 'side by side: what stands on both comes after them' "$(printf '%s\n' 'low: done' 'side: done' 'high: proved, jobs 2' \
+    'cdc_app: proved, jobs 2')" "$(tail -n +3 <<<"$calls" | sed '1,2{s/^side: done$/low: done/;}' | sed '2s/low/side/')"
+has 'side by side: it says what it waits for' '^relayplum: proving side, [12] of 4$' "$err"
+has 'side by side: the last' '^relayplum: cdc_app proved, [0-9]* s$' "$err"
 
 echo '// again' >>"$room/top/crates/side/src/lib.rt"
-printf 'low side 1\nside low 1\n' >"$SLOW"
+rm "$SLOW"
 RT_JOBS=1 call "$room/top/relayplum" books x
-check 'one at a time: in turn' "$(printf '%s\n' 'low: lib --jobs 1' 'low: done' 'side: lib --jobs 1' 'side: done' \
-    'high: lib --jobs 1' 'cdc_app: run -- --version')" "$calls"
+check 'a change proves what stands on it, and nothing else' "$(printf '%s\n' 'side: proved, jobs 1' 'high: proved, jobs 1' \
+    'cdc_app: proved, jobs 1')" "$calls"
+RT_JOBS=1 call "$room/top/relayplum" --prove books x
+check '--prove proves all' "$(printf '%s\n' 'cdc_app: proved, jobs 1' 'high: proved, jobs 1' 'low: proved, jobs 1' \
+    'side: proved, jobs 1')" "$(LC_ALL=C sort <<<"$calls")"
+check '--prove: the program runs' 'run with books x' "$out"
 
 echo '// four' >>"$room/top/crates/side/src/lib.rt"
+echo '// four' >>"$room/top/crates/low/src/lib.rt"
 printf 'low side 5\nside low 5\n' >"$SLOW"
 RT_JOBS=4 call "$room/top/relayplum" books x
-check 'four jobs: two for each of two' "$(printf '%s\n' 'low: lib --jobs 2' 'side: lib --jobs 2')" \
+check 'four jobs: two for each of two' "$(printf '%s\n' 'low: proved, jobs 2' 'side: proved, jobs 2')" \
     "$(head -n 2 <<<"$calls" | LC_ALL=C sort)"
-check 'four jobs: all for what everything left stands on' 'high: lib --jobs 4' "$(grep '^high: lib' <<<"$calls")"
+check 'four jobs: all for what everything left stands on' 'high: proved, jobs 4' "$(grep '^high: proved' <<<"$calls")"
 
 # One that is refused ends the other that is being proved.
 echo low >"$REFUSED"
-echo '// wrong' >>"$room/top/crates/low/src/lib.rt"
+for crate in low side; do echo '// wrong' >>"$room/top/crates/$crate/src/lib.rt"; done
 printf 'low side 5\nside none 5\n' >"$SLOW"
 RT_JOBS=2 call "$room/top/relayplum" books x
 check 'side by side: one that is refused ends the script' 1 "$status"
@@ -196,7 +223,7 @@ rm "$REFUSED" "$SLOW"
 printf 'low: side\nside: low\nhigh:\ncdc_app: high low\n' >"$room/top/crates.txt"
 call "$room/top/relayplum" books x
 check 'crates that wait for one another: the script ends' 1 "$status"
-has 'crates that wait for one another: it says so' '^relayplum: crates.txt: these wait for one another: low side side low cdc_app high low$' "$err"
+has 'crates that wait for one another: it says so' '^relayplum: crates.txt: these wait for one another: low side$' "$err"
 printf 'low:\nhigh: low\ncdc_app: low high clap\n' >"$room/top/crates.txt"
 call "$room/top/relayplum" books x
 check 'and then the program runs again' 'run with books x' "$out"
@@ -232,6 +259,106 @@ rm 7 1:2
 touch 'a = b'
 call ./link --unproved books 'a = b'
 check 'unproved: a name with an equals sign' "cdc_app: try --data 1-a - b=$room/elsewhere/a = b -- books 1-a - b" "$calls"
+
+call ./link --unproved simulate 'a script' 'a script' --diagram=out.mmd
+check 'unproved: a diagram goes where it is to be' "--diagram=$room/elsewhere/out.mmd" "$(grep -o -- '--diagram=.*' <<<"$calls")"
+
+# Ended from the keyboard while it builds, it ends what it has started, and says no more.
+echo '// more' >>"$room/top/crates/low/src/lib.rt"
+echo 'low none 20' >"$SLOW"
+call timeout -s INT 2 ./link books x
+check 'an interrupt: its status' 124 "$status"
+check 'an interrupt: no words but its own' '' "$(grep -v '^relayplum: ' <<<"$err")"
+sleep 1
+check 'an interrupt: what it started is ended' '' "$(pgrep -f "$room/kit/bin/rattle")"
+rm "$SLOW"
+call ./link books x
+check 'an interrupt: the next call builds' "$built" "$calls"
+
+# Records of proofs: one is taken where it is of what stands here, and what stands on another crate than it is of is proved.
+record_of() { # record_of CRATE FILE..: writes the record of a crate
+    local crate=$1 file
+    shift
+    mkdir -p "$room/record" "$room/top/proved"
+    echo 'logic=proved' >"$room/record/verdict"
+    (cd "$room/top/crates/$crate" && for file in "$@"; do
+        printf 'file "%s" %s\n' "$file" "$(sha256sum <"$file" | cut -d' ' -f1)"
+    done) >"$room/record/inputs"
+    tar -C "$room/record" -c verdict inputs | xz >"$room/top/proved/$crate.tar.xz"
+    echo "$crate a1b2c3 a toolchain 1" >>"$room/top/proved/WRITTEN"
+}
+anew() { rm -rf "$room/top/crates/cdc_app/out"; }
+mkdir -p "$room/top/crates/low/specs"
+record_of low src/lib.rt
+record_of high src/lib.rt
+anew
+call ./link books x
+check 'records: what has one is built from it, and the rest is proved' \
+    "$(printf '%s\n' 'low: record' 'high: record' 'cdc_app: proved, jobs 1')" "$calls"
+has 'records: it says so' '^relayplum: 2 of 3 crates built from the records of their proofs at a1b2c3; ./relayplum --prove proves them here$' "$err"
+has 'records: it says what was proved' '^relayplum: proved here: cdc_app$' "$err"
+call ./link --prove books x
+check '--prove takes no record' "$built" "$calls"
+record_of cdc_app src/main.rt
+anew
+call ./link books x
+check 'records: the program is built from them' "$(printf '%s\n' 'low: record' 'high: record' 'cdc_app: record')" "$calls"
+has 'records: it says that of all' '^relayplum: all crates built from the records of their proofs at a1b2c3' "$err"
+check 'records: the program runs' 'run with books x' "$out"
+echo '// other' >>"$room/top/crates/high/src/lib.rt"
+call ./link books x
+check 'records: a crate of other sources is proved, and what stands on it' "$upwards" "$calls"
+has 'records: it names the one that is not taken' '^relayplum: the record of the proof of high was not taken: it is of other sources$' "$err"
+has 'records: and what stands on it' '^relayplum: the record of the proof of cdc_app was not taken: it stands on high' "$err"
+record_of high src/lib.rt
+echo 'logic=proved not' >"$room/record/verdict"
+sed -i 's/proved/open/' "$room/record/verdict"
+tar -C "$room/record" -c verdict inputs | xz >"$room/top/proved/low.tar.xz"
+(cd "$room/top/crates/low" && printf 'file "src/lib.rt" %s\n' "$(sha256sum <src/lib.rt | cut -d' ' -f1)") >"$room/record/inputs"
+tar -C "$room/record" -c verdict inputs | xz >"$room/top/proved/low.tar.xz"
+anew
+call ./link books x
+check 'records: one that the toolchain refuses is not taken' "$(printf '%s\n' 'low: record' "$built")" "$calls"
+has 'records: it says who refused it' 'of low was not taken: the toolchain refuses it: error: a record is not' "$err"
+echo 'not xz' >"$room/top/proved/low.tar.xz"
+anew
+call ./link books x
+check 'records: one that is no archive is not taken' "$built" "$calls"
+record_of low src/lib.rt
+echo 'a toolchain 2' >"$room/kit/KIT-ID"
+anew
+call ./link books x
+check 'records: those of another toolchain are not taken' "$built" "$calls"
+has 'records: it says of which they are' 'of low was not taken: it is of another toolchain, a toolchain 1$' "$err"
+rm -r "$room/top/proved"
+
+# Words that need no program, before there is one.
+mkdir -p "$room/top/docs/help"
+printf 'Usage: relayplum <COMMAND>\n\nCommands:\n  books  Print\n  run    Run\n  help   Print this\n\nOptions:\n  -h, --help     Print help\n\nMore\n' \
+    >"$room/top/docs/help/relayplum.txt"
+printf 'Usage: relayplum books [OPTIONS] <FILE>\n\nOptions:\n      --window <N>  How many\n      --check       Check\n  -h, --help        Print help\n' \
+    >"$room/top/docs/help/books.txt"
+echo 'relayplum 7' >"$room/top/docs/help/version.txt"
+anew
+call ./link --help
+check 'at once: help' "$(cat "$room/top/docs/help/relayplum.txt")" "$out"
+call ./link books --help
+check 'at once: the help of a command' "$(cat "$room/top/docs/help/books.txt")" "$out"
+call ./link help books
+check 'at once: the same, in other words' "$(cat "$room/top/docs/help/books.txt")" "$out"
+call ./link --version
+check 'at once: the version' 'relayplum 7' "$out"
+call ./link boks x
+check 'at once: a command that there is not' 2 "$status"
+has 'at once: it says which there are' '^error: there is no command boks: the commands are books, run, help$' "$err"
+call ./link books --wndow 3 x
+check 'at once: a flag that there is not' 2 "$status"
+has 'at once: it names the flag' '^error: books has no flag --wndow$' "$err"
+check 'at once: nothing is built for any of them' '' "$(find "$room/top/crates/cdc_app/out" 2>/dev/null)"
+call ./link books --window -3 x
+check 'at once: good words are the program'"'"'s' 'run with books --window -3 x' "$out"
+call ./link --help
+check 'with a program, it is the one that answers' 'run with --help' "$out"
 
 # A program that the gate built has no note of its sources: its time decides.
 rm -f "$room/top/crates/cdc_app/out/cdc_app.sources"
