@@ -1,9 +1,9 @@
 #!/usr/bin/env python3
 """Makes each growth, each read and each write of the program fail in turn, and looks how it ends.
 
-  tests/faults/sweep.py [PROGRAM [SAVES [CALLS]]]    PROGRAM: crates/cdc_app/out/cdc_app
-                                                     SAVES: cdc_saves, from the same tree as PROGRAM
-                                                     CALLS: cdc_calls, from there too
+  tests/faults/sweep.py [--as-built] [PROGRAM [SAVES [CALLS]]]    PROGRAM: crates/cdc_app/out/cdc_app
+                                                                  SAVES: cdc_saves, from the same tree as PROGRAM
+                                                                  CALLS: cdc_calls, from there too
 
 A small library, faults.c, is built and loaded before the C library; it refuses the call that a plan names. For every
 run below, and for every call of it in turn:
@@ -16,6 +16,8 @@ run below, and for every call of it in turn:
 - reads and writes that fall short change nothing.
 Then the same of saves and loads of progress, by the program cdc_saves: saves.py; and each growth of
 the calls that no command makes is refused, by the program cdc_calls: calls.py.
+With --as-built a part whose program, cdc_saves or cdc_calls, isn't built is left out, and a line says so; `rt ci` builds
+both, and `rt run` in their crates, and `relayplum` builds neither.
 It needs a C compiler, `cc`. The last line is 'faults: N runs, M failed'; the status is 0 where none failed.
 """
 import os
@@ -182,20 +184,30 @@ class Case:
         print(f"{self.name}: {', '.join(parts)}", flush=True)
 
 
-program = os.path.realpath(sys.argv[1] if len(sys.argv) > 1 else f"{TOP}/crates/cdc_app/out/cdc_app")
+def program_of(place, name):
+    """The program of the tests that is named at this place of the words, or stands beside PROGRAM; None where it is left out."""
+    path = os.path.realpath(given[place] if len(given) > place else f"{crates}/{name}/out/{name}")
+    if os.access(path, os.X_OK):
+        return path
+    if not as_built:
+        sys.exit(f"faults: there is no program {path}, which `rt run` makes in crates/{name}")
+    print(f"faults: not tried: {name}, which isn't built")
+    return None
+
+
+as_built = "--as-built" in sys.argv[1:]
+given = [it for it in sys.argv[1:] if it != "--as-built"]
+program = os.path.realpath(given[0] if given else f"{TOP}/crates/cdc_app/out/cdc_app")
 crates = os.path.dirname(os.path.dirname(os.path.dirname(program)))
-saver = os.path.realpath(sys.argv[2] if len(sys.argv) > 2 else f"{crates}/cdc_saves/out/cdc_saves")
-if not os.access(saver, os.X_OK):
-    sys.exit(f"faults: there is no program {saver}, which `rt run` makes in crates/cdc_saves")
-caller = os.path.realpath(sys.argv[3] if len(sys.argv) > 3 else f"{crates}/cdc_calls/out/cdc_calls")
-if not os.access(caller, os.X_OK):
-    sys.exit(f"faults: there is no program {caller}, which `rt run` makes in crates/cdc_calls")
+saver, caller = program_of(1, "cdc_saves"), program_of(2, "cdc_calls")
 with tempfile.TemporaryDirectory() as room:
     library = built_library(room)
     with ThreadPoolExecutor(JOBS) as pool:
         for number, (words, stdin) in enumerate(CASES):
             Case(number, words, stdin).sweep(pool)
-        for part in [saves.Sweep(saver, library, room), calls.Sweep(caller, library, room)]:
+        parts = [saves.Sweep(saver, library, room)] if saver else []
+        parts += [calls.Sweep(caller, library, room)] if caller else []
+        for part in parts:
             part.sweep(pool)
             counts["runs"] += part.runs
             failures += part.failures
