@@ -3,7 +3,8 @@
 
   tests/wrong_bodies.py [--jobs N] [--proved] [--commit HASH] [NAME..]    the gate: takes the answers of the record
   tests/wrong_bodies.py [--jobs N] [--proved] --write [NAME..]            tries what the record lacks, and writes it
-  tests/wrong_bodies.py [--jobs N] [--proved] [--kept] --all [NAME..]     tries everything
+  tests/wrong_bodies.py [--jobs N] [--proved] --all [NAME..]              tries everything, whatever the record says
+  tests/wrong_bodies.py [--jobs N] [--proved] --kept [NAME..]             the same, over kept work: a quick look
 
 It runs at the top of the repository; with no NAME it takes each crate that has edits.
 
@@ -691,6 +692,8 @@ def judged(plan, results, trial, said):
         why = f"wrong bodies of {name}: the record is stale: tests/wrong_bodies.py --write {name}"
         return results + [Result(False, why)] * (plan.is_stale and not said.all)
     if not is_well:
+        # (lines that agree in all digests and not in their answers would be taken by the next run)
+        records.write(os.getcwd(), without=[name] if plan.entry and not plan.is_stale else [])
         return results + [Result(False, f"wrong bodies of {name}: the record is not written, since not all are refused")]
     if records.digests_of(os.getcwd(), plan.crate, plan.digests.by) != plan.digests:
         return results + [Result(False, f"wrong bodies of {name}: the record is not written, since files changed meanwhile")]
@@ -704,7 +707,7 @@ def words():
     read = argparse.ArgumentParser(description=__doc__, formatter_class=argparse.RawDescriptionHelpFormatter)
     read.add_argument("--jobs", type=int, help="how many crates at a time, else RT_JOBS or as many as there is room for")
     read.add_argument("--proved", action="store_true", help="takes the libraries that `rt ci` has just left")
-    read.add_argument("--kept", action="store_true", help="begins with what earlier checks kept in out/: a quick look")
+    read.add_argument("--kept", action="store_true", help="tries everything, over what earlier checks kept in out/")
     read.add_argument("--all", action="store_true", help="tries everything, whatever the record says")
     read.add_argument("--write", action="store_true", help="tries what the record lacks, and writes it")
     read.add_argument("--commit", default="", metavar="HASH", help="what the groups are chosen by that are tried anew")
@@ -712,6 +715,7 @@ def words():
     said = read.parse_args()
     if said.kept and said.write:
         read.error("--write tries from nothing, without --kept")
+    said.all = said.all or said.kept
     return said
 
 

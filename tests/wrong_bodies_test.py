@@ -159,6 +159,7 @@ def test_taken(tree):
     wants(tree.run("--proved", "--commit", none), 0, "9 passed, 0 failed", 0, told, "9 answers are taken from the record, 0 more")
     wants(tree.run("--proved", "--commit", one), 0, "9 passed, 0 failed", 2, "are taken, 2 tried anew", "7 answers are taken")
     wants(tree.run("--all"), 0, "9 passed, 0 failed", 9)
+    wants(tree.run("--kept"), 0, "9 passed, 0 failed", 9)
     wants(tree.run("--proved", "other"), 0, "1 passed, 0 failed", 0 if not chosen_today(tree, "other") else 1)
 
 
@@ -255,6 +256,8 @@ def test_write(tree):
     wants(tree.run("--write"), 0, "9 passed, 0 failed", 3)
     wants(tree.run("--write", "other"), 0, "1 passed, 0 failed", 1, "all are tried, as was asked")
     assert [*tree.record()] == ["high", "low", "other"]
+    wants(tree.run("--write", "other", WRONG="edit-0.edit"), 1, "0 passed, 2 failed", 1, "not written, since not all are ref")
+    assert [*tree.record()] == ["high", "low"]
     assert tree.record()["low"].answers["edit-3.edit"] == ("refused", 2)
     assert [*os.listdir(f"{tree.folder}/tests")].count("wrong_bodies.txt") == 1
     assert not [it for it in os.listdir(f"{tree.folder}/tests") if it.startswith(".")]
