@@ -270,6 +270,15 @@ def test_side_by_side(tree):
     ran = [subprocess.Popen([sys.executable, "-c", TRIAL, "--write", it], **how) for it in CRATES]
     assert [it.wait() for it in ran] == [0, 0, 0]
     assert [*tree.record()] == ["high", "low", "other"]
+    words = "import sys; sys.path.insert(0, 'tests'); import wrong_bodies_record as it; it.write('.', without=['low'])"
+    with records.held(f"{tree.folder}/tests"):
+        ran = subprocess.Popen([sys.executable, "-c", words], **how)
+        try:
+            ran.wait(timeout=1)
+            raise AssertionError("a run writes while another does")
+        except subprocess.TimeoutExpired:
+            assert "low" in tree.record()
+    assert ran.wait() == 0 and [*tree.record()] == ["high", "other"]
 
 
 def test_no_edits_any_more(tree):
