@@ -1,9 +1,18 @@
 #!/usr/bin/env python3
 """Tries the wrong bodies of each crate, crates/NAME/must-fail/*.edit: the prover must refuse each of them.
 
-  tests/wrong_bodies.py [--jobs N] [--proved] [--kept] [NAME..]
+  tests/wrong_bodies.py [--jobs N] [--proved] [--commit HASH] [NAME..]    the gate: takes the answers of the record
+  tests/wrong_bodies.py [--jobs N] [--proved] --write [NAME..]            tries what the record lacks, and writes it
+  tests/wrong_bodies.py [--jobs N] [--proved] --all [NAME..]              tries everything, whatever the record says
+  tests/wrong_bodies.py [--jobs N] [--proved] --kept [NAME..]             the same, over kept work: a quick look
 
 It runs at the top of the repository; with no NAME it takes each crate that has edits.
+
+How each edit was answered is kept in tests/wrong_bodies.txt, with digests of all that the answers rest on. Where these agree,
+the answers are taken, and one group in eight is tried anew, chosen by the commit's hash: that of the repository or of
+--commit, and else the day. A crate that has no record is tried whole. So is one whose record is stale, and that fails, but
+under --write, which writes its lines anew, crate by crate, where each edit is refused. With --write a crate that is named is
+tried whatever the record says.
 
 `rt must-fail` checks a crate once for each edit. A caller sees contracts alone, so edits in different functions don't
 touch each other: here they are applied all at once to a copy of the crate, the functions that they change are checked
@@ -29,6 +38,24 @@ import types
 from collections import Counter, namedtuple
 
 sys.dont_write_bytecode = True
+sys.path.insert(0, os.path.dirname(os.path.realpath(__file__)))
+import wrong_bodies_record as records
+
+# What the checks of a thread have taken: processor time in seconds, and the most memory of one, in bytes.
+TAKEN = threading.local()
+
+
+def run_measured(words, **how):
+    """Runs a command as subprocess.run does, and notes what it took where it is one that checks a crate."""
+    if how.get("stdout") != subprocess.PIPE or how.get("stderr") != subprocess.STDOUT:
+        return subprocess.run(words, **how)
+    with subprocess.Popen(words, **how) as ran:
+        said = ran.stdout.read()
+        _, status, used = os.wait4(ran.pid, 0)
+        ran.returncode = -os.WTERMSIG(status) if os.WIFSIGNALED(status) else os.WEXITSTATUS(status)
+    TAKEN.seconds = getattr(TAKEN, "seconds", 0) + used.ru_utime + used.ru_stime
+    TAKEN.memory = max(getattr(TAKEN, "memory", 0), 1024 * used.ru_maxrss)
+    return subprocess.CompletedProcess(words, ran.returncode, said)
 
 
 def load_rt():
@@ -40,6 +67,8 @@ def load_rt():
     module = importlib.util.module_from_spec(importlib.util.spec_from_loader("rt", loader))
     sys.modules["rt"] = module
     loader.exec_module(module)
+    # (its way to start a check stays its own; here it is only measured)
+    module.subprocess = types.SimpleNamespace(**{**vars(subprocess), "run": run_measured})
     return module
 
 
@@ -429,18 +458,23 @@ class Trial:
         self.crate, self.kept = crate, kept
         self.sources = Sources(crate)
         self.results = {}
+        # (the group in which each edit was answered, by number)
+        self.groups, self.number = {}, 0
 
     def check(self, texts, flags=()):
         return Answer(rt.checked(self.crate, texts, [*ONE_JOB, *flags], self.kept))
 
     def put(self, edit, passed, text):
         self.results[edit.name] = Result(passed, f"wrong body {self.crate.name}/{edit.name}: {text}")
+        self.groups[edit.name] = self.number
 
     def failure(self, text):
         return [Result(False, f"wrong bodies of {self.crate.name}: {text}")]
 
-    def run(self):
+    def run(self, names=None):
+        """Tries the edits, or those of these names alone."""
         good, bad = rt.edits_of(self.crate)
+        good = [it for it in good if names is None or os.path.basename(it) in names]
         if not good and not bad:
             return []
         why = "BAD EDIT: an edit stands right in must-fail/, and ends in .edit"
@@ -452,6 +486,7 @@ class Trial:
         left, was_told = grouped, True
         while left:
             group = self.one_of_each(left) if was_told else left[:1]
+            self.number += 1
             results += self.try_group(group)
             count, left = len(left), [it for it in left if it.name not in self.results]
             was_told = len(left) < count
@@ -587,6 +622,7 @@ class Trial:
     def try_alone(self, edit):
         """Tries an edit of more than one body, and returns the function that was refused. Where it is none of those whose
         text the edit changes, the edit is tried as `rt must-fail` does it, and no function is returned."""
+        self.number += 1
         touched = self.sources.touched(edit.texts)
         answer = self.check(edit.texts, self.only(touched)) if touched else None
         if answer and answer.is_refused and not answer.is_stale and not answer.unread(edit.texts):
@@ -595,9 +631,12 @@ class Trial:
                 if how == REFUSED:
                     self.put(edit, True, f"refused, alone: {why[:160]}")
                     return function
-        passed, text = rt.must_fail(self.crate, edit.path, ONE_JOB, self.kept)
+        kind, text = rt.must_fail(self.crate, edit.path, ONE_JOB, self.kept)
         said = text.partition(": ")[2].replace("refused, as it must be", "refused, alone, by the whole crate")
-        self.put(edit, passed, said)
+        # (a limit of the prover's is a kind of its own, and no verdict)
+        is_refused = kind is True or kind == getattr(rt, "REFUSED", None)
+        is_unclear = not is_refused and said.startswith("refused")
+        self.put(edit, is_refused, f"CANNOT BE TOLD: {said}" if is_unclear else said)
         return None
 
 
@@ -625,18 +664,72 @@ def libraries(crates, are_proved):
     return [it for it in below if not it.is_built()]
 
 
-def main():
+def names_of(crate):
+    """Returns the names of a crate's edits; of files that are no edits too, which no record has."""
+    return [os.path.basename(it) for part in rt.edits_of(crate) for it in part]
+
+
+def plans_for(crates, said):
+    """Returns what is done with each crate, by its lines in the record and the words that were said."""
+    toolchain = subprocess.run([shutil.which("rt"), "version"], stdout=subprocess.PIPE, check=True).stdout
+    by, root = records.by_of(__file__, toolchain), os.getcwd()
+    record, commit = records.read(root), records.commit_of(root, said.commit)
+    plans = []
+    for it in crates:
+        is_named = said.all or said.write and it.name in said.names
+        digests = records.digests_of(root, it, by)
+        plans.append(records.plan(it, names_of(it), record.get(it.name), digests, commit, is_named))
+    return plans, commit, sorted({*record} - {it.name for it in crates})
+
+
+def judged(plan, results, trial, said):
+    """Returns the results of a crate that was tried, with what they mean for the record, which is written where it is to be."""
+    name, is_well = plan.crate.name, bool(results) and all(it.passed for it in results)
+    if not plan.is_whole:
+        other = "; that is not the answer of the record"
+        return [it if it.passed else Result(False, it.text + other) for it in results]
+    if not said.write:
+        why = f"wrong bodies of {name}: the record is stale: tests/wrong_bodies.py --write {name}"
+        return results + [Result(False, why)] * (plan.is_stale and not said.all)
+    if not is_well:
+        # (lines that agree in all digests and not in their answers would be taken by the next run)
+        records.write(os.getcwd(), without=[name] if plan.entry and not plan.is_stale else [])
+        return results + [Result(False, f"wrong bodies of {name}: the record is not written, since not all are refused")]
+    if records.digests_of(os.getcwd(), plan.crate, plan.digests.by) != plan.digests:
+        return results + [Result(False, f"wrong bodies of {name}: the record is not written, since files changed meanwhile")]
+    answers = {it: (records.REFUSED, trial.groups[it]) for it in trial.results}
+    seconds, megabytes = round(TAKEN.seconds), -(-TAKEN.memory // 1_000_000)
+    records.write(os.getcwd(), [records.Entry(name, plan.digests, seconds, megabytes, answers)])
+    return results
+
+
+def words():
     read = argparse.ArgumentParser(description=__doc__, formatter_class=argparse.RawDescriptionHelpFormatter)
     read.add_argument("--jobs", type=int, help="how many crates at a time, else RT_JOBS or as many as there is room for")
     read.add_argument("--proved", action="store_true", help="takes the libraries that `rt ci` has just left")
-    read.add_argument("--kept", action="store_true", help="begins with what earlier checks kept in out/: a quick look")
+    read.add_argument("--kept", action="store_true", help="tries everything, over what earlier checks kept in out/")
+    read.add_argument("--all", action="store_true", help="tries everything, whatever the record says")
+    read.add_argument("--write", action="store_true", help="tries what the record lacks, and writes it")
+    read.add_argument("--commit", default="", metavar="HASH", help="what the groups are chosen by that are tried anew")
     read.add_argument("names", nargs="*", metavar="NAME")
     said = read.parse_args()
+    if said.kept and said.write:
+        read.error("--write tries from nothing, without --kept")
+    said.all = said.all or said.kept
+    return said
+
+
+def main():
+    said = words()
     if said.jobs:
         os.environ["RT_JOBS"] = str(said.jobs)
     os.environ.pop(rtlib.ALLOW_C, None)
     rtlib.guarded()
     crates = crates_to_try(said.names)
+    plans, commit, others = plans_for(crates, said)
+    if said.write:
+        # (of a crate that is up to date nothing is tried here)
+        plans = [it if it.is_whole else it._replace(names=[]) for it in plans]
     printing, out = threading.Lock(), sys.stdout
 
     def build(crate):
@@ -648,36 +741,57 @@ def main():
                     print(f"{crate.out.read()}wrong_bodies: {crate.name} is not proved", file=out, flush=True)
         return not status
 
-    def attempt(crate, given):
+    def attempt(plan, given):
+        crate = plan.crate
         if not all(given.get((dep.name, "proof"), True) for dep in crate.below()):
             return [Result(False, f"wrong bodies of {crate.name}: a crate below is not proved")]
+        TAKEN.seconds, TAKEN.memory, trial = 0, 0, None
         with tempfile.TemporaryDirectory(prefix="wrong-bodies-") as kept:
             earlier = f"{crate.folder}/{rtlib.KEPT[1]}"
             if said.kept and os.path.isdir(earlier):
                 shutil.copytree(earlier, kept, dirs_exist_ok=True)
             try:
-                results = Trial(crate, kept).run()
+                trial = Trial(crate, kept)
+                results = trial.run(None if plan.is_whole else plan.names)
             except Unreadable as error:
                 results = [Result(False, f"wrong bodies of {crate.name}: {error}")]
+        results = judged(plan, results, trial, said)
         with printing:
             for it in results:
                 print(it.text, file=out, flush=True)
         return results
 
-    tasks = {}
-    missing = libraries(crates, said.proved)
+    if not said.all:
+        for it in plans:
+            print(it.told if it.is_whole or not said.write else it.told.rpartition(",")[0], file=out, flush=True)
+    to_try = [it for it in plans if it.is_whole or it.names]
+    tasks, cost = {}, records.cost_of(plans)
+    missing = libraries([it.crate for it in to_try], said.proved)
     for crate in missing:
         waits = [(it.name, "proof") for it in crate.below() if it in missing]
         call = lambda given, jobs, it=crate: build(it)
         tasks[crate.name, "proof"] = (waits, crate.count(rb"\n"), rt.need(crate), call)
-    for crate in crates:
+    for plan in to_try:
+        crate = plan.crate
         waits = [(it.name, "proof") for it in crate.below() if it in missing]
-        call = lambda given, jobs, it=crate: attempt(it, given)
-        tasks[crate.name, "edits"] = (waits, 2 * crate.count(rb"\n"), rt.need(crate), call)
+        call = lambda given, jobs, it=plan: attempt(it, given)
+        tasks[crate.name, "edits"] = (waits, cost(plan), records.memory_of(plan, rt.need(crate)), call)
     given = rt.in_lanes(tasks)
     results = [it for key, found in given.items() if key[1] == "edits" for it in found]
-    passed, failed = sum(it.passed for it in results), sum(not it.passed for it in results)
-    if failed or not results:
+    if others and not said.names and not said.all:
+        # (lines of a crate that has no edits any more)
+        if said.write:
+            records.write(os.getcwd(), without=others)
+        else:
+            results.append(Result(False, f"wrong bodies: the record has lines of {', '.join(others)}, which has no edits"))
+            print(results[-1].text)
+    taken = sum(len(it.entry.answers) - len(it.names) for it in plans if not it.is_whole)
+    passed, failed = taken + sum(it.passed for it in results), sum(not it.passed for it in results)
+    anew = sum(len(it.names) for it in plans)
+    if not said.all:
+        told = f"{taken} answers are taken from the record, {anew} more of it were tried anew"
+        print(f"wrong_bodies: {told}, chosen by {commit[:12]}")
+    if failed or not passed:
         print("wrong_bodies: FAILED" if failed else "wrong_bodies: there is no edit")
     print(f"{passed} passed, {failed} failed")
     return 0 if passed and not failed else 1
