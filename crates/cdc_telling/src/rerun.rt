@@ -54,23 +54,31 @@ pub(crate) fn rerun(
     window: usize,
     acts: &[Act],
     told: &mut Retold<'_>,
-) -> Result<(), AllocError>
+)
     requires { window ≡ Limits.WINDOW_TODAY }
 {
-    let Script { bindings, batches } = script;
-    let followed = Followed::new(alloc, bindings.as_slice())?;
-    let world = World::new(alloc, bindings.into_vec(), window, MemoryStore::new())?;
-    let mut run = SecondRun {
-        world,
-        batch_count: batches.as_slice().len(),
-        batches: batches.into_vec().into_iter(),
-        followed,
-    };
-    told.refused = run.play(alloc, acts, told);
-    Ok(())
+    match SecondRun::new(alloc, script, window) {
+        Ok(mut run) => told.refused = run.play(alloc, acts, told),
+        Err(_) => told.why.give_up(),
+    }
 }
 
 impl SecondRun {
+    /// A simulation of a script in which nothing has happened.
+    fn new(alloc: Global, script: Script, window: usize) -> Result<SecondRun, AllocError>
+        requires { window ≡ Limits.WINDOW_TODAY }
+    {
+        let Script { bindings, batches } = script;
+        let followed = Followed::new(alloc, bindings.as_slice())?;
+        let world = World::new(alloc, bindings.into_vec(), window, MemoryStore::new())?;
+        Ok(SecondRun {
+            world,
+            batch_count: batches.as_slice().len(),
+            batches: batches.into_vec().into_iter(),
+            followed,
+        })
+    }
+
     /// Plays acts up to the first that is refused, and answers its place.
     fn play(&mut self, alloc: Global, acts: &[Act], told: &mut Retold<'_>) -> Option<usize> {
         for (place, act) in acts.iter().enumerate() {

@@ -58,7 +58,7 @@ pub fn simulation_told(
         said.bindings.as_slice().len(),
         ItemLines::new(alloc, name, places),
     );
-    rerun(alloc, said, window, acts.as_slice(), &mut retold).ok()?;
+    rerun(alloc, said, window, acts.as_slice(), &mut retold);
     finish(retold, steps).ok()
 }
 
