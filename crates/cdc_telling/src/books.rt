@@ -4,8 +4,9 @@ ghost use Rattle.std.specs.Prelude.{IfSome, IsOk};
 ghost use Rattle.cdc_script.specs.Scripts.{script_of};
 
 use crate::items::ItemLines;
-use cdc_ledger::{BatchError, Ledger};
-use cdc_script::parse_script;
+use crate::places::Places;
+use cdc_ledger::Ledger;
+use cdc_script::{ClientBatch, parse_script};
 use std::alloc::Global;
 
 /// A line for each item of a script that wasn't accepted, and for each batch that was refused. The script is named to a
@@ -13,17 +14,22 @@ use std::alloc::Global;
 pub fn books_lines(alloc: Global, name: &str, script: &[u8]) -> Option<String>
     ensures { IfSome result (λ text. IsOk (script_of script.now)) }
 {
+    let places = Places::of(alloc, script).ok()?;
     let Ok(said) = parse_script(alloc, script) else {
         return None;
     };
-    let mut lines = ItemLines::new(alloc, name, script).ok()?;
+    let mut lines = ItemLines::new(alloc, name, places);
+    push_batches(alloc, said.batches.as_slice(), &mut lines);
+    lines.finish().ok()
+}
+
+/// Hands batches to a new ledger, and adds what is to be said of each.
+fn push_batches(alloc: Global, batches: &[ClientBatch], lines: &mut ItemLines<'_>) {
     let mut ledger = Ledger::new(alloc);
-    for item in said.batches.as_slice() {
+    for item in batches {
         match ledger.submit(alloc, &item.batch) {
-            Ok(results) => lines.push_results(&item.batch, &results, &ledger).ok()?,
-            Err(BatchError::OutOfMemory) => return None,
-            Err(refusal) => lines.push_refusal(&item.batch, refusal).ok()?,
+            Ok(results) => lines.push_results(&item.batch, &results, &ledger),
+            Err(refusal) => lines.push_refusal(&item.batch, refusal),
         }
     }
-    Some(lines.into_text())
 }

@@ -2,39 +2,49 @@
 
 use crate::deeds::{ConnectorDeed, Deed, QueueDeed, packet_sentence};
 use crate::sentences::Sentence;
+use crate::texts::Text;
 use std::alloc::{AllocError, Global};
 
 /// A diagram so far. The ledger is L, the connector C, the broker B and subscriber I is SI.
 #[derive(Drop)]
 pub(crate) struct Diagram {
     /// Its text.
-    text: String,
+    text: Text,
 }
 
 impl Diagram {
     /// A diagram without steps, with so many subscribers.
-    pub(crate) fn new(alloc: Global, subscribers: usize) -> Result<Diagram, AllocError> {
-        let mut text = String::from_str(alloc, "sequenceDiagram\n")?;
-        text.push_str("    participant L as ledger\n")?;
-        text.push_str("    participant C as connector\n")?;
-        text.push_str("    participant B as broker\n")?;
+    pub(crate) fn new(alloc: Global, subscribers: usize) -> Diagram {
+        let mut text = Text::new(alloc);
+        text.push("sequenceDiagram\n");
+        text.push("    participant L as ledger\n");
+        text.push("    participant C as connector\n");
+        text.push("    participant B as broker\n");
         for place in 0..subscribers {
-            let number = place + 1;
-            writeln!(text, "    participant S{number} as subscriber {number}")?;
+            let number = place as u128 + 1;
+            text.push_sentence(Sentence::Two(
+                "    participant S",
+                number,
+                " as subscriber ",
+                number,
+                "\n",
+            ));
         }
-        Ok(Diagram { text })
+        Diagram { text }
     }
 
     /// The text, on its own.
-    pub(crate) fn into_text(self) -> String {
-        self.text
+    pub(crate) fn finish(self) -> Result<String, AllocError> {
+        let Diagram { text } = self;
+        text.finish()
     }
 
     /// Adds what a step did: an arrow from an actor to another one, or a note over one of them, and what is said of it.
-    pub(crate) fn push(&mut self, deed: Deed) -> Result<(), AllocError> {
-        let arrow = arrow(deed);
-        let sentence = label(deed);
-        writeln!(self.text, "    {arrow}{sentence}")
+    pub(crate) fn push(&mut self, deed: Deed) {
+        self.text.push("    ");
+        self.text.push_sentence(arrow(deed));
+        self.text.push_sentence(label(deed));
+        self.text.push("\n");
     }
 }
 

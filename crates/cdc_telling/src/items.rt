@@ -2,6 +2,8 @@
 
 use crate::places::Places;
 use crate::results::{account_sentence, batch_sentence, item_count, transfer_sentence};
+use crate::sentences::Sentence;
+use crate::texts::Text;
 use cdc_ledger::{BatchError, Ledger};
 use cdc_types::{AccountResult, Batch, BatchResults, NewAccount, NewTransfer, TransferResult};
 use std::alloc::{AllocError, Global};
@@ -18,67 +20,53 @@ pub(crate) struct ItemLines<'a> {
     /// How many items.
     items: usize,
     /// The lines.
-    text: String,
+    text: Text,
 }
 
 impl<'a> ItemLines<'a> {
-    /// No lines, of a script of this name and these bytes.
-    pub(crate) fn new(
-        alloc: Global,
-        name: &'a str,
-        script: &[u8],
-    ) -> Result<ItemLines<'a>, AllocError> {
-        Ok(ItemLines {
+    /// No lines, of a script of this name, whose batches and items stand in these places.
+    pub(crate) fn new(alloc: Global, name: &'a str, places: Places) -> ItemLines<'a> {
+        ItemLines {
             name,
-            places: Places::of(alloc, script)?,
+            places,
             batches: 0,
             items: 0,
-            text: String::new(alloc),
-        })
+            text: Text::new(alloc),
+        }
     }
 
     /// The lines, on their own.
-    pub(crate) fn into_text(self) -> String {
+    pub(crate) fn finish(self) -> Result<String, AllocError> {
         let ItemLines { text, .. } = self;
-        text
+        text.finish()
     }
 
     /// Adds what is to be said of the next batch, which the ledger took with these results and stands after it.
-    pub(crate) fn push_results(
-        &mut self,
-        batch: &Batch,
-        results: &BatchResults,
-        ledger: &Ledger,
-    ) -> Result<(), AllocError> {
+    pub(crate) fn push_results(&mut self, batch: &Batch, results: &BatchResults, ledger: &Ledger) {
         match (batch, results) {
             (Batch::Accounts { items, .. }, BatchResults::Accounts(results)) => {
-                self.push_accounts(items.as_slice(), results.as_slice())?;
+                self.push_accounts(items.as_slice(), results.as_slice());
             }
             (Batch::Transfers { items, .. }, BatchResults::Transfers(results)) => {
-                self.push_transfers(items.as_slice(), results.as_slice(), ledger)?;
+                self.push_transfers(items.as_slice(), results.as_slice(), ledger);
             }
             _ => {}
         }
         self.pass(batch);
-        Ok(())
     }
 
-    /// Adds why the next batch was refused as a whole.
-    pub(crate) fn push_refusal(
-        &mut self,
-        batch: &Batch,
-        refusal: BatchError,
-    ) -> Result<(), AllocError> {
-        let (name, line) = (self.name, self.places.batch(self.batches));
-        let number = self.batches.saturating_add(1);
-        let (result, why) = (refusal.number(), refusal.name());
+    /// Adds why the next batch was refused as a whole. Of one that memory ran out for nothing can be said.
+    pub(crate) fn push_refusal(&mut self, batch: &Batch, refusal: BatchError) {
+        if refusal == BatchError::OutOfMemory {
+            self.text.give_up();
+            return;
+        }
+        let line = self.places.batch(self.batches);
+        self.push_line(line);
+        self.text.push_sentence(Sentence::One("batch ", self.batches as u128 + 1, " refused: "));
         let sentence = batch_sentence(refusal, batch);
-        writeln!(
-            self.text,
-            "{name}:{line}: batch {number} refused: {result} {why}: {sentence}"
-        )?;
+        self.push_answer(refusal.number(), refusal.name(), sentence);
         self.pass(batch);
-        Ok(())
     }
 
     /// Goes on to the next batch.
@@ -88,20 +76,14 @@ impl<'a> ItemLines<'a> {
     }
 
     /// Adds a line for each account that wasn't made.
-    fn push_accounts(
-        &mut self,
-        requests: &[NewAccount],
-        results: &[AccountResult],
-    ) -> Result<(), AllocError> {
+    fn push_accounts(&mut self, requests: &[NewAccount], results: &[AccountResult]) {
         for (place, (request, result)) in requests.iter().zip(results).enumerate() {
             if *result != AccountResult::Accepted {
-                self.push_place(place, "account", request.id)?;
-                let (number, name) = (result.number(), result.name());
+                self.push_place(place, " account ", request.id);
                 let sentence = account_sentence(*result, request);
-                writeln!(self.text, "{number} {name}: {sentence}")?;
+                self.push_answer(result.number(), result.name(), sentence);
             }
         }
-        Ok(())
     }
 
     /// Adds a line for each transfer that wasn't made.
@@ -110,28 +92,44 @@ impl<'a> ItemLines<'a> {
         requests: &[NewTransfer],
         results: &[TransferResult],
         ledger: &Ledger,
-    ) -> Result<(), AllocError> {
+    ) {
         for (place, (request, result)) in requests.iter().zip(results).enumerate() {
             if *result != TransferResult::Accepted {
-                self.push_place(place, "transfer", request.id)?;
-                let (number, name) = (result.number(), result.name());
+                self.push_place(place, " transfer ", request.id);
                 let sentence = transfer_sentence(*result, request, ledger);
-                writeln!(self.text, "{number} {name}: {sentence}")?;
+                self.push_answer(result.number(), result.name(), sentence);
             }
         }
-        Ok(())
     }
 
     /// Begins the line of an item: where it stands, and which one it is.
-    fn push_place(&mut self, place: usize, kind: &str, id: u128) -> Result<(), AllocError> {
-        let (name, line) = (
-            self.name,
-            self.places.item(self.items.saturating_add(place)),
-        );
-        let (batch, item) = (self.batches.saturating_add(1), place.saturating_add(1));
-        write!(
-            self.text,
-            "{name}:{line}: batch {batch} {kind} {item} (id {id}): "
-        )
+    fn push_place(&mut self, place: usize, kind: &'static str, id: u128) {
+        let line = self.places.item(self.items.saturating_add(place));
+        self.push_line(line);
+        self.text.push_sentence(Sentence::Two(
+            "batch ",
+            self.batches as u128 + 1,
+            kind,
+            place as u128 + 1,
+            " (id ",
+        ));
+        self.text.push_sentence(Sentence::One("", id, "): "));
+    }
+
+    /// Begins a line: of the script and of its line it speaks.
+    fn push_line(&mut self, line: u64) {
+        self.text.push(self.name);
+        self.text
+            .push_sentence(Sentence::One(":", line.into(), ": "));
+    }
+
+    /// Ends a line: the number and the name of an answer, and what it means.
+    fn push_answer(&mut self, number: u8, name: &str, sentence: Sentence) {
+        self.text.push_number(number.into());
+        self.text.push(" ");
+        self.text.push(name);
+        self.text.push(": ");
+        self.text.push_sentence(sentence);
+        self.text.push("\n");
     }
 }

@@ -19,6 +19,7 @@ mod sessions;
 mod simulations;
 mod steps;
 mod tally;
+mod texts;
 
 pub use books::books_lines;
 pub use files::{script_sentence, steps_sentence};

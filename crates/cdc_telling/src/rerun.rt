@@ -2,12 +2,15 @@
 
 ghost use Rattle.std.specs.Prelude.{◌≡◌};
 
+use crate::deeds::Deed;
 use crate::diagram::Diagram;
 use crate::following::Followed;
 use crate::items::ItemLines;
 use crate::reasons::reason;
 use crate::results::batch_sentence;
-use crate::steps::StepWords;
+use crate::sentences::Sentence;
+use crate::steps::step_words;
+use crate::texts::Text;
 use cdc_ledger::BatchError;
 use cdc_progress::MemoryStore;
 use cdc_script::{Act, ClientBatch, Script};
@@ -22,16 +25,18 @@ pub(crate) struct Retold<'a> {
     /// Why items weren't accepted.
     pub items: ItemLines<'a>,
     /// What each step did, a line for each.
-    pub trace: String,
+    pub trace: Text,
     /// The steps as a diagram.
     pub diagram: Diagram,
-    /// The step that was refused, and why: its place, from 0, and a text.
-    pub refusal: Option<(usize, String)>,
+    /// The place, from 0, of the step that was refused.
+    pub refused: Option<usize>,
+    /// Why it was refused.
+    pub why: Text,
 }
 
 /// A simulation on its way.
 #[derive(Drop)]
-struct SecondRun<'a> {
+struct SecondRun {
     /// The world.
     world: World<MemoryStore>,
     /// The script's batches that are left.
@@ -40,119 +45,150 @@ struct SecondRun<'a> {
     batch_count: usize,
     /// What steps tell beside it.
     followed: Followed,
-    /// What is told.
-    told: Retold<'a>,
 }
 
 /// Plays a script by a step file once more, and tells it.
-pub(crate) fn rerun<'a>(
+pub(crate) fn rerun(
     alloc: Global,
     script: Script,
     window: usize,
     acts: &[Act],
-    items: ItemLines<'a>,
-) -> Result<Retold<'a>, AllocError>
+    told: &mut Retold<'_>,
+)
     requires { window ≡ Limits.WINDOW_TODAY }
 {
-    let Script { bindings, batches } = script;
-    let followed = Followed::new(alloc, bindings.as_slice())?;
-    let mut rerun = SecondRun {
-        world: World::new(alloc, bindings.into_vec(), window, MemoryStore::new())?,
-        batch_count: batches.as_slice().len(),
-        batches: batches.into_vec().into_iter(),
-        told: Retold {
-            items,
-            trace: String::new(alloc),
-            diagram: Diagram::new(alloc, followed.lanes.len())?,
-            refusal: None,
-        },
-        followed,
-    };
-    rerun.play(alloc, acts)?;
-    Ok(rerun.told)
+    match SecondRun::new(alloc, script, window) {
+        Ok(mut run) => told.refused = run.play(alloc, acts, told),
+        Err(_) => told.why.give_up(),
+    }
 }
 
-impl SecondRun<'_> {
-    /// Plays acts up to the first that is refused.
-    fn play(&mut self, alloc: Global, acts: &[Act]) -> Result<(), AllocError> {
-        for (place, act) in acts.iter().enumerate() {
-            if let Some(why) = self.play_act(alloc, act)? {
-                self.told.refusal = Some((place, why));
-                return Ok(());
-            }
-        }
-        Ok(())
+impl SecondRun {
+    /// A simulation of a script in which nothing has happened.
+    fn new(alloc: Global, script: Script, window: usize) -> Result<SecondRun, AllocError>
+        requires { window ≡ Limits.WINDOW_TODAY }
+    {
+        let Script { bindings, batches } = script;
+        let followed = Followed::new(alloc, bindings.as_slice())?;
+        let world = World::new(alloc, bindings.into_vec(), window, MemoryStore::new())?;
+        Ok(SecondRun {
+            world,
+            batch_count: batches.as_slice().len(),
+            batches: batches.into_vec().into_iter(),
+            followed,
+        })
     }
 
-    /// Plays an act, or says why it is refused.
-    fn play_act(&mut self, alloc: Global, act: &Act) -> Result<Option<String>, AllocError> {
+    /// Plays acts up to the first that is refused, and answers its place.
+    fn play(&mut self, alloc: Global, acts: &[Act], told: &mut Retold<'_>) -> Option<usize> {
+        for (place, act) in acts.iter().enumerate() {
+            if !self.play_act(alloc, act, told) {
+                return Some(place);
+            }
+        }
+        None
+    }
+
+    /// Plays an act, and answers whether it was done.
+    fn play_act(&mut self, alloc: Global, act: &Act, told: &mut Retold<'_>) -> bool {
         match act {
-            Act::Step(step) => self.play_step(alloc, step),
+            Act::Step(step) => self.play_step(alloc, step, told),
             Act::Batch => match self.batches.next() {
-                Some(item) => self.play_step(alloc, &Step::Submit(item.batch)),
+                Some(item) => self.play_step(alloc, &Step::Submit(item.batch), told),
                 None => {
-                    let count = self.batch_count;
-                    let text = format!(in alloc;
-                        "batch: not enabled: no batch is left of the script's {count}"
-                    )?;
-                    Ok(Some(text))
+                    told.why.push_sentence(Sentence::One(
+                        "batch: not enabled: no batch is left of the script's ",
+                        self.batch_count as u128,
+                        "",
+                    ));
+                    false
                 }
             },
         }
     }
 
-    /// Takes a step and tells it, or says why it is refused.
-    fn play_step(&mut self, alloc: Global, step: &Step) -> Result<Option<String>, AllocError> {
+    /// Takes a step and tells it, or why it is refused. Answers whether it was done.
+    fn play_step(&mut self, alloc: Global, step: &Step, told: &mut Retold<'_>) -> bool {
         match self.world.step(alloc, step) {
             Ok(did) => {
-                self.tell(step, &did)?;
-                Ok(None)
+                self.tell(step, &did, told);
+                true
             }
-            Err(refusal) => Ok(Some(self.why(alloc, step, refusal)?)),
+            Err(refusal) => {
+                self.push_why(step, refusal, &mut told.why);
+                false
+            }
         }
     }
 
     /// Tells a step that was done.
-    fn tell(&mut self, step: &Step, did: &Did) -> Result<(), AllocError> {
+    fn tell(&mut self, step: &Step, did: &Did, told: &mut Retold<'_>) {
+        let ledger = self.world.ledger();
         if let (Step::Submit(batch), Did::Submitted(results)) = (step, did) {
-            let ledger = self.world.ledger();
-            self.told.items.push_results(batch, results, ledger)?;
+            told.items.push_results(batch, results, ledger);
         }
-        let deed = self.followed.follow(step, did, self.world.ledger())?;
-        let (words, sentence) = (StepWords(step), deed.sentence());
-        writeln!(self.told.trace, "{words}: {sentence}")?;
-        self.told.diagram.push(deed)
+        match self.followed.follow(step, did, ledger) {
+            Ok(deed) => told.push(step, deed),
+            Err(_) => told.trace.give_up(),
+        }
     }
 
-    /// Why a step is refused. Without memory it isn't said.
-    fn why(
-        &mut self,
-        alloc: Global,
-        step: &Step,
-        refusal: StepError,
-    ) -> Result<String, AllocError> {
-        let words = StepWords(step);
+    /// Why a step is refused. Of one that memory ran out for nothing can be said.
+    fn push_why(&self, step: &Step, refusal: StepError, why: &mut Text) {
         match (refusal, step) {
-            (StepError::OutOfMemory, _) => Err(AllocError),
-            (StepError::Refused(why), Step::Submit(batch)) => refused_batch(alloc, batch, why),
-            (StepError::NotEnabled, _) => {
-                let sentence = reason(step, &self.followed);
-                format!(in alloc; "{words}: not enabled: {sentence}")
+            (StepError::OutOfMemory, _) => why.give_up(),
+            (StepError::Refused(answer), Step::Submit(batch)) => {
+                push_refused_batch(batch, answer, why);
             }
-            (StepError::SessionsExhausted, _) => {
-                format!(in alloc; "{words}: sessions_exhausted: no number is left for a session")
+            _ => {
+                why.push_sentence(step_words(step));
+                why.push(": ");
+                self.push_refusal(step, refusal, why);
             }
-            (StepError::Store(_) | StepError::Refused(_), _) => {
-                let name = refusal.name();
-                format!(in alloc; "{words}: {name}")
+        }
+    }
+
+    /// Why a step is refused that is no batch.
+    fn push_refusal(&self, step: &Step, refusal: StepError, why: &mut Text) {
+        match refusal {
+            StepError::NotEnabled => {
+                why.push("not enabled: ");
+                why.push_sentence(reason(step, &self.followed));
             }
+            StepError::SessionsExhausted => {
+                why.push("sessions_exhausted: no number is left for a session");
+            }
+            _ => why.push(refusal.name()),
         }
     }
 }
 
+impl<'a> Retold<'a> {
+    /// Nothing yet, of a simulation with so many subscribers.
+    pub(crate) fn new(alloc: Global, subscribers: usize, items: ItemLines<'a>) -> Retold<'a> {
+        Retold {
+            items,
+            trace: Text::new(alloc),
+            diagram: Diagram::new(alloc, subscribers),
+            refused: None,
+            why: Text::new(alloc),
+        }
+    }
+
+    /// Adds what a step did.
+    fn push(&mut self, step: &Step, deed: Deed) {
+        self.trace.push_sentence(step_words(step));
+        self.trace.push(": ");
+        self.trace.push_sentence(deed.sentence());
+        self.trace.push("\n");
+        self.diagram.push(deed);
+    }
+}
+
 /// Why the ledger refuses a batch.
-fn refused_batch(alloc: Global, batch: &Batch, why: BatchError) -> Result<String, AllocError> {
-    let (number, name) = (why.number(), why.name());
-    let sentence = batch_sentence(why, batch);
-    format!(in alloc; "batch: refused: {number} {name}: {sentence}")
+fn push_refused_batch(batch: &Batch, answer: BatchError, why: &mut Text) {
+    why.push_sentence(Sentence::One("batch: refused: ", answer.number().into(), " "));
+    why.push(answer.name());
+    why.push(": ");
+    why.push_sentence(batch_sentence(answer, batch));
 }

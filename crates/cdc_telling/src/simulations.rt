@@ -5,11 +5,11 @@ ghost use Rattle.cdc_script.specs.Scripts.{script_of};
 ghost use Rattle.cdc_script.specs.StepFiles.{acts_of};
 
 use crate::items::ItemLines;
-use crate::places::step_line;
+use crate::places::{Places, step_line};
 use crate::rerun::{Retold, rerun};
 use cdc_script::{parse_script, parse_steps};
 use cdc_types::Limits;
-use std::alloc::Global;
+use std::alloc::{AllocError, Global};
 
 /// What is told of a simulation. Lines end with a line feed.
 #[derive(Drop)]
@@ -46,24 +46,37 @@ pub fn simulation_told(
     ensures script { IfSome result (λ told. IsOk (script_of script.now)) }
     ensures steps { IfSome result (λ told. IsOk (acts_of steps.now)) }
 {
+    let places = Places::of(alloc, script).ok()?;
     let Ok(said) = parse_script(alloc, script) else {
         return None;
     };
     let Ok(acts) = parse_steps(alloc, steps) else {
         return None;
     };
-    let items = ItemLines::new(alloc, name, script).ok()?;
+    let mut retold = Retold::new(
+        alloc,
+        said.bindings.as_slice().len(),
+        ItemLines::new(alloc, name, places),
+    );
+    rerun(alloc, said, window, acts.as_slice(), &mut retold);
+    finish(retold, steps).ok()
+}
+
+/// What a second run tells, as texts.
+fn finish(retold: Retold<'_>, steps: &[u8]) -> Result<Told, AllocError> {
     let Retold {
         items,
         trace,
         diagram,
-        refusal,
-    } = rerun(alloc, said, window, acts.as_slice(), items).ok()?;
-    Some(Told {
-        items: items.into_text(),
-        trace,
-        diagram: diagram.into_text(),
-        refusal: refusal.map(|(place, why)| RefusedStep {
+        refused,
+        why,
+    } = retold;
+    let why = why.finish()?;
+    Ok(Told {
+        items: items.finish()?,
+        trace: trace.finish()?,
+        diagram: diagram.finish()?,
+        refusal: refused.map(|place| RefusedStep {
             line: step_line(steps, place),
             why,
         }),
