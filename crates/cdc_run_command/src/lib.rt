@@ -2,9 +2,9 @@
 #![tactic(auto)]
 
 mod faults;
-pub mod lone_runs;
+mod lone_runs;
 pub mod plans;
-pub mod run;
+mod run;
 mod run_report;
 mod shares;
 
