@@ -1,14 +1,1 @@
-pub mod Checked
-pub mod Feeds
-pub mod Held
-pub mod LoneRuns
-pub mod Messages
 pub mod Options
-pub mod Outcomes
-pub mod Printed
-pub mod Private
-pub mod Report
-pub mod RunPrinted
-pub mod Runs
-pub mod Simulated
-pub mod Simulations

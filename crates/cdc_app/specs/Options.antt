@@ -1,37 +1,13 @@
 -- What the words of the command line ask for.
-use Rattle.std.specs.Prelude.{◌≡◌, ◌≤◌, ℕ, List, All, None, codes}
-use Rattle.cdc_types.specs.declared.bounds.TheConstants.Limits.{PREFETCH, WINDOW_TODAY}
+use Rattle.std.specs.Prelude.{◌≡◌, ℕ, List, None, codes}
 use Rattle.cdc_run.specs.Plans.{HasNoFaults}
-use Rattle.cdc_run.specs.declared.plans.Faults.{Faults}
+use Rattle.cdc_commands.specs.Windows.{IsWindow}
+use Rattle.cdc_run_command.specs.Plans.{IsPlan}
+use Rattle.cdc_run_command.specs.declared.plans.RunPlan.{RunPlan}
 use Rattle.cdc_app.specs.declared.command_line.Options.{Options}
 use Rattle.cdc_app.specs.declared.command_line.Options.TheVariants.{Books, Messages, Simulate, Run, Check, Explain}
 use Rattle.cdc_app.specs.declared.command_line.OptionsFault.{OptionsFault}
 use Rattle.cdc_app.specs.declared.command_line.OptionsFault.TheVariants.{BadWords, OutOfMemory}
-use Rattle.cdc_app.specs.declared.command_line.RunPlan.{RunPlan}
-
--- a session may wait for so many events at a time
-pub record IsWindow (window : ℕ) : Type 0 where
-  pub least : 1 ≤ window
-  pub greatest : window ≤ WINDOW_TODAY
-
--- a queue may have so many deliveries without an acknowledgement
-pub record IsPrefetch (prefetch : ℕ) : Type 0 where
-  pub least : 1 ≤ prefetch
-  pub greatest : prefetch ≤ PREFETCH
-
--- all counts of a run's faults are from 1 up
-pub record AreCounts (faults : Faults) : Type 0 where
-  pub confirms : All (λ n. 1 ≤ n) faults.lose_confirm.items
-  pub publishes : All (λ n. 1 ≤ n) faults.lose_publish.items
-  pub restarts : All (λ n. 1 ≤ n) faults.restart_after.items
-  pub repeats : All (λ p. (1 ≤ p.0) × (1 ≤ p.1)) faults.repeat.items
-  pub closes : All (λ p. (1 ≤ p.0) × (1 ≤ p.1)) faults.close.items
-
--- the numbers of a run's plan are within their limits
-pub record IsPlan (plan : RunPlan) : Type 0 where
-  pub window : IsWindow plan.window
-  pub prefetch : IsPrefetch plan.prefetch
-  pub counts : AreCounts plan.faults
 
 -- the plan of a run of which nothing else is said: a window of one event, a prefetch of 8, and no fault
 pub record IsDefaultPlan (plan : RunPlan) : Type 0 where

@@ -1,8 +1,7 @@
 //! What standard error says to a person, beside the fault's line on standard output.
 
-use crate::endings::Ending;
-use crate::faults::ProgramFault;
 use crate::sources::STANDARD_INPUT;
+use cdc_commands::{Ending, ProgramFault};
 use cdc_run::RunLimits;
 use cdc_script::ScriptFault;
 use cdc_telling::{Sentence, script_sentence, steps_sentence};

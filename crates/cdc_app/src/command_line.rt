@@ -3,7 +3,7 @@
 ghost use Rattle.std.specs.Prelude.{◌≡◌};
 ghost use Rattle.cdc_app.specs.Options.{options_fault_number, options_fault_name};
 
-use cdc_run::Faults;
+use cdc_run_command::RunPlan;
 use std::alloc::AllocError;
 use thiserror::Error;
 
@@ -58,17 +58,6 @@ pub struct Telling<'a> {
     pub trace: bool,
     /// The file that gets the steps as a diagram; `-` is standard error.
     pub diagram: Option<&'a str>,
-}
-
-/// How a script is run on threads.
-#[derive(Drop)]
-pub struct RunPlan {
-    /// For how many events the connector's session waits at a time.
-    pub window: usize,
-    /// How many deliveries of a queue may be without an acknowledgement.
-    pub prefetch: u64,
-    /// What goes wrong in the run.
-    pub faults: Faults,
 }
 
 /// Why words ask for nothing.

@@ -1,41 +1,27 @@
 //! The program: a script in, and a report of its ledger, its messages or a subscriber's book out.
 #![tactic(auto)]
 
-ghost use Rattle.cdc_app.specs.Options.{IsPlan, IsWindow};
+ghost use Rattle.cdc_commands.specs.Windows.{IsWindow};
+ghost use Rattle.cdc_run_command.specs.Plans.{IsPlan};
 
 mod advice;
-mod batches;
 mod command_line;
-mod commands;
-mod endings;
-mod faults;
-mod feeding;
 mod kept;
-mod lone_runs;
 mod options;
-mod output;
-mod report;
 mod run_options;
-mod run_report;
-mod shares;
-mod simulation_report;
-mod simulations;
 mod sources;
 mod telling;
 
 use advice::{advise, advise_on_steps};
+use cdc_commands::books::books;
+use cdc_commands::check::{check, check_files};
+use cdc_commands::messages::messages;
+use cdc_commands::{Ending, ProgramFault, print_fault, print_text, simulate_command};
 use cdc_progress::{FileStore, MemoryStore};
 use cdc_run::OpenGate;
-use commands::books::books;
-use commands::check::{check, check_files};
-use commands::messages::messages;
-use commands::run::run_command;
-use commands::simulate::simulate_command;
-use endings::Ending;
-use faults::ProgramFault;
+use cdc_run_command::{RunPlan, run_command};
 use kept::Kept;
-use options::{Options, OptionsFault, RunPlan, Telling, options};
-use output::{print_fault, print_text};
+use options::{Options, OptionsFault, Telling, options};
 use sources::{STANDARD_INPUT, Source};
 use std::alloc::AllocError;
 use std::process::ExitCode;

@@ -1,9 +1,10 @@
 //! The words of the command line.
 
 ghost use Rattle.std.specs.Prelude.{◌≡◌, length, codes, IfOk, IfSome, IsOkAnd};
-ghost use Rattle.cdc_app.specs.Options.{IsRun, IsWindow, IsWithinLimits};
+ghost use Rattle.cdc_commands.specs.Windows.{IsWindow};
+ghost use Rattle.cdc_app.specs.Options.{IsRun, IsWithinLimits};
 
-pub use crate::command_line::{Options, OptionsFault, RunPlan, Telling};
+pub use crate::command_line::{Options, OptionsFault, Telling};
 use crate::run_options::{default_plan, run_plan, run_words};
 use crate::sources::STANDARD_INPUT;
 use cdc_message::decimal_up_to;

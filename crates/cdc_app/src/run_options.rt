@@ -1,12 +1,14 @@
 //! The words of the command `run`.
 
 ghost use Rattle.std.specs.Prelude.{◌≡◌, ◌≤◌, All, IfOk, IfSome};
-ghost use Rattle.cdc_app.specs.Options.{AreCounts, IsDefaultPlan, IsPlan, IsPrefetch};
+ghost use Rattle.cdc_run_command.specs.Plans.{AreCounts, IsPlan, IsPrefetch};
+ghost use Rattle.cdc_app.specs.Options.{IsDefaultPlan};
 
-use crate::command_line::{OptionsFault, RunPlan};
+use crate::command_line::OptionsFault;
 use crate::options::{MORE, asked_window, bad_words, script_argument, window_option};
 use cdc_message::decimal_up_to;
 use cdc_run::Faults;
+use cdc_run_command::RunPlan;
 use cdc_types::Limits;
 use clap::{Arg, ArgAction, ArgMatches, Command};
 use std::alloc::{AllocError, Global};

@@ -2,7 +2,7 @@
 //! was refused, and what each step did. Where memory runs out on the way nothing is told, and a write that fails is
 //! passed over: the command has ended by then.
 
-ghost use Rattle.cdc_app.specs.Options.{IsWindow};
+ghost use Rattle.cdc_commands.specs.Windows.{IsWindow};
 
 use crate::advice::shown_name;
 use crate::options::{STANDARD_ERROR, Telling};

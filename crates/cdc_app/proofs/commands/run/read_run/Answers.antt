@@ -1,7 +1,0 @@
-use Rattle.cdc_app.proofs.RunLemmas.{run_of_script}
-use Rattle.cdc_app.proofs.commands.run.read_run.Goals as goal
-
-pub returns-clause-output : goal.returns-clause-output
-returns-clause-output g c =
-    run_of_script _ c.deref.result.now c.in_ok-bytes.bytes.items (g.R.Read.remaining c.args.reader.now)
-    c.run_of.result c.deref.ensures.value c.in_ok-bytes.ensures.script c.run_of.ensures.output

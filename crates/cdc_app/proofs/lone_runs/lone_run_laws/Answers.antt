@@ -1,5 +1,0 @@
-use Rattle.cdc_app.proofs.LoneRuns.{lone_runs}
-use Rattle.cdc_app.proofs.lone_runs.lone_run_laws.Goals as goal
-
-pub returns : goal.returns
-returns c = lone_runs c.determined_laws.ensures.alone c.determined_laws.ensures.all_unasked

@@ -1,9 +1,0 @@
-use Rattle.std.proofs.Common.{◌≡◌, length}
-use Rattle.std.specs.Prelude.{All}
-use Rattle.cdc_app.proofs.run_report.none_taken.Given as goal
-
-abbrev pub invariant-loop : goal.invariant-loop
-invariant-loop l = record {
-  count : length l.taken.items ≡ l.counter;
-  none : All (λ n. n ≡ 0) l.taken.items;
-}

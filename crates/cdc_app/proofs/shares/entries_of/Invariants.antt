@@ -1,6 +1,0 @@
-use Rattle.std.proofs.Common.{◌≡◌}
-use Rattle.cdc_app.specs.Runs.{entries_of}
-use Rattle.cdc_app.proofs.shares.entries_of.Given as goal
-
-abbrev pub invariant-loop-client : goal.invariant-loop-client
-invariant-loop-client l = l.entries.items ≡ entries_of l.yielded

@@ -1,9 +1,0 @@
-use Rattle.std.proofs.Common.{◌≡◌, ◌+◌, ◌<◌, ℕ, map}
-use Rattle.cdc_app.specs.Runs.{own_of, shares_from}
-use Rattle.cdc_app.proofs.shares.part_entries.Given as goal
-
-abbrev pub invariant-loop-place : goal.invariant-loop-place
-invariant-loop-place l = record {
-  parted : map (λ s. s.items) l.scripts.items ≡ shares_from 1 l.place l.fn.entries.items;
-  stays : (client : ℕ) → l.place < client → own_of client l.left.items ≡ own_of client l.fn.entries.items;
-}

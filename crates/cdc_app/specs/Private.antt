@@ -1,6 +1,0 @@
--- What the contracts of private functions alone cite: a reader has to believe none of it.
-pub mod Merging
-pub mod Outcomes
-pub mod Queues
-pub mod Runnable
-pub mod Stages

@@ -1,0 +1,9 @@
+mod Examples
+pub mod HeldLaws
+pub mod FeedLemmas
+pub mod OutputLemmas
+pub mod Places
+pub mod SimulationLemmas
+pub mod SimulationReached
+pub mod TakerLemmas
+pub mod TextLemmas

@@ -1,0 +1,84 @@
+-- The world that a simulation comes to is one that steps lead to, so each of its subscribers is faithful.
+use Rattle.std.proofs.Common.{◌≡◌, ℕ, ◌+◌, List, [], ◌∷◌, Some, None, Ok, Err, length, get_or, ap, subst, inl, inr}
+use Rattle.std.specs.Prelude.{Option, All}
+use Rattle.std.proofs.lemmas.Option.{slice_get-get_or}
+use Rattle.cdc_match.specs.Arguments.{Arguments}
+use Rattle.cdc_types.specs.declared.steps.Step.{Step}
+use Rattle.cdc_laws.specs.Faithful.{IsFaithful}
+use Rattle.cdc_world.specs.declared.steps.StepError.{StepError}
+use Rattle.cdc_world.specs.Next.{IsReached, Leads}
+use Rattle.cdc_world.specs.Worlds.{WorldState}
+use Rattle.cdc_world.proofs.Reached.{faithful-reached}
+use Rattle.cdc_script.specs.declared.scripts.ClientBatch.{ClientBatch}
+use Rattle.cdc_script.specs.declared.scripts.Script.{Script}
+use Rattle.cdc_script.specs.declared.step_files.Act.{Act}
+use Rattle.cdc_commands.specs.Simulations.{AnswersTo, PlaysActs, Simulates, Stage, at_start, step_for, simulation_text}
+use Rattle.cdc_commands.proofs.SimulationLemmas.{numbered_found}
+
+-- a step that is done, and those after it
+done_leads : (before between : Stage) (want : Option (Step × ℕ)) (steps : List Step) (w : WorldState)
+    → AnswersTo before want None between → Leads between.world steps w
+    → (more : List Step) × Leads before.world more w
+done_leads before between None steps w answers rest = absurd answers
+done_leads before between (Some want) steps w answers rest = (
+  want.0 ∷ steps,
+  (
+    Ok answers.0,
+    answers.1,
+    answers.2.0,
+    subst (λ (x : WorldState). Leads x steps w) (ap (λ (x : Stage). x.world) answers.2.1) rest,
+  ),
+)
+
+-- a step that is refused
+refused_leads : (before end : Stage) (want : Option (Step × ℕ)) (why : StepError) → AnswersTo before want (Some why) end
+    → (more : List Step) × Leads before.world more end.world
+refused_leads before end None why answers = ([], ap (λ (x : Stage). x.world) answers.1)
+refused_leads before end (Some want) why answers =
+    (want.0 ∷ [], (Err why, answers.0, answers.1.0.0, ap (λ (x : Stage). x.world) answers.1.1))
+
+-- the steps that acts ask for lead from one world to the other
+acts_lead : (batches : List ClientBatch) (before : Stage) (acts : List Act) (refusal : Option StepError) (end : Stage)
+    → PlaysActs batches before acts refusal end → (steps : List Step) × Leads before.world steps end.world
+acts_lead batches before [] None end plays = ([], ap (λ (x : Stage). x.world) plays)
+acts_lead batches before [] (Some why) end plays = absurd plays
+acts_lead batches before (a ∷ acts) refusal end (inl refused) =
+    refused_leads before end (step_for batches before.batches a) refused.0 refused.1.1
+acts_lead batches before (a ∷ acts) refusal end (inr on) =
+    let rest = acts_lead batches on.0 acts refusal end on.1.1 in
+    done_leads before on.0 (step_for batches before.batches a) rest.0 end.world on.1.0 rest.1
+
+-- the world is one that steps lead to
+pub is_reached : (bindings : List Arguments) (window : ℕ) (batches : List ClientBatch) (acts : List Act)
+    (refusal : Option StepError) (end : Stage) → PlaysActs batches (at_start bindings window) acts refusal end
+    → IsReached end.world
+is_reached bindings window batches acts refusal end plays =
+    let steps = acts_lead batches (at_start bindings window) acts refusal end plays in
+    record { bindings = bindings; window = window; held = None; steps = steps.0; at_start = tt; leads = steps.1 }
+
+-- each subscriber is faithful
+pub all_faithful : (bindings : List Arguments) (window : ℕ) (batches : List ClientBatch) (acts : List Act)
+    (refusal : Option StepError) (end : Stage) → PlaysActs batches (at_start bindings window) acts refusal end
+    → All (λ s. IsFaithful end.world.history s.binding s.heard) end.world.subscriptions
+all_faithful bindings window batches acts refusal end plays = λ k d inside.
+    let subscriptions = end.world.subscriptions in
+    faithful-reached end.world (k + 1) (get_or subscriptions k d)
+    (is_reached bindings window batches acts refusal end plays)
+    (numbered_found subscriptions k (get_or subscriptions k d) (slice_get-get_or subscriptions k d inside))
+
+-- what is printed of the world that the acts of a script lead to
+pub simulated : (script : Script) (window : ℕ) (acts : List Act) (refusal : Option StepError) (printed : List ℕ)
+    (batches : List ClientBatch) (bindings : List Arguments) (end : Stage) → batches ≡ script.batches
+    → bindings ≡ script.bindings → PlaysActs batches (at_start bindings window) acts refusal end
+    → printed ≡ simulation_text (length acts) refusal end
+    → Simulates (record { script = script; window = window; acts = acts }) refusal printed
+simulated script window acts refusal printed batches bindings end whose of plays prints =
+    let of_script : PlaysActs script.batches (at_start script.bindings window) acts refusal end =
+    subst (λ (bs : List ClientBatch). PlaysActs bs (at_start script.bindings window) acts refusal end) whose
+    (subst (λ (bs : List Arguments). PlaysActs batches (at_start bs window) acts refusal end) of plays) in
+    record {
+      end = end;
+      plays = of_script;
+      prints = prints;
+      faithful = all_faithful script.bindings window script.batches acts refusal end of_script;
+    }

@@ -1,0 +1,11 @@
+pub mod Checked
+pub mod Feeds
+pub mod Held
+pub mod Messages
+pub mod Outcomes
+pub mod Printed
+pub mod Private
+pub mod Report
+pub mod Simulated
+pub mod Simulations
+pub mod Windows

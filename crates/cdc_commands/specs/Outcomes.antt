@@ -1,0 +1,75 @@
+-- What a command makes of what it reads, and what it writes of that.
+use Rattle.std.specs.Prelude.{◌≡◌, ◌⊎◌, ℕ, List, Option, IfSome}
+use Rattle.std.specs.Io.KnownBytes.{Appends}
+use Rattle.cdc_commands.specs.declared.endings.Ending.{Ending}
+use Rattle.cdc_commands.specs.declared.endings.Ending.TheVariants.{Done, Failed, Refused, BadScript, BadSteps, TooManySubscribers, BadWords}
+use Rattle.cdc_commands.specs.declared.faults.ProgramFault.{ProgramFault}
+use Rattle.cdc_commands.specs.declared.faults.ProgramFault.TheVariants as fault
+use Rattle.cdc_commands.specs.declared.output.Output.{Output}
+use Rattle.cdc_commands.specs.Report.{program_fault_line}
+
+-- the exit status of a command that ends so
+abbrev pub status_of : Ending → ℕ
+status_of Done = 0
+status_of (Failed why) = 1
+status_of (Refused why) = 1
+status_of (BadScript at) = 2
+status_of (BadSteps at) = 2
+status_of TooManySubscribers = 2
+status_of BadWords = 2
+
+-- what is printed, and how the command ends
+pub record Outcome : Type 0 where
+  pub text : List ℕ
+  pub ending : Ending
+
+-- what is printed, and how the command ends, as lists and numbers
+abbrev pub outcome_of : Output → Outcome
+outcome_of output = record { text = output.text.items; ending = output.ending }
+
+-- a write failed
+abbrev pub IsWriteFault : Ending → Type 0
+IsWriteFault (Failed (fault.WriteFault why)) = Unit {0}
+IsWriteFault _ = ⊥
+
+-- the text was written and the command ends as it was to, or a write failed
+abbrev pub IsPrinted : Option (List ℕ) → Option (List ℕ) → Outcome → Ending → Type 0
+IsPrinted old new wished ending = IsWriteFault ending ⊎ ((ending ≡ wished.ending) × Appends old new wished.text)
+
+-- what is written by a command that ends so: what such a command prints, unless a write failed
+abbrev pub Writes : (Ending → List ℕ → Type 0) → Option (List ℕ) → Option (List ℕ) → Ending → Type 0
+Writes prints old new ending =
+    IsWriteFault ending ⊎ ((printed : List ℕ) × (Appends old new printed × prints ending printed))
+
+-- a command that reads a script alone, and doesn't give up, ends so
+abbrev pub IsScriptEnding : Ending → Type 0
+IsScriptEnding Done = Unit {0}
+IsScriptEnding (Failed why) = ⊥
+IsScriptEnding (Refused why) = ⊥
+IsScriptEnding (BadScript at) = Unit {0}
+IsScriptEnding (BadSteps at) = ⊥
+IsScriptEnding TooManySubscribers = ⊥
+IsScriptEnding BadWords = ⊥
+
+-- a command that reads a script, alone or with steps, gives up where a read or memory failed
+abbrev pub MayFailScript : ProgramFault → Type 0
+MayFailScript (fault.ReadFault why) = Unit {0}
+MayFailScript (fault.WriteFault why) = ⊥
+MayFailScript (fault.Store why) = ⊥
+MayFailScript fault.OutOfMemory = Unit {0}
+MayFailScript fault.PeerGone = ⊥
+MayFailScript fault.SessionsExhausted = ⊥
+MayFailScript fault.NotOneSystem = ⊥
+
+-- this is printed by a command that ends so, and makes such an outcome of the bytes of its script, which are known or
+-- not
+abbrev pub PrintsOutcome : (List ℕ → Outcome) → Option (List ℕ) → Ending → List ℕ → Type 0
+PrintsOutcome outcome script Done printed =
+    IfSome script (λ bytes. outcome bytes ≡ record { text = printed; ending = Done })
+PrintsOutcome outcome script (BadScript at) printed =
+    IfSome script (λ bytes. outcome bytes ≡ record { text = printed; ending = BadScript at })
+PrintsOutcome outcome script (Failed why) printed = MayFailScript why × (printed ≡ program_fault_line why)
+PrintsOutcome outcome script (Refused why) printed = ⊥
+PrintsOutcome outcome script (BadSteps at) printed = ⊥
+PrintsOutcome outcome script TooManySubscribers printed = ⊥
+PrintsOutcome outcome script BadWords printed = ⊥

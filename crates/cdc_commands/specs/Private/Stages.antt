@@ -1,0 +1,49 @@
+-- The stage that a simulation has come to.
+use Rattle.std.specs.Prelude.{◌≡◌, ℕ, List, Ok, Some, slice_get}
+use Rattle.cdc_types.specs.declared.steps.Step.{Step}
+use Rattle.cdc_types.specs.declared.steps.Step.TheVariants as step
+use Rattle.cdc_world.specs.declared.steps.Did.{Did}
+use Rattle.cdc_world.specs.Next.{Next}
+use Rattle.cdc_world.specs.Parts.{Parts}
+use Rattle.cdc_world.specs.Stands.{Stands}
+use Rattle.cdc_world.specs.Worlds.{WorldState}
+use Rattle.cdc_script.specs.declared.scripts.ClientBatch.{ClientBatch}
+use Rattle.cdc_script.specs.declared.step_files.Act.{Act}
+use Rattle.cdc_script.specs.declared.step_files.Act.TheVariants as act
+use Rattle.cdc_commands.specs.declared.faults.ProgramFault.{ProgramFault}
+use Rattle.cdc_commands.specs.declared.faults.ProgramFault.TheVariants as fault
+use Rattle.cdc_commands.specs.Simulations.{Stage}
+
+-- what contracts see of a simulation: its world, how many batches are done, and the bytes of a line for each of them
+pub record SimulationParts : Type 0 where
+  pub world : Parts
+  pub batches : ℕ
+  pub lines : List ℕ
+
+-- its world stands for that of the stage, and its batches and their lines are those of the stage
+pub record IsAt (simulation : SimulationParts) (stage : Stage) : Type 0 where
+  pub world : Stands simulation.world stage.world
+  pub batches : simulation.batches ≡ stage.batches
+  pub lines : simulation.lines ≡ stage.lines
+
+-- a simulation gives up for want of memory alone
+abbrev pub IsSimulationFault : ProgramFault → Type 0
+IsSimulationFault (fault.ReadFault why) = ⊥
+IsSimulationFault (fault.WriteFault why) = ⊥
+IsSimulationFault (fault.Store why) = ⊥
+IsSimulationFault fault.OutOfMemory = Unit {0}
+IsSimulationFault fault.PeerGone = ⊥
+IsSimulationFault fault.SessionsExhausted = ⊥
+IsSimulationFault fault.NotOneSystem = ⊥
+
+-- a step was done at a stage, and the simulation's world stands for the one after it
+abbrev pub HasDoneAt : Stage → Step → SimulationParts → Type 0
+HasDoneAt stage step simulation =
+    (did : Did) × (w : WorldState) × (Stands simulation.world w × Next stage.world step (Ok did) w)
+
+-- a simulation gives up at an act whose step was done, where what is printed of it has no room: at a batch, that of the
+-- batch at its place in the script
+abbrev pub GivesUpAt : List ClientBatch → Stage → Act → SimulationParts → Type 0
+GivesUpAt batches stage act.Batch simulation =
+    (b : ClientBatch) × ((slice_get batches stage.batches ≡ Some b) × HasDoneAt stage (step.Submit b.batch) simulation)
+GivesUpAt batches stage (act.Step said) simulation = HasDoneAt stage said simulation

@@ -1,0 +1,57 @@
+-- What is printed: lines of text, each with its line feed.
+use Rattle.std.specs.Prelude.{ℕ, List, [], ◌++◌, codes, decimal, Result, Ok, Err}
+use Rattle.std.specs.List.{flat_map}
+use Rattle.cdc_types.specs.declared.batches.BatchResults.{BatchResults}
+use Rattle.cdc_types.specs.declared.batches.BatchResults.TheVariants as results
+use Rattle.cdc_types.specs.Results.{account_number, transfer_number}
+use Rattle.cdc_ledger.specs.declared.errors.BatchError.{BatchError}
+use Rattle.cdc_ledger.specs.BatchErrors.{batch_error_number, batch_error_name}
+use Rattle.cdc_commands.specs.declared.endings.Ending.{Ending}
+use Rattle.cdc_commands.specs.declared.endings.Ending.TheVariants.{BadScript, BadSteps, TooManySubscribers}
+use Rattle.cdc_commands.specs.declared.faults.ProgramFault.{ProgramFault}
+use Rattle.cdc_commands.specs.declared.faults.ProgramFault.TheVariants as fault
+use Rattle.cdc_script.specs.declared.faults.ScriptFault.{ScriptFault}
+use Rattle.cdc_script.specs.Faults.{kind_name}
+use Rattle.cdc_subscriber.specs.Lines.{spaced}
+
+-- what the ledger answered to a batch: a number for each item, or how many transfers expired by a pulse
+abbrev pub answer_text : Result BatchResults BatchError → List ℕ
+answer_text (Ok (results.Accounts items)) = codes ":" ++ flat_map (λ r. spaced (account_number r)) items
+answer_text (Ok (results.Transfers items)) = codes ":" ++ flat_map (λ r. spaced (transfer_number r)) items
+answer_text (Ok (results.Pulsed count)) = codes ": pulse " ++ decimal count
+answer_text (Err e) = codes " refused:" ++ (spaced (batch_error_number e) ++ (codes " " ++ batch_error_name e))
+
+-- the line of the batch of this number, from 1
+abbrev pub batch_line : ℕ → Result BatchResults BatchError → List ℕ
+batch_line number answer = codes "batch " ++ (decimal number ++ (answer_text answer ++ codes "\n"))
+
+-- the line of a bad script
+abbrev pub script_fault_line : ScriptFault → List ℕ
+script_fault_line at = codes "fault: script line"
+    ++ (spaced at.line ++ (codes ": " ++ (kind_name at.kind ++ codes "\n")))
+
+-- the line of a bad step file
+abbrev pub steps_fault_line : ScriptFault → List ℕ
+steps_fault_line at = codes "fault: steps line"
+    ++ (spaced at.line ++ (codes ": " ++ (kind_name at.kind ++ codes "\n")))
+
+-- the line of a script that has more subscribers than a run may have
+abbrev pub subscribers_fault_line : List ℕ
+subscribers_fault_line = codes "fault: too_many_subscribers\n"
+
+-- the line of the file that a command doesn't take
+abbrev pub file_fault_line : Ending → List ℕ
+file_fault_line (BadScript at) = script_fault_line at
+file_fault_line (BadSteps at) = steps_fault_line at
+file_fault_line TooManySubscribers = subscribers_fault_line
+file_fault_line _ = []
+
+-- the line of a command that gave up
+abbrev pub program_fault_line : ProgramFault → List ℕ
+program_fault_line (fault.ReadFault why) = codes "fault: read_fault\n"
+program_fault_line (fault.WriteFault why) = codes "fault: write_fault\n"
+program_fault_line (fault.Store why) = codes "fault: store\n"
+program_fault_line fault.OutOfMemory = codes "fault: out_of_memory\n"
+program_fault_line fault.PeerGone = codes "fault: peer_gone\n"
+program_fault_line fault.SessionsExhausted = codes "fault: sessions_exhausted\n"
+program_fault_line fault.NotOneSystem = codes "fault: not_one_system\n"

@@ -1,0 +1,45 @@
+-- All that `simulate` prints for a script and a step file.
+use Rattle.std.specs.Prelude.{◌≡◌, ℕ, List, Option, Some, None, IfSome, Ok, Err}
+use Rattle.cdc_world.specs.declared.steps.StepError.{StepError}
+use Rattle.cdc_commands.specs.declared.endings.Ending.{Ending}
+use Rattle.cdc_commands.specs.declared.endings.Ending.TheVariants.{Done, Failed, Refused, BadScript, BadSteps, TooManySubscribers, BadWords}
+use Rattle.cdc_script.specs.declared.scripts.Script.{Script}
+use Rattle.cdc_commands.specs.Outcomes.{MayFailScript}
+use Rattle.cdc_commands.specs.Report.{script_fault_line, steps_fault_line, program_fault_line}
+use Rattle.cdc_script.specs.Scripts.{script_of}
+use Rattle.cdc_commands.specs.Simulations.{Plan, Simulates}
+use Rattle.cdc_script.specs.StepFiles.{acts_of}
+
+-- what `simulate` reads, as far as the bytes of its files are known, and the window of its sessions
+pub record SimulationInput : Type 0 where
+  pub window : ℕ
+  pub script : Option (List ℕ)
+  pub steps : Option (List ℕ)
+
+-- these bytes of a script and of a step file have no fault, and say this plan
+pub record SaysPlan (window : ℕ) (script steps : List ℕ) (plan : Plan) : Type 0 where
+  pub window_is : plan.window ≡ window
+  pub script_said : script_of script ≡ Ok plan.script
+  pub steps_said : acts_of steps ≡ Ok plan.acts
+
+-- what is read says a plan, whose simulation prints this
+abbrev pub RunPrints : SimulationInput → Option StepError → List ℕ → Type 0
+RunPrints input refusal printed = IfSome input.script (λ script. IfSome input.steps (λ steps.
+    (plan : Plan) × (SaysPlan input.window script steps plan × Simulates plan refusal printed)))
+
+-- the script has no fault
+abbrev pub IsGoodScript : List ℕ → Type 0
+IsGoodScript script = (said : Script) × (script_of script ≡ Ok said)
+
+-- this is printed by a command that reads such an input and ends so; the steps are judged after the script
+abbrev pub SimulationPrints : SimulationInput → Ending → List ℕ → Type 0
+SimulationPrints input Done printed = RunPrints input None printed
+SimulationPrints input (Refused why) printed = RunPrints input (Some why) printed
+SimulationPrints input (BadScript at) printed =
+    (printed ≡ script_fault_line at) × IfSome input.script (λ script. script_of script ≡ Err at)
+SimulationPrints input (BadSteps at) printed =
+    (printed ≡ steps_fault_line at)
+    × (IfSome input.script IsGoodScript × IfSome input.steps (λ steps. acts_of steps ≡ Err at))
+SimulationPrints input (Failed why) printed = MayFailScript why × (printed ≡ program_fault_line why)
+SimulationPrints input TooManySubscribers printed = ⊥
+SimulationPrints input BadWords printed = ⊥

@@ -1,0 +1,120 @@
+-- What the acts of a step file do over the batches of a script, and what is printed of it.
+use Rattle.std.specs.Prelude.{◌≡◌, ◌⊎◌, ℕ, ◌+◌, List, [], ◌∷◌, ◌++◌, All, codes, length, Option, Some, None, Ok, Err, slice_get}
+use Rattle.std.specs.Option.{option_map}
+use Rattle.cdc_match.specs.Arguments.{Arguments}
+use Rattle.cdc_progress.specs.Records.{Saved}
+use Rattle.cdc_progress.specs.Stores.{no_risks}
+use Rattle.cdc_subscriber.specs.Heard.{kept_of}
+use Rattle.cdc_subscriber.specs.Lines.{subscriber_text}
+use Rattle.cdc_laws.specs.Faithful.{IsFaithful}
+use Rattle.cdc_world.specs.declared.steps.Did.{Did}
+use Rattle.cdc_world.specs.declared.steps.Did.TheVariants.{Submitted, Arrived, Counted, Took, Done}
+use Rattle.cdc_types.specs.declared.steps.Step.{Step}
+use Rattle.cdc_types.specs.declared.steps.Step.TheVariants as step
+use Rattle.cdc_world.specs.declared.steps.StepError.{StepError}
+use Rattle.cdc_world.specs.declared.steps.StepError.TheVariants.{NotEnabled}
+use Rattle.cdc_world.specs.Errors.{step_error_name}
+use Rattle.cdc_world.specs.Next.{Next, NextOver}
+use Rattle.cdc_world.specs.Worlds.{Subscription, WorldState, new_world}
+use Rattle.cdc_script.specs.declared.scripts.ClientBatch.{ClientBatch}
+use Rattle.cdc_script.specs.declared.scripts.Script.{Script}
+use Rattle.cdc_script.specs.declared.step_files.Act.{Act}
+use Rattle.cdc_script.specs.declared.step_files.Act.TheVariants as act
+use Rattle.cdc_commands.specs.Report.{batch_line}
+use Rattle.cdc_subscriber.specs.Lines.{spaced}
+
+-- how far a simulation has come: the world, how many of the script's batches are done, their lines, and how many acts
+-- are done
+pub record Stage : Type 0 where
+  pub world : WorldState
+  pub batches : ℕ
+  pub lines : List ℕ
+  pub done : ℕ
+
+-- the stage before the first act
+abbrev pub at_start : List Arguments → ℕ → Stage
+at_start bindings window = record { world = new_world bindings window None; batches = 0; lines = []; done = 0 }
+
+-- the step that an act asks for, and how many batches are done after it; `batch` asks for the next one, if one is left
+abbrev pub step_for : List ClientBatch → ℕ → Act → Option (Step × ℕ)
+step_for batches n act.Batch = option_map (λ b. (step.Submit b.batch, n + 1)) (slice_get batches n)
+step_for batches n (act.Step said) = Some (said, n)
+
+-- what is printed of a step that is done: the line of its batch, where it is one
+abbrev pub did_text : ℕ → Did → List ℕ
+did_text number (Submitted results) = batch_line number (Ok results)
+did_text number (Arrived taken) = []
+did_text number (Counted counted) = []
+did_text number (Took taking) = []
+did_text number Done = []
+
+-- the stage after an act that is done, which leaves so many batches done and this world
+abbrev pub after_act : Stage → ℕ → Did → WorldState → Stage
+after_act before batches did w = record {
+  world = w;
+  batches = batches;
+  lines = before.lines ++ did_text (before.batches + 1) did;
+  done = before.done + 1;
+}
+
+-- what is asked for is answered so at a stage, over a store that lacks no memory and has no faults: it is done, and
+-- leads to the other one, or it is refused
+abbrev pub AnswersTo : Stage → Option (Step × ℕ) → Option StepError → Stage → Type 0
+AnswersTo before None None after = ⊥
+AnswersTo before None (Some why) after = (why ≡ NotEnabled) × (after ≡ before)
+AnswersTo before (Some want) None after =
+    (did : Did) × (w : WorldState) × (Next before.world want.0 (Ok did) w × (after ≡ after_act before want.1 did w))
+AnswersTo before (Some want) (Some why) after =
+    (w : WorldState) × (NextOver no_risks before.world want.0 (Err why) w × (after ≡ record before { world = w }))
+
+-- an act leads from one stage to another, and is done, or refused
+abbrev pub ActsTo : List ClientBatch → Stage → Act → Option StepError → Stage → Type 0
+ActsTo batches before a refusal after = AnswersTo before (step_for batches before.batches a) refusal after
+
+-- acts lead from one stage to another: all are done, or those before the first that is refused
+abbrev pub PlaysActs : List ClientBatch → Stage → List Act → Option StepError → Stage → Type 0
+PlaysActs batches before [] None after = after ≡ before
+PlaysActs batches before [] (Some why) after = ⊥
+PlaysActs batches before (a ∷ acts) refusal after =
+    ((why : StepError) × ((refusal ≡ Some why) × ActsTo batches before a (Some why) after))
+    ⊎ ((between : Stage) × (ActsTo batches before a None between × PlaysActs batches between acts refusal after))
+
+-- the line that says how many of all steps are done
+abbrev pub steps_line : ℕ → ℕ → List ℕ
+steps_line done all = codes "steps" ++ (spaced done ++ (codes " of" ++ (spaced all ++ codes "\n")))
+
+-- the line of the step that was refused, the one behind so many, if one was
+abbrev pub refusal_line : ℕ → Option StepError → List ℕ
+refusal_line done None = []
+refusal_line done (Some why) =
+    codes "refused" ++ (spaced (done + 1) ++ (codes " " ++ (step_error_name why ++ codes "\n")))
+
+-- the line of what the store holds
+abbrev pub progress_line : Option Saved → List ℕ
+progress_line None = codes "progress none\n"
+progress_line (Some saved) = codes "progress" ++ (spaced saved.session ++ (spaced saved.timestamp ++ codes "\n"))
+
+-- the lines of subscribers, of which the first has this number
+abbrev pub subscriptions_text : ℕ → List Subscription → List ℕ
+subscriptions_text n [] = []
+subscriptions_text n (s ∷ rest) = subscriber_text n (kept_of s.heard) ++ subscriptions_text (n + 1) rest
+
+-- what is printed of a simulation that came to this stage, of so many acts
+abbrev pub simulation_text : ℕ → Option StepError → Stage → List ℕ
+simulation_text all refusal end =
+    end.lines ++ (steps_line end.done all ++ (refusal_line end.done refusal
+    ++ (progress_line end.world.held ++ subscriptions_text 1 end.world.subscriptions)))
+
+-- what is simulated: a script, the window of its sessions, and the acts
+pub record Plan : Type 0 where
+  pub script : Script
+  pub window : ℕ
+  pub acts : List Act
+
+-- a simulation of this plan prints this: the lines of a world that its acts lead to, each of whose subscribers is
+-- faithful
+pub record Simulates (plan : Plan) (refusal : Option StepError) (printed : List ℕ) : Type 0 where
+  pub end : Stage
+  pub plays : PlaysActs plan.script.batches (at_start plan.script.bindings plan.window) plan.acts refusal end
+  pub prints : printed ≡ simulation_text (length plan.acts) refusal end
+  pub faithful : All (λ s. IsFaithful end.world.history s.binding s.heard) end.world.subscriptions

@@ -1,0 +1,23 @@
+//! The commands over a script that need no thread, each in a file of its own: what it makes of the bytes that it reads,
+//! and the command itself, which reads before that and prints after it; and what `run` shares with them.
+#![tactic(auto)]
+
+mod batches;
+pub mod books;
+pub mod check;
+pub mod endings;
+pub mod faults;
+mod feeding;
+pub mod messages;
+pub mod output;
+mod report;
+pub mod simulate;
+mod simulation_report;
+mod simulations;
+
+pub use endings::Ending;
+pub use faults::ProgramFault;
+pub use feeding::print_subscriber;
+pub use output::{Output, file_fault, print_fault, print_output, print_text};
+pub use report::push_batch;
+pub use simulate::simulate_command;

@@ -1,0 +1,138 @@
+//! What `books` prints: a line for each batch, and then what the subscriber holds.
+
+ghost use Rattle.std.specs.Prelude.{◌≡◌, ◌++◌, codes, Err, OnOk, string_bytes};
+ghost use Rattle.std.specs.List.{flat_map};
+ghost use Rattle.cdc_types.specs.Results.{account_number, transfer_number};
+ghost use Rattle.cdc_script.specs.Faults.{kind_name};
+ghost use Rattle.cdc_subscriber.specs.Lines.{spaced};
+ghost use Rattle.cdc_commands.specs.Report.{answer_text, batch_line, file_fault_line};
+
+use crate::endings::Ending;
+use cdc_ledger::BatchError;
+use cdc_script::ScriptFault;
+use cdc_types::{AccountResult, BatchResults, TransferResult};
+use itoa::{Buffer, Integer};
+use std::alloc::AllocError;
+
+/// Writes a number in decimal digits.
+pub fn push_number<I: Integer>(text: &mut String, number: I) -> Result<(), AllocError>
+    ensures { OnOk result (string_bytes text.new ≡ string_bytes text.old ++ I.text number) }
+{
+    let mut buffer = Buffer::new();
+    text.push_str(buffer.format(number))
+}
+
+/// Writes a space and a number.
+pub fn push_spaced<I: Integer>(text: &mut String, number: I) -> Result<(), AllocError>
+    ensures { OnOk result (string_bytes text.new ≡
+        string_bytes text.old ++ (codes " " ++ I.text number)) }
+{
+    text.push_str(" ")?;
+    push_number(text, number)
+}
+
+/// The line of a batch: its number from 1, and what the ledger answered.
+pub fn push_batch(
+    text: &mut String,
+    number: u64,
+    answer: &Result<BatchResults, BatchError>,
+) -> Result<(), AllocError>
+    ensures { OnOk result (string_bytes text.new ≡
+        string_bytes text.old ++ batch_line number answer.now) }
+{
+    text.push_str("batch ")?;
+    push_number(text, number)?;
+    push_answer(text, answer)?;
+    text.push_str("\n")
+}
+
+/// What the ledger answered to a batch.
+fn push_answer(
+    text: &mut String,
+    answer: &Result<BatchResults, BatchError>,
+) -> Result<(), AllocError>
+    ensures { OnOk result (string_bytes text.new ≡
+        string_bytes text.old ++ answer_text answer.now) }
+{
+    match answer {
+        Ok(BatchResults::Accounts(results)) => push_account_results(text, results.as_slice()),
+        Ok(BatchResults::Transfers(results)) => push_transfer_results(text, results.as_slice()),
+        Ok(BatchResults::Pulsed(count)) => {
+            text.push_str(": pulse ")?;
+            push_number(text, *count)
+        }
+        Err(refusal) => push_refusal(text, *refusal),
+    }
+}
+
+/// A space and a number for each account that was asked for.
+fn push_account_results(text: &mut String, results: &[AccountResult]) -> Result<(), AllocError>
+    ensures { OnOk result (string_bytes text.new ≡
+        string_bytes text.old ++
+        (codes ":" ++ flat_map (λ r. spaced (account_number r)) results.now)) }
+{
+    text.push_str(":")?;
+    for result in results {
+        push_spaced(text, result.number())?;
+    }
+    Ok(())
+}
+
+/// A space and a number for each transfer that was asked for.
+fn push_transfer_results(text: &mut String, results: &[TransferResult]) -> Result<(), AllocError>
+    ensures { OnOk result (string_bytes text.new ≡
+        string_bytes text.old ++
+        (codes ":" ++ flat_map (λ r. spaced (transfer_number r)) results.now)) }
+{
+    text.push_str(":")?;
+    for result in results {
+        push_spaced(text, result.number())?;
+    }
+    Ok(())
+}
+
+/// Why a batch was refused as a whole.
+fn push_refusal(text: &mut String, refusal: BatchError) -> Result<(), AllocError>
+    ensures { OnOk result (string_bytes text.new ≡
+        string_bytes text.old ++ answer_text (Err refusal)) }
+{
+    text.push_str(" refused:")?;
+    push_spaced(text, refusal.number())?;
+    text.push_str(" ")?;
+    text.push_str(refusal.name())
+}
+
+/// The line of the file that a command doesn't take; nothing where it ends otherwise.
+pub fn push_file_fault(text: &mut String, ending: Ending) -> Result<(), AllocError>
+    ensures { OnOk result (string_bytes text.new ≡
+        string_bytes text.old ++ file_fault_line ending) }
+{
+    match ending {
+        Ending::BadScript(fault) => push_fault(text, "fault: script line", fault),
+        Ending::BadSteps(fault) => push_fault(text, "fault: steps line", fault),
+        Ending::TooManySubscribers => text.push_str("fault: too_many_subscribers\n"),
+        _ => Ok(()),
+    }
+}
+
+/// The line of a fault of a file, with the words that stand before the number of its line.
+fn push_fault(text: &mut String, words: &str, fault: ScriptFault) -> Result<(), AllocError>
+    ensures { OnOk result (string_bytes text.new ≡ string_bytes text.old
+        ++ (words.now ++ (spaced fault.line
+        ++ (codes ": " ++ (kind_name fault.kind ++ codes "\n"))))) }
+{
+    text.push_str(words)?;
+    push_spaced(text, fault.line)?;
+    text.push_str(": ")?;
+    push_line_end(text, fault.kind.name())?;
+    Ok(())
+}
+
+/// The last word of a line.
+pub fn push_line_end(text: &mut String, word: &str) -> Result<(), AllocError>
+    ensures { OnOk result (string_bytes text.new ≡
+        string_bytes text.old ++ (word.now ++ codes "\n")) }
+{
+    text.push_str(word)?;
+    text.push_str("\n")
+}

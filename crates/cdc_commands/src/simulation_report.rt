@@ -1,0 +1,73 @@
+//! What `simulate` prints: the lines of batches, of the steps, of the saved progress and of the subscribers.
+
+ghost use Rattle.std.specs.Prelude.{◌≡◌, ◌++◌, ◌^◌, ◌<◌, OnOk, string_bytes};
+ghost use Rattle.cdc_commands.specs.Simulations.{did_text, progress_line, refusal_line, steps_line};
+ghost use Rattle.cdc_commands.specs.Simulations.{subscriptions_text};
+ghost use Rattle.cdc_world.specs.Stands.{Stands};
+ghost use Rattle.cdc_world.specs.Worlds.{WorldState};
+
+use crate::feeding::print_subscriber;
+use crate::report::{push_batch, push_line_end, push_spaced};
+use cdc_progress::{MemoryStore, Progress};
+use cdc_world::{Did, Played, World};
+use std::alloc::AllocError;
+
+/// The line of a batch that a step has done, if it was one; the batch has this number.
+pub fn push_did(text: &mut String, number: u64, did: Did) -> Result<(), AllocError>
+    ensures { OnOk result (string_bytes text.new ≡ string_bytes text.old ++ did_text number did) }
+{
+    match did {
+        Did::Submitted(results) => push_batch(text, number, &Ok(results)),
+        Did::Arrived(_) | Did::Counted(_) | Did::Took(_) | Did::Done => Ok(()),
+    }
+}
+
+/// How many of all steps are done.
+pub fn push_steps(text: &mut String, done: usize, all: usize) -> Result<(), AllocError>
+    ensures { OnOk result (string_bytes text.new ≡ string_bytes text.old ++ steps_line done all) }
+{
+    text.push_str("steps")?;
+    push_spaced(text, done)?;
+    text.push_str(" of")?;
+    push_spaced(text, all)?;
+    text.push_str("\n")
+}
+
+/// The line of the step that was refused, if one was.
+pub fn push_refusal(text: &mut String, played: Played) -> Result<(), AllocError>
+    requires { played.done < 2 ^ 63 }
+    ensures { OnOk result (string_bytes text.new ≡
+        string_bytes text.old ++ refusal_line played.done played.refusal) }
+{
+    let Some(refusal) = played.refusal else {
+        return Ok(());
+    };
+    text.push_str("refused")?;
+    push_spaced(text, played.done + 1)?;
+    text.push_str(" ")?;
+    push_line_end(text, refusal.name())
+}
+
+/// The line of what the store holds.
+pub fn push_progress(text: &mut String, held: Option<Progress>) -> Result<(), AllocError>
+    ensures { OnOk result (string_bytes text.new ≡ string_bytes text.old ++ progress_line held) }
+{
+    let Some(progress) = held else {
+        return text.push_str("progress none\n");
+    };
+    text.push_str("progress")?;
+    push_spaced(text, progress.session())?;
+    push_spaced(text, progress.timestamp())?;
+    text.push_str("\n")
+}
+
+/// The lines of the subscribers of a world.
+pub fn push_subscriptions(text: &mut Vec<u8>, world: &World<MemoryStore>) -> Result<(), AllocError>
+    ensures { (w : WorldState) → Stands world.now w
+        → OnOk result (text.new.items ≡ text.old.items ++ subscriptions_text 1 w.subscriptions) }
+{
+    for place in 0..world.subscriber_count() {
+        print_subscriber(text, world.subscriber(place + 1), place as u64 + 1)?;
+    }
+    Ok(())
+}

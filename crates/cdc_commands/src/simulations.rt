@@ -1,0 +1,214 @@
+//! Simulations: a world over the batches of a script, moved by the acts of a step file.
+
+ghost use Rattle.std.specs.Prelude.{◌≡◌, ◌^◌, ◌<◌, ◌≤◌, ◌+◌, ℕ, List, false, IfErr, IfOk};
+ghost use Rattle.std.specs.Prelude.{OnErr, OnOk, Some, drop, if◌then◌else◌, is_some, length};
+ghost use Rattle.std.specs.Vec.Iter.{into_iter_items};
+ghost use Rattle.cdc_script.specs.declared.scripts.ClientBatch.{ClientBatch as Said};
+ghost use Rattle.cdc_commands.specs.Windows.{IsWindow};
+ghost use Rattle.cdc_commands.specs.Private.Stages.{GivesUpAt, HasDoneAt, IsAt, IsSimulationFault};
+ghost use Rattle.cdc_commands.specs.Simulations.{ActsTo, AnswersTo, PlaysActs, Simulates, Stage};
+ghost use Rattle.cdc_commands.specs.Simulations.{at_start, simulation_text};
+
+use crate::faults::ProgramFault;
+use crate::simulation_report::{
+    push_did, push_progress, push_refusal, push_steps, push_subscriptions,
+};
+use cdc_match::Binding;
+use cdc_progress::MemoryStore;
+use cdc_script::{Act, ClientBatch, Script};
+use cdc_world::{Played, Step, StepError, World};
+use std::alloc::{AllocError, Global};
+use std::marker::Model;
+use std::vec::IntoIter;
+
+/// What is printed of a simulation, and why a step was refused, if one was.
+#[derive(Drop)]
+pub struct Simulated {
+    /// The whole text.
+    pub text: Vec<u8>,
+    /// Why the step behind those that were done was refused.
+    pub refusal: Option<StepError>,
+}
+
+/// A world on its way, whose store is honest, lacks no memory and has no faults. A clause sees the world, how many
+/// batches are done, and the lines' bytes.
+#[derive(Drop)]
+pub struct Simulation {
+    /// The world.
+    world: World<MemoryStore>,
+    /// How many of the script's batches are done.
+    batches: usize,
+    /// A line for each of them.
+    lines: String,
+}
+
+impl Model for Simulation {
+    ghost use Rattle.std.specs.Prelude.{◌≡◌, true, string_bytes};
+    ghost use Rattle.cdc_commands.specs.Private.Stages.{SimulationParts};
+
+    ghost Value = { SimulationParts };
+
+    ghost view = { λ simulation. record {
+      world = simulation.world;
+      batches = simulation.batches;
+      lines = string_bytes simulation.lines;
+    } };
+
+    ghost use Rattle.cdc_progress.specs.Stores.{no_risks};
+
+    ghost invariant = { λ simulation. (simulation.world.honest ≡ true)
+        × (simulation.world.risks ≡ no_risks) };
+}
+
+/// What is printed of a script that is taken step by step.
+pub fn play_script(
+    alloc: Global,
+    script: Script,
+    window: usize,
+    acts: &[Act],
+) -> Result<Simulated, ProgramFault>
+    requires { IsWindow window }
+    ensures prints { IfOk result (λ simulated. Simulates
+        (record { script = script; window = window; acts = acts.now })
+        simulated.refusal simulated.text.items) }
+    ensures fault { IfErr result IsSimulationFault }
+{
+    let Script { bindings, batches } = script;
+    let mut simulation = Simulation::new(alloc, bindings.into_vec(), window)?;
+    let played = simulation.play(alloc, batches.into_vec(), acts)?;
+    let text = simulation.into_text(played, acts.len())?;
+    Ok(Simulated {
+        text,
+        refusal: played.refusal,
+    })
+}
+
+impl Simulation {
+    /// A world in which nothing has happened.
+    fn new(alloc: Global, bindings: Vec<Binding>, window: usize) -> Result<Simulation, AllocError>
+        requires { IsWindow window }
+        ensures stage { IfOk result (λ simulation.
+            IsAt simulation (at_start bindings.items window)) }
+        ensures none { IfOk result (λ simulation. simulation.batches ≡ 0) }
+    {
+        Ok(Simulation {
+            world: World::new(alloc, bindings, window, MemoryStore::new())?,
+            batches: 0,
+            lines: String::new(alloc),
+        })
+    }
+
+    /// Plays acts over the batches of a script, up to the first act that is refused.
+    fn play(
+        &mut self,
+        alloc: Global,
+        batches: Vec<ClientBatch>,
+        acts: &[Act],
+    ) -> Result<Played, AllocError>
+        requires none { self.old.batches ≡ 0 }
+        ensures plays { (stage : Stage) → IsAt self.old stage → stage.done ≡ 0
+            → IfOk result (λ played. (end : Stage) × (IsAt self.new end × ((end.done ≡ played.done)
+            × PlaysActs batches.items stage acts.now played.refusal end))) }
+        ensures count { IfOk result (λ played. played.done ≤ length acts.now) }
+    {
+        let mut left = batches.into_iter();
+        for (done, act) in acts.iter().enumerate() {
+            let refusal = self.play_act(alloc, &mut left, act)?;
+            if refusal.is_some() {
+                return Ok(Played { done, refusal });
+            }
+        }
+        Ok(Played {
+            done: acts.len(),
+            refusal: None,
+        })
+    }
+
+    /// Plays an act, or says why it is refused: for want of memory too. It gives up where there is none for what is
+    /// printed of an act that was done. Left are the batches behind those that are done.
+    fn play_act(
+        &mut self,
+        alloc: Global,
+        left: &mut IntoIter<ClientBatch>,
+        act: &Act,
+    ) -> Result<Option<StepError>, AllocError>
+        requires few { self.old.batches < 2 ^ 63 }
+        ensures acts { (batches : List Said) → into_iter_items left.old ≡ drop self.old.batches batches
+            → (stage : Stage) → IsAt self.old stage → IfOk result (λ refusal. (after : Stage)
+            × (IsAt self.new after × ActsTo batches stage act.now refusal after)) }
+        ensures gives_up { (batches : List Said)
+            → into_iter_items left.old ≡ drop self.old.batches batches
+            → (stage : Stage) → IsAt self.old stage
+            → OnErr result (GivesUpAt batches stage act.now self.new) }
+        ensures left { (batches : List Said) → into_iter_items left.old ≡ drop self.old.batches batches
+            → IfOk result (λ refusal. is_some refusal ≡ false
+            → into_iter_items left.new ≡ drop self.new.batches batches) }
+        ensures within { (batches : List Said)
+            → into_iter_items left.old ≡ drop self.old.batches batches
+            → self.old.batches ≤ length batches → OnOk result (self.new.batches ≤ length batches) }
+        ensures count { OnOk result (self.new.batches ≤ self.old.batches + 1) }
+    {
+        match act {
+            Act::Step(step) => {
+                let batches_done = self.batches;
+                self.play_step(alloc, step, batches_done)
+            }
+            Act::Batch => match left.next() {
+                None => Ok(Some(StepError::NotEnabled)),
+                Some(item) => {
+                    let batches_done = self.batches + 1;
+                    self.play_step(alloc, &Step::Submit(item.batch), batches_done)
+                }
+            },
+        }
+    }
+
+    /// Takes a step, after which so many batches are done, or says why it is refused, for want of memory too. It gives
+    /// up where there is none for what is printed of a step that was done.
+    fn play_step(
+        &mut self,
+        alloc: Global,
+        step: &Step,
+        batches_done: usize,
+    ) -> Result<Option<StepError>, AllocError>
+        requires few { self.old.batches < 2 ^ 63 }
+        ensures answers { (stage : Stage) → IsAt self.old stage → IfOk result (λ refusal.
+            (after : Stage) × (IsAt self.new after
+            × AnswersTo stage (Some (step.now, batches_done)) refusal after)) }
+        ensures gives_up { (stage : Stage) → IsAt self.old stage
+            → OnErr result (HasDoneAt stage step.now self.new) }
+        ensures within { (most : ℕ) → self.old.batches ≤ most → batches_done ≤ most
+            → OnOk result (self.new.batches ≤ most) }
+        ensures count { IfOk result (λ refusal. self.new.batches
+            ≡ (if is_some refusal then self.old.batches else batches_done)) }
+    {
+        match self.world.step(alloc, step) {
+            Ok(did) => {
+                push_did(&mut self.lines, self.batches as u64 + 1, did)?;
+                self.batches = batches_done;
+                Ok(None)
+            }
+            Err(refusal) => Ok(Some(refusal)),
+        }
+    }
+
+    /// What is printed of the world, once so many acts of all are played.
+    fn into_text(self, played: Played, all: usize) -> Result<Vec<u8>, ProgramFault>
+        requires few { played.done < 2 ^ 63 }
+        ensures text { (stage : Stage) → IsAt self stage → stage.done ≡ played.done
+            → IfOk result (λ text. text.items ≡ simulation_text all played.refusal stage) }
+        ensures fault { IfErr result IsSimulationFault }
+    {
+        let Simulation {
+            mut world,
+            batches: _,
+            lines: mut text,
+        } = self;
+        push_steps(&mut text, played.done, all)?;
+        push_refusal(&mut text, played)?;
+        push_progress(&mut text, world.progress()?)?;
+        let mut bytes = text.into_bytes();
+        push_subscriptions(&mut bytes, &world)?;
+        Ok(bytes)
+    }
+}

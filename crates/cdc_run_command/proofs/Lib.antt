@@ -1,0 +1,5 @@
+pub mod ClientLemmas
+pub mod LoneRuns
+pub mod ReplyLemmas
+pub mod RunLemmas
+pub mod ShareLemmas

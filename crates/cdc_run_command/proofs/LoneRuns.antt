@@ -1,0 +1,149 @@
+-- Runs in which one client hands in all batches.
+use Rattle.std.proofs.Common.{◌≡◌, ◌==◌, ℕ, ◌+◌, Bool, true, List, [], ◌∷◌, ◌++◌, refl, sym, ap, ap₂, ◌∙◌, subst, map, eq-eqb}
+use Rattle.std.specs.Prelude.{All, Result, cond, filter, fold, max}
+use Rattle.std.proofs.lemmas.List.Elements.{All-head, All-tail}
+use Rattle.std.proofs.lemmas.Simd.{map-map}
+use Rattle.cdc_laws.specs.Line.{line}
+use Rattle.cdc_ledger.specs.declared.errors.BatchError.{BatchError}
+use Rattle.cdc_ledger.specs.History.{History, empty_history}
+use Rattle.cdc_ledger.specs.Submit.{after_batches, history_or, submit}
+use Rattle.cdc_match.specs.Arguments.{Arguments}
+use Rattle.cdc_run.specs.Books.{AreBooks}
+use Rattle.cdc_run.specs.Determined.{AllKeepTheLine, IsServedAlone, LoneClientsAreServedAlone, answers_from, kept_of_line}
+use Rattle.cdc_run.specs.Made.{AreCloses}
+use Rattle.cdc_run.specs.Reports.{replies_of}
+use Rattle.cdc_script.specs.declared.scripts.ClientBatch.{ClientBatch}
+use Rattle.cdc_script.specs.declared.scripts.Script.{Script}
+use Rattle.cdc_subscriber.specs.Kept.{Kept}
+use Rattle.cdc_subscriber.specs.Lines.{subscriber_text}
+use Rattle.cdc_traffic.specs.declared.requests.Reply.{Reply}
+use Rattle.cdc_types.specs.declared.batches.Batch.{Batch}
+use Rattle.cdc_types.specs.declared.batches.BatchResults.{BatchResults}
+use Rattle.cdc_types.specs.Features.{features}
+use Rattle.cdc_commands.specs.Feeds.{subscribers_text}
+use Rattle.cdc_run_command.specs.LoneRuns.{HasOneClient, LoneRunsPrintBooks}
+use Rattle.cdc_commands.specs.Printed.{answer, batch_lines, printed_books}
+use Rattle.cdc_commands.specs.Report.{batch_line}
+use Rattle.cdc_run_command.specs.Runs.{AreMerged, client_count, entries_of, kept_text, own_of, owners_of, reply_lines, scripts_of, shares_from}
+
+-- ---- one client's own
+
+-- these are all the same client
+abbrev AllAre : ℕ → List ℕ → Type 0
+AllAre client owners = All (λ owner. owner ≡ client) owners
+
+-- what is the client's own of entries that are all its own
+own_of-all : {X : Type 0} (client : ℕ) (entries : List (ℕ × X)) → AllAre client (map (λ (e : ℕ × X). e.0) entries)
+    → own_of client entries ≡ map (λ (e : ℕ × X). e.1) entries
+own_of-all client [] own = refl
+own_of-all {X} client (e ∷ entries) own =
+    let kept : List (ℕ × X) = filter (λ (e' : ℕ × X). e'.0 == client) entries in
+    let owners : List ℕ = map (λ (e' : ℕ × X). e'.0) entries in
+    ap (λ (b : Bool). map (λ (e' : ℕ × X). e'.1) (cond b (e ∷ kept) kept))
+    (eq-eqb e.0 client (All-head (λ (n : ℕ). n ≡ client) e.0 owners own))
+    ∙ ap (λ (xs : List X). e.1 ∷ xs)
+    (own_of-all client entries (All-tail (λ (n : ℕ). n ≡ client) e.0 owners own))
+
+-- a batch with the number of its client
+abbrev entry_of : ClientBatch → ℕ × Batch
+entry_of b = (b.client, b.batch)
+
+-- so there is one client
+one_client : (batches : List ClientBatch) → AllAre 1 (owners_of batches) → client_count batches ≡ 1
+one_client [] own = refl
+one_client (b ∷ batches) own =
+    ap (λ (n : ℕ). fold (λ (m : ℕ) (b' : ClientBatch). max m b'.client) (max 1 n) batches)
+    (All-head (λ (n : ℕ). n ≡ 1) b.client (owners_of batches) own)
+    ∙ one_client batches (All-tail (λ (n : ℕ). n ≡ 1) b.client (owners_of batches) own)
+
+-- which hands in all batches
+one_script : (script : Script) → HasOneClient script
+    → scripts_of script ≡ map (λ (b : ClientBatch). b.batch) script.batches ∷ []
+one_script script own =
+    let entries : List (ℕ × Batch) = entries_of script.batches in
+    ap (λ (n : ℕ). shares_from 1 n entries) (one_client script.batches own)
+    ∙ ap (λ (bs : List Batch). bs ∷ [])
+    (own_of-all 1 entries
+    (subst (AllAre 1) (sym (map-map (λ (e : ℕ × Batch). e.0) entry_of script.batches)) own)
+    ∙ map-map (λ (e : ℕ × Batch). e.1) entry_of script.batches)
+
+-- and is replied to them alone
+one_share : (replies : List (List Reply)) (batches : List Batch)
+    → map (map (λ (r : Reply). r.batch)) replies ≡ batches ∷ []
+    → (share : List Reply) × ((replies ≡ share ∷ []) × (map (λ (r : Reply). r.batch) share ≡ batches))
+one_share [] batches same = cc
+one_share (share ∷ []) batches same = (share, (refl, cc))
+one_share (share ∷ other ∷ rest) batches same = cc
+
+-- replies that are merged of one client's are that client's
+merged_share : (owners : List ℕ) (share : List Reply) (entries : List (ℕ × Reply)) → AllAre 1 owners
+    → AreMerged owners (share ∷ []) entries → map (λ (e : ℕ × Reply). e.1) entries ≡ share
+merged_share owners share entries own merged =
+    let first : own_of 1 entries ∷ [] ≡ share ∷ [] = merged.own in
+    let mine : own_of 1 entries ≡ share = cc in
+    sym (own_of-all 1 entries (subst (AllAre 1) (sym merged.owners) own)) ∙ mine
+
+-- ---- text
+
+-- the lines of answers, the first of which is that to the batch of this number
+abbrev lines : ℕ → List (Result BatchResults BatchError) → List ℕ
+lines n [] = []
+lines n (a ∷ rest) = batch_line n a ++ lines (n + 1) rest
+
+lines_of-replies : (n : ℕ) (entries : List (ℕ × Reply))
+    → reply_lines n entries ≡ lines n (map (λ (r : Reply). r.answer) (map (λ (e : ℕ × Reply). e.1) entries))
+lines_of-replies n [] = refl
+lines_of-replies n (e ∷ entries) =
+    ap (λ (l : List ℕ). batch_line n e.1.answer ++ l) (lines_of-replies (n + 1) entries)
+
+lines_of-batches : (n : ℕ) (h : History) (batches : List ClientBatch)
+    → lines n (answers_from h (map (λ (b : ClientBatch). b.batch) batches)) ≡ batch_lines n h batches
+lines_of-batches n h [] = refl
+lines_of-batches n h (b ∷ batches) =
+    ap (λ (l : List ℕ). batch_line n (answer (submit h b.batch)) ++ l)
+    (lines_of-batches (n + 1) (history_or h (submit h b.batch)) batches)
+
+text_of-kept : (n : ℕ) (h : History) (bindings : List Arguments)
+    → kept_text n (map (kept_of_line h) bindings) ≡ subscribers_text n (line h) bindings
+text_of-kept n h [] = refl
+text_of-kept n h (b ∷ bindings) =
+    ap (λ (l : List ℕ). subscriber_text n (kept_of_line h b) ++ l) (text_of-kept (n + 1) h bindings)
+
+-- replies that have the answers to a script's batches, and subscribers that keep the line of its history
+text_of-books : (script : Script) (ledger : History) (share : List Reply) (entries : List (ℕ × Reply))
+    (subscribers : List Kept) → IsServedAlone ledger share
+    → map (λ (r : Reply). r.batch) share ≡ map (λ (b : ClientBatch). b.batch) script.batches
+    → map (λ (e : ℕ × Reply). e.1) entries ≡ share
+    → subscribers ≡ map (kept_of_line ledger) script.bindings
+    → reply_lines 1 entries ++ kept_text 1 subscribers ≡ printed_books script
+text_of-books script ledger share entries subscribers served handed merged keeps =
+    ap₂ (λ (a b : List ℕ). a ++ b)
+    (lines_of-replies 1 entries
+    ∙ ap (λ (rs : List Reply). lines 1 (map (λ (r : Reply). r.answer) rs)) merged
+    ∙ ap (lines 1) (served.answers ∙ ap (answers_from empty_history) handed)
+    ∙ lines_of-batches 1 empty_history script.batches)
+    (ap (kept_text 1) keeps
+    ∙ text_of-kept 1 ledger script.bindings
+    ∙ ap (λ (h : History). subscribers_text 1 (line h) script.bindings)
+    (served.ledger_is
+    ∙ ap (λ (bs : List Batch). record (after_batches features empty_history bs) { closed = true }) handed))
+
+-- a run by one client prints what `books` prints
+pub lone_runs : LoneClientsAreServedAlone → AllKeepTheLine → LoneRunsPrintBooks
+lone_runs alone keeps setting script printed one plain runs =
+    let run = runs.comes.run in
+    let ledger : History = runs.report.ledger in
+    let batches : List Batch = map (λ (b : ClientBatch). b.batch) script.batches in
+    let only = one_share (replies_of runs.report) batches (run.scripts_are ∙ one_script script one) in
+    let served : IsServedAlone ledger only.0 =
+    alone run.order ledger only.0 (subst (AreBooks run.order ledger) only.1.0 run.books) in
+    let come = runs.comes.subscribers plain.honest plain.held in
+    let kept : runs.report.subscribers.items ≡ map (kept_of_line ledger) script.bindings =
+    keeps 1 ledger script.bindings come.0 runs.report.subscribers.items
+    (subst (λ (given : List (ℕ × ℕ)). AreCloses 1 given come.0) plain.closes come.1.0) come.1.1 in
+    let entries : List (ℕ × Reply) = runs.prints.replies in
+    runs.prints.prints
+    ∙ text_of-books script ledger only.0 entries runs.report.subscribers.items served only.1.1
+    (merged_share (owners_of script.batches) only.0 entries one
+    (subst (λ (shares : List (List Reply)). AreMerged (owners_of script.batches) shares entries) only.1.0
+    runs.prints.merged)) kept

@@ -1,0 +1,6 @@
+use Rattle.std.proofs.Common.{◌≡◌, take}
+use Rattle.cdc_run_command.specs.Runs.{client_count}
+use Rattle.cdc_run_command.proofs.shares.greatest_client.Given as goal
+
+abbrev pub invariant-loop-item : goal.invariant-loop-item
+invariant-loop-item l = l.greatest ≡ client_count (take l.item-index l.batches)

@@ -1,0 +1,5 @@
+pub mod LoneRuns
+pub mod Plans
+pub mod Private
+pub mod RunPrinted
+pub mod Runs

@@ -1,0 +1,23 @@
+-- What a run prints where one client hands in all batches.
+use Rattle.std.specs.Prelude.{◌≡◌, ℕ, true, List, [], All}
+use Rattle.cdc_laws.specs.Connectors.{held_timestamp}
+use Rattle.cdc_script.specs.declared.scripts.Script.{Script}
+use Rattle.cdc_commands.specs.Printed.{printed_books}
+use Rattle.cdc_run_command.specs.Runs.{RunsTo, Setting, owners_of}
+
+-- the first client hands in each batch of a script; it may have none
+abbrev pub HasOneClient : Script → Type 0
+HasOneClient script = All (λ client. client ≡ 1) (owners_of script.batches)
+
+-- no subscriber is asked to close, and the store is honest and holds nothing or the timestamp 0
+pub record IsPlain (setting : Setting) : Type 0 where
+  pub closes : setting.closes ≡ []
+  pub honest : setting.honest ≡ true
+  pub held : held_timestamp setting.held ≡ 0
+
+-- ---- laws
+
+-- whatever a run of such a script may print then is what `books` prints of it
+abbrev pub LoneRunsPrintBooks : Type 0
+LoneRunsPrintBooks = (setting : Setting) (script : Script) (printed : List ℕ) → HasOneClient script → IsPlain setting
+    → RunsTo setting script printed → printed ≡ printed_books script

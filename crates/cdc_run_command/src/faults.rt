@@ -1,0 +1,20 @@
+//! The fault of the program that stands for that of a run.
+
+ghost use Rattle.std.specs.Prelude.{◌≡◌};
+ghost use Rattle.cdc_run_command.specs.Private.Faults.{run_fault};
+
+use cdc_commands::ProgramFault;
+use cdc_ends::RunFault;
+
+/// Why a run gave up, as the fault of the program.
+pub fn fault_of_run(fault: RunFault) -> ProgramFault
+    ensures { result ≡ run_fault fault }
+{
+    match fault {
+        RunFault::PeerGone => ProgramFault::PeerGone,
+        RunFault::OutOfMemory => ProgramFault::OutOfMemory,
+        RunFault::Store(error) => ProgramFault::from(error),
+        RunFault::SessionsExhausted => ProgramFault::SessionsExhausted,
+        RunFault::NotOneSystem => ProgramFault::NotOneSystem,
+    }
+}
