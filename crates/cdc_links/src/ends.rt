@@ -19,12 +19,23 @@ use std::sync::Wait;
 
 /// A sender's end of a link. A clause sees which link it is of, the end's number there, and what it has sent so far with
 /// what each message names.
-#[derive(Drop)]
 pub struct LinkOut<M: Message> {
     number: u64,
     count: u64,
     sender: RuledSender<Parcel<M>, Knowledge<M, M::Name>, Ruled>,
     pass: Pass<Parcel<M>, Knowledge<M, M::Name>>,
+}
+
+// By hand, so that whoever lets go of an end calls this, and doesn't take it apart anew.
+impl<M: Message> Drop for LinkOut<M> {
+    fn drop(self) {
+        let Self {
+            number: _,
+            count: _,
+            sender: _,
+            pass: _,
+        } = self;
+    }
 }
 
 impl<M: Message> Model for LinkOut<M> {
@@ -101,12 +112,23 @@ impl<M: Message> LinkOut<M> {
 }
 
 /// What is left of a sender's end that was handed back. A clause sees of it what it saw of the end.
-#[derive(Drop)]
 pub struct Handed<M: Message> {
     number: u64,
     count: u64,
     sender: RuledSender<Parcel<M>, Knowledge<M, M::Name>, Ruled>,
     pass: Pass<Parcel<M>, Knowledge<M, M::Name>>,
+}
+
+// By hand, as a sender's end.
+impl<M: Message> Drop for Handed<M> {
+    fn drop(self) {
+        let Self {
+            number: _,
+            count: _,
+            sender: _,
+            pass: _,
+        } = self;
+    }
 }
 
 impl<M: Message> Model for Handed<M> {
@@ -149,12 +171,23 @@ impl<M: Message> Handed<M> {
 
 /// The receiver's end of a link. A clause sees which link it is of, how many senders that has, and what was received so
 /// far, with its sender's number and what it names.
-#[derive(Drop)]
 pub struct LinkIn<M: Message> {
     received: u64,
     patience: Patience,
     receiver: RuledReceiver<Parcel<M>, Knowledge<M, M::Name>, Ruled>,
     pass: Pass<Parcel<M>, Knowledge<M, M::Name>>,
+}
+
+// By hand, as a sender's end.
+impl<M: Message> Drop for LinkIn<M> {
+    fn drop(self) {
+        let Self {
+            received: _,
+            patience: _,
+            receiver: _,
+            pass: _,
+        } = self;
+    }
 }
 
 impl<M: Message> Model for LinkIn<M> {
@@ -331,6 +364,28 @@ fn join_all<M: Message>(
     sent
 }
 
+impl<M: Message> LinkIn<M> {
+    /// What `settle` does, here since an end that has a `drop` is taken apart by a method of its own alone.
+    fn settle(self, handed: Vec<Handed<M>>) -> Tally
+        requires ours { All (λ end. end.link ≡ self.link) handed.items }
+        requires all { vec_len handed ≡ self.senders }
+        requires some { 0 < self.senders }
+        ensures sent { result.sent ≡ min (2 ^ 64 - 1) (sum_by (λ end. length end.sent) handed.items) }
+        ensures received { result.received ≡ length self.received }
+        ensures account { (left : List (ℕ × (M × M.Name))) × IsAccount self handed.items left }
+        ensures lawful { All (λ end. CanSend M.may_follow end.number end.sent) handed.items }
+    {
+        let Self {
+            received,
+            patience: _,
+            receiver: _,
+            mut pass,
+        } = self;
+        let sent = join_all(&mut pass, handed);
+        Tally { sent, received }
+    }
+}
+
 /// Takes the receiver's end and all senders that were handed back, and compares what they know.
 pub fn settle<M: Message>(into: LinkIn<M>, handed: Vec<Handed<M>>) -> Tally
     requires ours { All (λ end. end.link ≡ into.link) handed.items }
@@ -341,12 +396,5 @@ pub fn settle<M: Message>(into: LinkIn<M>, handed: Vec<Handed<M>>) -> Tally
     ensures account { (left : List (ℕ × (M × M.Name))) × IsAccount into handed.items left }
     ensures lawful { All (λ end. CanSend M.may_follow end.number end.sent) handed.items }
 {
-    let LinkIn {
-        received,
-        patience: _,
-        receiver: _,
-        mut pass,
-    } = into;
-    let sent = join_all(&mut pass, handed);
-    Tally { sent, received }
+    into.settle(handed)
 }
