@@ -8,6 +8,7 @@ use crate::sentences::Sentence;
 use crate::sessions::Session;
 use cdc_ledger::Ledger;
 use cdc_match::Binding;
+use cdc_subscriber::Taking;
 use cdc_types::{Batch, BatchResults, Step};
 use cdc_world::Did;
 use std::alloc::{AllocError, Global};
@@ -280,18 +281,8 @@ impl Followed {
 /// A step of a queue or its subscriber, or of what goes between them.
 fn follow_queue(lane: &mut Lane, step: &Step, did: &Did) -> Result<Option<QueueDeed>, AllocError> {
     match (step, did) {
-        (Step::Send(_), _) => {
-            let sent = lane.hand_out()?;
-            Ok(sent.map(|(position, cargo)| QueueDeed::Sent { position, cargo }))
-        }
-        (Step::Take(_), Did::Took(taking)) => {
-            let taken = lane.take()?;
-            Ok(taken.map(|(position, cargo)| QueueDeed::Took {
-                position,
-                cargo,
-                taking: *taking,
-            }))
-        }
+        (Step::Send(_), _) => follow_sending(lane),
+        (Step::Take(_), Did::Took(taking)) => follow_taking(lane, *taking),
         (Step::Rewind(_), _) => Ok(Some(QueueDeed::Rewound {
             position: lane.rewind(),
         })),
@@ -306,4 +297,20 @@ fn follow_queue(lane: &mut Lane, step: &Step, did: &Did) -> Result<Option<QueueD
         (Step::Close(_), _) => Ok(Some(QueueDeed::Closed)),
         _ => Ok(None),
     }
+}
+
+/// The queue handed out its next item.
+fn follow_sending(lane: &mut Lane) -> Result<Option<QueueDeed>, AllocError> {
+    let sent = lane.hand_out()?;
+    Ok(sent.map(|(position, cargo)| QueueDeed::Sent { position, cargo }))
+}
+
+/// The subscriber took what came first, and made this of it.
+fn follow_taking(lane: &mut Lane, taking: Taking) -> Result<Option<QueueDeed>, AllocError> {
+    let taken = lane.take()?;
+    Ok(taken.map(|(position, cargo)| QueueDeed::Took {
+        position,
+        cargo,
+        taking,
+    }))
 }

@@ -12,9 +12,10 @@ use crate::sentences::Sentence;
 use crate::steps::step_words;
 use crate::texts::Text;
 use cdc_ledger::BatchError;
+use cdc_match::Binding;
 use cdc_progress::MemoryStore;
 use cdc_script::{Act, ClientBatch, Script};
-use cdc_types::{Batch, Limits, Step};
+use cdc_types::{Batch, Items, Limits, Step};
 use cdc_world::{Did, StepError, World};
 use std::alloc::{AllocError, Global};
 use std::vec::IntoIter;
@@ -57,28 +58,36 @@ pub(crate) fn rerun(
 )
     requires { window ≡ Limits.WINDOW_TODAY }
 {
-    match SecondRun::new(alloc, script, window) {
-        Ok(mut run) => told.refused = run.play(alloc, acts, told),
+    let Script { bindings, batches } = script;
+    let batch_count = batches.as_slice().len();
+    match beginning(alloc, bindings, window) {
+        Ok((world, followed)) => {
+            let mut run = SecondRun {
+                world,
+                batches: batches.into_vec().into_iter(),
+                batch_count,
+                followed,
+            };
+            told.refused = run.play(alloc, acts, told);
+        }
         Err(_) => told.why.give_up(),
     }
 }
 
-impl SecondRun {
-    /// A simulation of a script in which nothing has happened.
-    fn new(alloc: Global, script: Script, window: usize) -> Result<SecondRun, AllocError>
-        requires { window ≡ Limits.WINDOW_TODAY }
-    {
-        let Script { bindings, batches } = script;
-        let followed = Followed::new(alloc, bindings.as_slice())?;
-        let world = World::new(alloc, bindings.into_vec(), window, MemoryStore::new())?;
-        Ok(SecondRun {
-            world,
-            batch_count: batches.as_slice().len(),
-            batches: batches.into_vec().into_iter(),
-            followed,
-        })
-    }
+/// A world with these bindings in which nothing has happened, and what steps tell beside it.
+fn beginning(
+    alloc: Global,
+    bindings: Items<Binding>,
+    window: usize,
+) -> Result<(World<MemoryStore>, Followed), AllocError>
+    requires { window ≡ Limits.WINDOW_TODAY }
+{
+    let followed = Followed::new(alloc, bindings.as_slice())?;
+    let world = World::new(alloc, bindings.into_vec(), window, MemoryStore::new())?;
+    Ok((world, followed))
+}
 
+impl SecondRun {
     /// Plays acts up to the first that is refused, and answers its place.
     fn play(&mut self, alloc: Global, acts: &[Act], told: &mut Retold<'_>) -> Option<usize> {
         for (place, act) in acts.iter().enumerate() {
@@ -177,12 +186,17 @@ impl<'a> Retold<'a> {
 
     /// Adds what a step did.
     fn push(&mut self, step: &Step, deed: Deed) {
-        self.trace.push_sentence(step_words(step));
-        self.trace.push(": ");
-        self.trace.push_sentence(deed.sentence());
-        self.trace.push("\n");
+        push_step(step, deed, &mut self.trace);
         self.diagram.push(deed);
     }
+}
+
+/// What a step did.
+fn push_step(step: &Step, deed: Deed, trace: &mut Text) {
+    trace.push_sentence(step_words(step));
+    trace.push(": ");
+    trace.push_sentence(deed.sentence());
+    trace.push("\n");
 }
 
 /// Why the ledger refuses a batch.
