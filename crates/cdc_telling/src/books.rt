@@ -4,7 +4,6 @@ ghost use Rattle.std.specs.Prelude.{IfSome, IsOk};
 ghost use Rattle.cdc_script.specs.Scripts.{script_of};
 
 use crate::items::ItemLines;
-use crate::places::Places;
 use cdc_ledger::Ledger;
 use cdc_script::{ClientBatch, parse_script};
 use std::alloc::Global;
@@ -14,11 +13,10 @@ use std::alloc::Global;
 pub fn books_lines(alloc: Global, name: &str, script: &[u8]) -> Option<String>
     ensures { IfSome result (λ text. IsOk (script_of script.now)) }
 {
-    let places = Places::of(alloc, script).ok()?;
     let Ok(said) = parse_script(alloc, script) else {
         return None;
     };
-    let mut lines = ItemLines::new(alloc, name, places);
+    let mut lines = ItemLines::new(alloc, name, script);
     push_batches(alloc, said.batches.as_slice(), &mut lines);
     lines.finish().ok()
 }

@@ -8,6 +8,7 @@ use crate::sentences::Sentence;
 use crate::sessions::Session;
 use cdc_ledger::Ledger;
 use cdc_match::Binding;
+use cdc_subscriber::Taking;
 use cdc_types::{Batch, BatchResults, Step};
 use cdc_world::Did;
 use std::alloc::{AllocError, Global};
@@ -83,23 +84,19 @@ impl Followed {
             | Step::Rewind(i)
             | Step::Break(i)
             | Step::Close(i)
-            | Step::Ack(i, _) => {
-                let deed = match self.lanes.get_mut(place_of(*i)) {
-                    Some(lane) => follow_queue(lane, step, did)?,
-                    None => None,
-                };
-                Ok(match deed {
-                    Some(deed) => Deed::Queue(*i, deed),
-                    None => Deed::Untold,
-                })
-            }
-            _ => {
-                let deed = self.follow_connector(step, did, ledger)?;
-                Ok(match deed {
-                    Some(deed) => Deed::Connector(deed),
-                    None => Deed::Untold,
-                })
-            }
+            | Step::Ack(i, _) => self.follow_lane(*i, step, did),
+            _ => self.follow_connector(step, did, ledger),
+        }
+    }
+
+    /// A step of the queue of this number or of its subscriber.
+    fn follow_lane(&mut self, i: u64, step: &Step, did: &Did) -> Result<Deed, AllocError> {
+        let Some(lane) = self.lanes.get_mut(place_of(i)) else {
+            return Ok(Deed::Untold);
+        };
+        match follow_queue(lane, step, did)? {
+            Some(deed) => Ok(Deed::Queue(i, deed)),
+            None => Ok(Deed::Untold),
         }
     }
 
@@ -126,40 +123,42 @@ impl Followed {
         step: &Step,
         did: &Did,
         ledger: &Ledger,
-    ) -> Result<Option<ConnectorDeed>, AllocError> {
+    ) -> Result<Deed, AllocError> {
         match step {
             Step::Publish => self.follow_publish(ledger),
             Step::Arrive(k) => self.follow_arrival(*k, did, ledger),
-            Step::Start => Ok(Some(self.follow_start(ledger))),
-            Step::Crash => Ok(Some(self.follow_crash())),
+            Step::Start => Ok(self.follow_start(ledger)),
+            Step::Crash => Ok(self.follow_crash()),
             Step::Poll => Ok(self.follow_poll(ledger)),
             Step::Answer(k) => Ok(self.follow_answer(*k, did)),
             Step::Save => Ok(self.follow_save(ledger)),
-            _ => Ok(None),
+            _ => Ok(Deed::Untold),
         }
     }
 
     /// A session started, after what is saved.
-    fn follow_start(&mut self, ledger: &Ledger) -> ConnectorDeed {
+    fn follow_start(&mut self, ledger: &Ledger) -> Deed {
         self.sessions = self.sessions.saturating_add(1);
         self.session = Some(Session::new(self.sessions, self.saved));
-        ConnectorDeed::Started {
+        Deed::Connector(ConnectorDeed::Started {
             session: self.sessions,
             after: timestamp_of(ledger, self.saved),
-        }
+        })
     }
 
     /// The session is gone.
-    fn follow_crash(&mut self) -> ConnectorDeed {
+    fn follow_crash(&mut self) -> Deed {
         self.session = None;
-        ConnectorDeed::Crashed {
+        Deed::Connector(ConnectorDeed::Crashed {
             session: self.sessions,
-        }
+        })
     }
 
     /// The session was offered the next event, if there is one.
-    fn follow_poll(&mut self, ledger: &Ledger) -> Option<ConnectorDeed> {
-        let session = self.session.as_mut()?;
+    fn follow_poll(&mut self, ledger: &Ledger) -> Deed {
+        let Some(session) = &mut self.session else {
+            return Deed::Untold;
+        };
         let event = match ledger.log().get(session.offered) {
             Some(event) => {
                 session.take_event();
@@ -168,20 +167,20 @@ impl Followed {
             None => None,
         };
         session.complete = ledger.closed() && ledger.log().len() <= session.offered;
-        Some(ConnectorDeed::Offered {
+        Deed::Connector(ConnectorDeed::Offered {
             event,
             complete: session.complete,
         })
     }
 
     /// The session sent its next packet.
-    fn follow_publish(&mut self, ledger: &Ledger) -> Result<Option<ConnectorDeed>, AllocError> {
+    fn follow_publish(&mut self, ledger: &Ledger) -> Result<Deed, AllocError> {
         let Some(session) = &mut self.session else {
-            return Ok(None);
+            return Ok(Deed::Untold);
         };
         let packet = session.next_packet(timestamp_of(ledger, session.offered));
         self.packets.push(packet)?;
-        Ok(Some(ConnectorDeed::Published {
+        Ok(Deed::Connector(ConnectorDeed::Published {
             number: self.packets.len(),
             packet,
         }))
@@ -193,16 +192,16 @@ impl Followed {
         number: u64,
         did: &Did,
         ledger: &Ledger,
-    ) -> Result<Option<ConnectorDeed>, AllocError> {
+    ) -> Result<Deed, AllocError> {
         let Some(packet) = self.packets.get(place_of(number)).copied() else {
-            return Ok(None);
+            return Ok(Deed::Untold);
         };
         if matches!(did, Did::Arrived(true)) {
             self.take_packet(packet, ledger)?;
-            return Ok(Some(ConnectorDeed::Arrived { number, packet }));
+            return Ok(Deed::Connector(ConnectorDeed::Arrived { number, packet }));
         }
         let why = self.lateness(packet);
-        Ok(Some(ConnectorDeed::PassedOver { number, why }))
+        Ok(Deed::Connector(ConnectorDeed::PassedOver { number, why }))
     }
 
     /// The broker took a packet, and confirms a publish.
@@ -247,14 +246,18 @@ impl Followed {
     }
 
     /// A confirm came to the session.
-    fn follow_answer(&mut self, number: u64, did: &Did) -> Option<ConnectorDeed> {
-        let confirm = self.confirms.get(place_of(number)).copied()?;
-        let session = self.session.as_mut()?;
+    fn follow_answer(&mut self, number: u64, did: &Did) -> Deed {
+        let Some(confirm) = self.confirms.get(place_of(number)).copied() else {
+            return Deed::Untold;
+        };
+        let Some(session) = &mut self.session else {
+            return Deed::Untold;
+        };
         let counted = matches!(did, Did::Counted(true));
         if counted {
             session.take_confirm();
         }
-        Some(ConnectorDeed::Answered {
+        Deed::Connector(ConnectorDeed::Answered {
             number,
             confirm,
             session: session.number,
@@ -263,10 +266,12 @@ impl Followed {
     }
 
     /// The session saved how far it is confirmed.
-    fn follow_save(&mut self, ledger: &Ledger) -> Option<ConnectorDeed> {
-        let session = self.session?;
+    fn follow_save(&mut self, ledger: &Ledger) -> Deed {
+        let Some(session) = self.session else {
+            return Deed::Untold;
+        };
         self.saved = session.confirmed;
-        Some(ConnectorDeed::Saved {
+        Deed::Connector(ConnectorDeed::Saved {
             session: session.number,
             timestamp: timestamp_of(ledger, self.saved),
         })
@@ -276,18 +281,8 @@ impl Followed {
 /// A step of a queue or its subscriber, or of what goes between them.
 fn follow_queue(lane: &mut Lane, step: &Step, did: &Did) -> Result<Option<QueueDeed>, AllocError> {
     match (step, did) {
-        (Step::Send(_), _) => {
-            let sent = lane.hand_out()?;
-            Ok(sent.map(|(position, cargo)| QueueDeed::Sent { position, cargo }))
-        }
-        (Step::Take(_), Did::Took(taking)) => {
-            let taken = lane.take()?;
-            Ok(taken.map(|(position, cargo)| QueueDeed::Took {
-                position,
-                cargo,
-                taking: *taking,
-            }))
-        }
+        (Step::Send(_), _) => follow_sending(lane),
+        (Step::Take(_), Did::Took(taking)) => follow_taking(lane, *taking),
         (Step::Rewind(_), _) => Ok(Some(QueueDeed::Rewound {
             position: lane.rewind(),
         })),
@@ -302,4 +297,20 @@ fn follow_queue(lane: &mut Lane, step: &Step, did: &Did) -> Result<Option<QueueD
         (Step::Close(_), _) => Ok(Some(QueueDeed::Closed)),
         _ => Ok(None),
     }
+}
+
+/// The queue handed out its next item.
+fn follow_sending(lane: &mut Lane) -> Result<Option<QueueDeed>, AllocError> {
+    let sent = lane.hand_out()?;
+    Ok(sent.map(|(position, cargo)| QueueDeed::Sent { position, cargo }))
+}
+
+/// The subscriber took what came first, and made this of it.
+fn follow_taking(lane: &mut Lane, taking: Taking) -> Result<Option<QueueDeed>, AllocError> {
+    let taken = lane.take()?;
+    Ok(taken.map(|(position, cargo)| QueueDeed::Took {
+        position,
+        cargo,
+        taking,
+    }))
 }

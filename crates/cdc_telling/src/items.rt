@@ -24,14 +24,19 @@ pub(crate) struct ItemLines<'a> {
 }
 
 impl<'a> ItemLines<'a> {
-    /// No lines, of a script of this name, whose batches and items stand in these places.
-    pub(crate) fn new(alloc: Global, name: &'a str, places: Places) -> ItemLines<'a> {
+    /// No lines, of a script of this name and these bytes.
+    pub(crate) fn new(alloc: Global, name: &'a str, script: &[u8]) -> ItemLines<'a> {
+        let places = Places::of(alloc, script);
+        let mut text = Text::new(alloc);
+        if places.lacks_memory {
+            text.give_up();
+        }
         ItemLines {
             name,
             places,
             batches: 0,
             items: 0,
-            text: Text::new(alloc),
+            text,
         }
     }
 

@@ -1,6 +1,6 @@
 //! In which lines of a script or of a step file its batches, items and steps stand. The files have no fault.
 
-use std::alloc::{AllocError, Global};
+use std::alloc::Global;
 
 /// The lines of a script's batches and of their items, numbered from 1.
 #[derive(Drop)]
@@ -9,23 +9,40 @@ pub(crate) struct Places {
     batches: Vec<u64>,
     /// The line of each item, those of a later batch after those of an earlier one.
     items: Vec<u64>,
+    /// Whether memory ran out for one of them.
+    pub lacks_memory: bool,
 }
 
 impl Places {
     /// The lines of a script's batches and items.
-    pub(crate) fn of(alloc: Global, script: &[u8]) -> Result<Places, AllocError> {
-        let mut batches = Vec::new(alloc);
-        let mut items = Vec::new(alloc);
+    pub(crate) fn of(alloc: Global, script: &[u8]) -> Places {
+        let mut places = Places {
+            batches: Vec::new(alloc),
+            items: Vec::new(alloc),
+            lacks_memory: false,
+        };
         let mut number: u64 = 0;
         for line in script.split(|byte| *byte == b'\n') {
             number = number.saturating_add(1);
-            match first_word(line) {
-                Some(b"accounts" | b"transfers" | b"pulse") => batches.push(number)?,
-                Some(b"account" | b"transfer") => items.push(number)?,
-                _ => {}
+            if let Some(word) = first_word(line) {
+                places.push(word, number);
             }
         }
-        Ok(Places { batches, items })
+        places
+    }
+
+    /// Goes on to the line of this number, which begins with this word.
+    fn push(&mut self, word: &[u8], number: u64) {
+        let pushed = if begins_batch(word) {
+            self.batches.push(number)
+        } else if begins_item(word) {
+            self.items.push(number)
+        } else {
+            return;
+        };
+        if pushed.is_err() {
+            self.lacks_memory = true;
+        }
     }
 
     /// The line of the batch at this place, from 0; 0 where there is none.
@@ -37,6 +54,16 @@ impl Places {
     pub(crate) fn item(&self, place: usize) -> u64 {
         self.items.get(place).copied().unwrap_or(0)
     }
+}
+
+/// Whether a line that begins with this word is a batch's.
+fn begins_batch(word: &[u8]) -> bool {
+    word == b"accounts".as_slice() || word == b"transfers".as_slice() || word == b"pulse".as_slice()
+}
+
+/// Whether a line that begins with this word is an item's.
+fn begins_item(word: &[u8]) -> bool {
+    word == b"account".as_slice() || word == b"transfer".as_slice()
 }
 
 /// The line of the step at this place, from 0; 0 where there is none.

@@ -7,17 +7,24 @@ use cdc_types::Step;
 
 /// Why a step isn't enabled now.
 pub(crate) fn reason(step: &Step, followed: &Followed) -> Sentence {
-    match *step {
+    match step {
         Step::Send(i) | Step::Rewind(i) | Step::Break(i) | Step::Take(i) | Step::Close(i) => {
-            queue_reason(step, i, followed)
+            queue_reason(step, *i, followed)
         }
-        Step::Ack(i, k) => ack_reason(i, k, followed),
-        Step::Arrive(k) => match count_reason(k, followed.packets.len(), PACKETS) {
-            Some(sentence) => sentence,
-            None => UNKNOWN,
-        },
+        Step::Ack(i, k) => ack_reason(*i, *k, followed),
+        Step::Arrive(k) => arrival_reason(*k, followed),
         _ => connector_reason(step, followed),
     }
+}
+
+/// Why a packet isn't there.
+fn arrival_reason(k: u64, followed: &Followed) -> Sentence {
+    count_reason(k, followed.packets.len(), PACKETS).unwrap_or(UNKNOWN)
+}
+
+/// Why a confirm isn't there.
+fn answer_reason(k: u64, followed: &Followed) -> Sentence {
+    count_reason(k, followed.confirms.len(), CONFIRMS).unwrap_or(UNKNOWN)
 }
 
 /// Where no reason is known, which is never.
@@ -59,10 +66,7 @@ fn connector_reason(step: &Step, followed: &Followed) -> Sentence {
         Step::Start => Sentence::One("session ", session.number.into(), " runs already"),
         Step::Poll => poll_reason(session),
         Step::Publish => publish_reason(session),
-        Step::Answer(k) => match count_reason(*k, followed.confirms.len(), CONFIRMS) {
-            Some(sentence) => sentence,
-            None => UNKNOWN,
-        },
+        Step::Answer(k) => answer_reason(*k, followed),
         _ => UNKNOWN,
     }
 }
@@ -111,17 +115,30 @@ fn queue_reason(step: &Step, i: u64, followed: &Followed) -> Sentence {
     }
     match step {
         Step::Take(_) => Sentence::One("nothing is on its way to subscriber ", i.into(), ""),
-        Step::Send(_) => match followed.lanes.get(place_of(i)) {
-            Some(lane) if lane.len() > 0 => Sentence::Two(
-                "queue ",
-                i.into(),
-                " has nothing behind position ",
-                lane.len() as u128,
-                "",
-            ),
-            _ => Sentence::One("queue ", i.into(), " is empty"),
-        },
+        Step::Send(_) => sending_reason(i, queued_count(i, followed)),
         _ => UNKNOWN,
+    }
+}
+
+/// Why queue `i`, to which so many items came, hands out none.
+fn sending_reason(i: u64, count: usize) -> Sentence {
+    if count == 0 {
+        return Sentence::One("queue ", i.into(), " is empty");
+    }
+    Sentence::Two(
+        "queue ",
+        i.into(),
+        " has nothing behind position ",
+        count as u128,
+        "",
+    )
+}
+
+/// How many items came to queue `i`.
+fn queued_count(i: u64, followed: &Followed) -> usize {
+    match followed.lanes.get(place_of(i)) {
+        Some(lane) => lane.len(),
+        None => 0,
     }
 }
 
@@ -130,17 +147,23 @@ fn ack_reason(i: u64, k: u64, followed: &Followed) -> Sentence {
     if let Some(sentence) = subscriber_reason(i, followed) {
         return sentence;
     }
-    match followed.lanes.get(place_of(i)) {
-        Some(lane) if k > 0 && lane.ack_count() > 0 => Sentence::Two(
+    match (ack_count(i, followed), k) {
+        (0, _) => Sentence::One("subscriber ", i.into(), " has acknowledged nothing"),
+        (_, 0) => Sentence::Plain("numbers count from 1"),
+        (count, _) => Sentence::Two(
             "subscriber ",
             i.into(),
             " has sent acknowledgements up to number ",
-            lane.ack_count() as u128,
+            count as u128,
             "",
         ),
-        Some(lane) if lane.ack_count() == 0 => {
-            Sentence::One("subscriber ", i.into(), " has acknowledged nothing")
-        }
-        _ => Sentence::Plain("numbers count from 1"),
+    }
+}
+
+/// How many acknowledgements subscriber `i` gave.
+fn ack_count(i: u64, followed: &Followed) -> usize {
+    match followed.lanes.get(place_of(i)) {
+        Some(lane) => lane.ack_count(),
+        None => 0,
     }
 }

@@ -11,7 +11,8 @@ use crate::results::batch_sentence;
 use crate::sentences::Sentence;
 use crate::steps::step_words;
 use crate::texts::Text;
-use cdc_ledger::BatchError;
+use cdc_ledger::{BatchError, Ledger};
+use cdc_match::Binding;
 use cdc_progress::MemoryStore;
 use cdc_script::{Act, ClientBatch, Script};
 use cdc_types::{Batch, Limits, Step};
@@ -34,16 +35,14 @@ pub(crate) struct Retold<'a> {
     pub why: Text,
 }
 
-/// A simulation on its way.
+/// What stands beside the world of a simulation on its way.
 #[derive(Drop)]
 struct SecondRun {
-    /// The world.
-    world: World<MemoryStore>,
     /// The script's batches that are left.
     batches: IntoIter<ClientBatch>,
     /// How many batches the script has.
     batch_count: usize,
-    /// What steps tell beside it.
+    /// What steps tell.
     followed: Followed,
 }
 
@@ -57,50 +56,67 @@ pub(crate) fn rerun(
 )
     requires { window ≡ Limits.WINDOW_TODAY }
 {
-    match SecondRun::new(alloc, script, window) {
-        Ok(mut run) => told.refused = run.play(alloc, acts, told),
+    let Script { bindings, batches } = script;
+    let Ok(followed) = Followed::new(alloc, bindings.as_slice()) else {
+        told.why.give_up();
+        return;
+    };
+    let mut run = SecondRun {
+        batch_count: batches.as_slice().len(),
+        batches: batches.into_vec().into_iter(),
+        followed,
+    };
+    play_anew(alloc, bindings.into_vec(), window, &mut run, acts, told);
+}
+
+/// Plays acts in a new world with these bindings. It is owned here alone, and lent to all else, since it owns much.
+fn play_anew(
+    alloc: Global,
+    bindings: Vec<Binding>,
+    window: usize,
+    run: &mut SecondRun,
+    acts: &[Act],
+    told: &mut Retold<'_>,
+)
+    requires { window ≡ Limits.WINDOW_TODAY }
+{
+    match World::new(alloc, bindings, window, MemoryStore::new()) {
+        Ok(mut world) => run.play(alloc, &mut world, acts, told),
         Err(_) => told.why.give_up(),
     }
 }
 
 impl SecondRun {
-    /// A simulation of a script in which nothing has happened.
-    fn new(alloc: Global, script: Script, window: usize) -> Result<SecondRun, AllocError>
-        requires { window ≡ Limits.WINDOW_TODAY }
-    {
-        let Script { bindings, batches } = script;
-        let followed = Followed::new(alloc, bindings.as_slice())?;
-        let world = World::new(alloc, bindings.into_vec(), window, MemoryStore::new())?;
-        Ok(SecondRun {
-            world,
-            batch_count: batches.as_slice().len(),
-            batches: batches.into_vec().into_iter(),
-            followed,
-        })
-    }
-
-    /// Plays acts up to the first that is refused, and answers its place.
-    fn play(&mut self, alloc: Global, acts: &[Act], told: &mut Retold<'_>) -> Option<usize> {
+    /// Plays acts up to the first that is refused, and tells its place.
+    fn play(
+        &mut self,
+        alloc: Global,
+        world: &mut World<MemoryStore>,
+        acts: &[Act],
+        told: &mut Retold<'_>,
+    ) {
         for (place, act) in acts.iter().enumerate() {
-            if !self.play_act(alloc, act, told) {
-                return Some(place);
+            if !self.play_act(alloc, world, act, told) {
+                told.refused = Some(place);
+                return;
             }
         }
-        None
     }
 
     /// Plays an act, and answers whether it was done.
-    fn play_act(&mut self, alloc: Global, act: &Act, told: &mut Retold<'_>) -> bool {
+    fn play_act(
+        &mut self,
+        alloc: Global,
+        world: &mut World<MemoryStore>,
+        act: &Act,
+        told: &mut Retold<'_>,
+    ) -> bool {
         match act {
-            Act::Step(step) => self.play_step(alloc, step, told),
+            Act::Step(step) => self.play_step(alloc, world, step, told),
             Act::Batch => match self.batches.next() {
-                Some(item) => self.play_step(alloc, &Step::Submit(item.batch), told),
+                Some(item) => self.play_step(alloc, world, &Step::Submit(item.batch), told),
                 None => {
-                    told.why.push_sentence(Sentence::One(
-                        "batch: not enabled: no batch is left of the script's ",
-                        self.batch_count as u128,
-                        "",
-                    ));
+                    push_no_batch(self.batch_count, &mut told.why);
                     false
                 }
             },
@@ -108,22 +124,27 @@ impl SecondRun {
     }
 
     /// Takes a step and tells it, or why it is refused. Answers whether it was done.
-    fn play_step(&mut self, alloc: Global, step: &Step, told: &mut Retold<'_>) -> bool {
-        match self.world.step(alloc, step) {
+    fn play_step(
+        &mut self,
+        alloc: Global,
+        world: &mut World<MemoryStore>,
+        step: &Step,
+        told: &mut Retold<'_>,
+    ) -> bool {
+        match world.step(alloc, step) {
             Ok(did) => {
-                self.tell(step, &did, told);
+                self.tell(step, &did, world.ledger(), told);
                 true
             }
             Err(refusal) => {
-                self.push_why(step, refusal, &mut told.why);
+                push_why(step, refusal, &self.followed, &mut told.why);
                 false
             }
         }
     }
 
-    /// Tells a step that was done.
-    fn tell(&mut self, step: &Step, did: &Did, told: &mut Retold<'_>) {
-        let ledger = self.world.ledger();
+    /// Tells a step that was done. The ledger is that after it.
+    fn tell(&mut self, step: &Step, did: &Did, ledger: &Ledger, told: &mut Retold<'_>) {
         if let (Step::Submit(batch), Did::Submitted(results)) = (step, did) {
             told.items.push_results(batch, results, ledger);
         }
@@ -132,35 +153,44 @@ impl SecondRun {
             Err(_) => told.trace.give_up(),
         }
     }
+}
 
-    /// Why a step is refused. Of one that memory ran out for nothing can be said.
-    fn push_why(&self, step: &Step, refusal: StepError, why: &mut Text) {
-        match (refusal, step) {
-            (StepError::OutOfMemory, _) => why.give_up(),
-            (StepError::Refused(answer), Step::Submit(batch)) => {
-                push_refused_batch(batch, answer, why);
-            }
-            _ => {
-                why.push_sentence(step_words(step));
-                why.push(": ");
-                self.push_refusal(step, refusal, why);
-            }
+/// Why a step is refused. Of one that memory ran out for nothing can be said.
+fn push_why(step: &Step, refusal: StepError, followed: &Followed, why: &mut Text) {
+    match (refusal, step) {
+        (StepError::OutOfMemory, _) => why.give_up(),
+        (StepError::Refused(answer), Step::Submit(batch)) => {
+            push_refused_batch(batch, answer, why);
+        }
+        _ => {
+            why.push_sentence(step_words(step));
+            why.push(": ");
+            push_refusal(step, refusal, followed, why);
         }
     }
+}
 
-    /// Why a step is refused that is no batch.
-    fn push_refusal(&self, step: &Step, refusal: StepError, why: &mut Text) {
-        match refusal {
-            StepError::NotEnabled => {
-                why.push("not enabled: ");
-                why.push_sentence(reason(step, &self.followed));
-            }
-            StepError::SessionsExhausted => {
-                why.push("sessions_exhausted: no number is left for a session");
-            }
-            _ => why.push(refusal.name()),
+/// Why a step is refused that is no batch.
+fn push_refusal(step: &Step, refusal: StepError, followed: &Followed, why: &mut Text) {
+    match refusal {
+        StepError::NotEnabled => {
+            why.push("not enabled: ");
+            why.push_sentence(reason(step, followed));
         }
+        StepError::SessionsExhausted => {
+            why.push("sessions_exhausted: no number is left for a session");
+        }
+        _ => why.push(refusal.name()),
     }
+}
+
+/// Why a batch isn't submitted where all of the script's, so many, were.
+fn push_no_batch(count: usize, why: &mut Text) {
+    why.push_sentence(Sentence::One(
+        "batch: not enabled: no batch is left of the script's ",
+        count as u128,
+        "",
+    ));
 }
 
 impl<'a> Retold<'a> {
@@ -177,12 +207,17 @@ impl<'a> Retold<'a> {
 
     /// Adds what a step did.
     fn push(&mut self, step: &Step, deed: Deed) {
-        self.trace.push_sentence(step_words(step));
-        self.trace.push(": ");
-        self.trace.push_sentence(deed.sentence());
-        self.trace.push("\n");
+        push_step(step, deed, &mut self.trace);
         self.diagram.push(deed);
     }
+}
+
+/// What a step did.
+fn push_step(step: &Step, deed: Deed, trace: &mut Text) {
+    trace.push_sentence(step_words(step));
+    trace.push(": ");
+    trace.push_sentence(deed.sentence());
+    trace.push("\n");
 }
 
 /// Why the ledger refuses a batch.

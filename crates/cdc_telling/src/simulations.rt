@@ -5,7 +5,7 @@ ghost use Rattle.cdc_script.specs.Scripts.{script_of};
 ghost use Rattle.cdc_script.specs.StepFiles.{acts_of};
 
 use crate::items::ItemLines;
-use crate::places::{Places, step_line};
+use crate::places::step_line;
 use crate::rerun::{Retold, rerun};
 use cdc_script::{parse_script, parse_steps};
 use cdc_types::Limits;
@@ -46,7 +46,6 @@ pub fn simulation_told(
     ensures script { IfSome result (λ told. IsOk (script_of script.now)) }
     ensures steps { IfSome result (λ told. IsOk (acts_of steps.now)) }
 {
-    let places = Places::of(alloc, script).ok()?;
     let Ok(said) = parse_script(alloc, script) else {
         return None;
     };
@@ -56,7 +55,7 @@ pub fn simulation_told(
     let mut retold = Retold::new(
         alloc,
         said.bindings.as_slice().len(),
-        ItemLines::new(alloc, name, places),
+        ItemLines::new(alloc, name, script),
     );
     rerun(alloc, said, window, acts.as_slice(), &mut retold);
     finish(retold, steps).ok()

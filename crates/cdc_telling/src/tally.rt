@@ -28,14 +28,15 @@ impl Tally {
     /// Counts the line of a batch: behind its number stand its results, `pulse` and a number, or `refused:`.
     fn add(&mut self, line: &[u8]) {
         for word in line.split(|byte| *byte == b' ').skip(2) {
-            match word {
-                b"pulse" => break,
-                b"refused:" => {
-                    self.batches = self.batches.saturating_add(1);
-                    break;
-                }
-                b"0" => {}
-                _ => self.items = self.items.saturating_add(1),
+            if word == b"pulse".as_slice() {
+                break;
+            }
+            if word == b"refused:".as_slice() {
+                self.batches = self.batches.saturating_add(1);
+                break;
+            }
+            if word != b"0".as_slice() {
+                self.items = self.items.saturating_add(1);
             }
         }
     }
