@@ -35,7 +35,6 @@ pub struct BrokerParts {
 }
 
 /// What the broker's end has at hand.
-#[derive(Drop)]
 pub(crate) struct BrokerDesk {
     /// What comes to it.
     pub(crate) inbox: LinkIn<ToBroker>,
@@ -57,6 +56,24 @@ pub(crate) struct BrokerDesk {
     pub(crate) connector_done: bool,
     /// Whether all is done.
     pub(crate) finished: bool,
+}
+
+// By hand, so that whoever lets go of it calls this, and doesn't take it apart anew.
+impl Drop for BrokerDesk {
+    fn drop(self) {
+        let Self {
+            inbox: _,
+            confirms: _,
+            consumers: _,
+            broker: _,
+            plan: _,
+            prefetch: _,
+            publishes: _,
+            accepted: _,
+            connector_done: _,
+            finished: _,
+        } = self;
+    }
 }
 
 // The name of a message that names no past.

@@ -21,11 +21,21 @@ use std::sync::Wait;
 /// what it has received; what it has sent to the connector, and to each subscriber, with how many copies that one has
 /// yet to acknowledge; the broker; what goes wrong by plan, and the counts that this goes by; whether it has finished;
 /// and the fault that it met, if it did.
-#[derive(Drop)]
 pub struct BrokerEnd {
     system: u64,
     desk: BrokerDesk,
     fault: Option<RunFault>,
+}
+
+// By hand, so that whoever lets go of it calls this, and doesn't take it apart anew.
+impl Drop for BrokerEnd {
+    fn drop(self) {
+        let Self {
+            system: _,
+            desk: _,
+            fault: _,
+        } = self;
+    }
 }
 
 impl Model for BrokerEnd {

@@ -15,11 +15,21 @@ use std::sync::Wait;
 /// A client's end of a run. A clause sees the number of the system that it is of, its conversation with the ledger (the
 /// client's number, what it has sent and received, a copy of each reply, and whether it has said that it is done), and
 /// the fault that it met, if it did.
-#[derive(Drop)]
 pub struct ClientEnd {
     system: u64,
     talk: Conversation,
     fault: Option<RunFault>,
+}
+
+// By hand, so that whoever lets go of it calls this, and doesn't take it apart anew.
+impl Drop for ClientEnd {
+    fn drop(self) {
+        let Self {
+            system: _,
+            talk: _,
+            fault: _,
+        } = self;
+    }
 }
 
 impl Model for ClientEnd {

@@ -17,11 +17,21 @@ use std::sync::Wait;
 /// A connector's end of a run. A clause sees the number of the system that it is of; what it works with (what it has
 /// sent to the ledger and to the broker, and received of them, what its store holds, and what its session keeps); and
 /// the fault that it met, if it did.
-#[derive(Drop)]
 pub struct ConnectorEnd<S: ProgressStore> {
     system: u64,
     work: Publishing<S>,
     fault: Option<RunFault>,
+}
+
+// By hand, so that whoever lets go of it calls this, and doesn't take it apart anew.
+impl<S: ProgressStore + Drop> Drop for ConnectorEnd<S> {
+    fn drop(self) {
+        let Self {
+            system: _,
+            work: _,
+            fault: _,
+        } = self;
+    }
 }
 
 impl<S: ProgressStore> Model for ConnectorEnd<S> {

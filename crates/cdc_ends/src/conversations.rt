@@ -15,13 +15,25 @@ use std::marker::Model;
 use std::sync::Wait;
 
 /// A client's number, its ends of its links, a copy of each reply, and whether it has said that it is done.
-#[derive(Drop)]
 pub(crate) struct Conversation {
     number: u64,
     requests: LinkOut<ToLedger>,
     answers: LinkIn<Reply>,
     replies: Vec<Reply>,
     finished: bool,
+}
+
+// By hand, so that whoever lets go of it calls this, and doesn't take it apart anew.
+impl Drop for Conversation {
+    fn drop(self) {
+        let Self {
+            number: _,
+            requests: _,
+            answers: _,
+            replies: _,
+            finished: _,
+        } = self;
+    }
 }
 
 impl Model for Conversation {

@@ -35,7 +35,6 @@ pub struct LedgerParts {
 
 /// The ledger's end of each of its links, the ledger, how many clients aren't done, whether the connector is, and the
 /// poll that is kept until there is something to reply.
-#[derive(Drop)]
 pub(crate) struct Desk {
     inbox: LinkIn<ToLedger>,
     clients: Vec<LinkOut<Reply>>,
@@ -44,6 +43,21 @@ pub(crate) struct Desk {
     clients_left: usize,
     connector_done: bool,
     kept: Option<Poll>,
+}
+
+// By hand, so that whoever lets go of it calls this, and doesn't take it apart anew.
+impl Drop for Desk {
+    fn drop(self) {
+        let Self {
+            inbox: _,
+            clients: _,
+            connector: _,
+            ledger: _,
+            clients_left: _,
+            connector_done: _,
+            kept: _,
+        } = self;
+    }
 }
 
 impl Model for Desk {

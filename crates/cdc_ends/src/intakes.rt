@@ -20,7 +20,6 @@ use std::sync::Wait;
 
 /// A subscriber, its number, its ends of its links, after how many events it is to close, and whether the broker has
 /// told it to stop.
-#[derive(Drop)]
 pub(crate) struct Intake {
     number: u64,
     inbox: LinkIn<ToSubscriber>,
@@ -28,6 +27,20 @@ pub(crate) struct Intake {
     subscriber: Subscriber,
     close_after: Option<u64>,
     finished: bool,
+}
+
+// By hand, so that whoever lets go of it calls this, and doesn't take it apart anew.
+impl Drop for Intake {
+    fn drop(self) {
+        let Self {
+            number: _,
+            inbox: _,
+            acks: _,
+            subscriber: _,
+            close_after: _,
+            finished: _,
+        } = self;
+    }
 }
 
 impl Model for Intake {

@@ -15,11 +15,21 @@ use std::sync::Wait;
 /// The ledger's end of a run. A clause sees the number of the system that it is of, its desk (what it has received and
 /// sent, the ledger, how many clients aren't done, whether the connector is, and the poll that is kept), and the fault
 /// that it met, if it did.
-#[derive(Drop)]
 pub struct LedgerEnd {
     system: u64,
     desk: Desk,
     fault: Option<RunFault>,
+}
+
+// By hand, so that whoever lets go of it calls this, and doesn't take it apart anew.
+impl Drop for LedgerEnd {
+    fn drop(self) {
+        let Self {
+            system: _,
+            desk: _,
+            fault: _,
+        } = self;
+    }
 }
 
 impl Model for LedgerEnd {

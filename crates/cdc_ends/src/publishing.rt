@@ -25,7 +25,6 @@ use std::sync::Wait;
 /// A connector's ends of its links, its store, its session, if one runs, with how many polls that has sent and the one
 /// that is open; how many packets are without an answer; after which publish packets it restarts, and how many it has
 /// sent; and whether it has finished.
-#[derive(Drop)]
 pub(crate) struct Publishing<S: ProgressStore> {
     inbox: LinkIn<ToConnector>,
     polls: LinkOut<ToLedger>,
@@ -40,6 +39,27 @@ pub(crate) struct Publishing<S: ProgressStore> {
     restart_after: Vec<u64>,
     published: u64,
     finished: bool,
+}
+
+// By hand, so that whoever lets go of it calls this, and doesn't take it apart anew.
+impl<S: ProgressStore + Drop> Drop for Publishing<S> {
+    fn drop(self) {
+        let Self {
+            inbox: _,
+            polls: _,
+            packets: _,
+            store: _,
+            first: _,
+            session: _,
+            asked: _,
+            poll: _,
+            unanswered: _,
+            window: _,
+            restart_after: _,
+            published: _,
+            finished: _,
+        } = self;
+    }
 }
 
 impl<S: ProgressStore> Model for Publishing<S> {

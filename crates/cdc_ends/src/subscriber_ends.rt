@@ -16,11 +16,21 @@ use std::sync::Wait;
 /// A subscriber's end of a run. A clause sees the number of the system that it is of, the subscriber over its links
 /// (its number, what it has received and acknowledged, what it keeps, after how many events it is to close, and whether
 /// it has finished), and the fault that it met, if it did.
-#[derive(Drop)]
 pub struct SubscriberEnd {
     system: u64,
     intake: Intake,
     fault: Option<RunFault>,
+}
+
+// By hand, so that whoever lets go of it calls this, and doesn't take it apart anew.
+impl Drop for SubscriberEnd {
+    fn drop(self) {
+        let Self {
+            system: _,
+            intake: _,
+            fault: _,
+        } = self;
+    }
 }
 
 impl Model for SubscriberEnd {
