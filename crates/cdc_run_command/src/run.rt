@@ -121,7 +121,10 @@ fn run_clients<T: Threads + Wait + Sync, S: ProgressStore + Send + Drop, G: Gate
         window,
         prefetch,
     };
-    let report = run(rt, alloc, config, scripts, faults, store, gate).map_err(fault_of_run)?;
+    let report = match run(rt, alloc, config, scripts, faults, store, gate) {
+        Ok(report) => report,
+        Err(fault) => return Err(fault_of_run(fault)),
+    };
     Ok(print_run(alloc, order.as_slice(), &report)?)
 }
 

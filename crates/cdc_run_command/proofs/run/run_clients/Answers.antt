@@ -42,17 +42,17 @@ run-requires-clause-scripts g c κs within =
 pub print_run-requires : goal.print_run-requires
 print_run-requires g c =
     let batches = c.into_vec-batches.result.items in
-    let report = c.in_ok-report.report in
+    let report = c.in-Ok.report in
     subst (λ (order : List ℕ). IsOrderOf order (replies_of report))
     (sym (c.as_slice.ensures.value ∙ c.in_ok-clients.ensures.order))
     (order_of_shares batches (replies_of report)
     (subst (λ (all : List ClientBatch). (k : ℕ) (b : ClientBatch) → slice_get all k ≡ Some b → IsClient b.client)
     (sym c.into_vec-batches.ensures) c.requires.script.clients)
-    (c.in_ok-report.ensures.report.scripts_are ∙ c.in_ok-clients.ensures.scripts))
+    (c.in-Ok.ensures.report.scripts_are ∙ c.in_ok-clients.ensures.scripts))
 
 pub returns-clause-text : goal.returns-clause-text
 returns-clause-text g c =
-    let report = c.in_ok-report.report in
+    let report = c.in-Ok.report in
     record {
       few = c.requires.few;
       report = report;
@@ -61,9 +61,9 @@ returns-clause-text g c =
             (c.in_ok-clients.ensures.scripts
             ∙ ap (λ (all : List ClientBatch). shares_from 1 (client_count all) (entries_of all))
             c.into_vec-batches.ensures)
-            c.in_ok-report.ensures.report;
+            c.in-Ok.ensures.report;
         subscribers = λ honest zero.
-            let come = c.in_ok-report.ensures.subscribers honest zero in (
+            let come = c.in-Ok.ensures.subscribers honest zero in (
               come.0,
               (
                 come.1,
