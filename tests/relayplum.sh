@@ -180,7 +180,7 @@ mkdir -p "$room/top/crates/side/src"
 echo '// side' >"$room/top/crates/side/src/lib.rt"
 echo '// beside' >>"$room/top/crates/low/src/lib.rt"
 printf 'cdc_app : low, high side clap\nhigh may_abort=0: low  side # both\n\nlow:\nside:\n' >"$room/top/crates.txt"
-printf 'low side 5\nside low 5\n' >"$SLOW"
+printf 'low side 30\nside low 30\n' >"$SLOW"
 RT_JOBS=2 call "$room/top/relayplum" books x
 check 'side by side: the program runs' 'run with books x' "$out"
 check 'side by side: each has begun before the other ends' "$(printf '%s\n' 'low: proved, jobs 1' 'side: proved, jobs 1')" \
@@ -202,7 +202,7 @@ check '--prove: the program runs' 'run with books x' "$out"
 
 echo '// four' >>"$room/top/crates/side/src/lib.rt"
 echo '// four' >>"$room/top/crates/low/src/lib.rt"
-printf 'low side 5\nside low 5\n' >"$SLOW"
+printf 'low side 30\nside low 30\n' >"$SLOW"
 RT_JOBS=4 call "$room/top/relayplum" books x
 check 'four jobs: two for each of two' "$(printf '%s\n' 'low: proved, jobs 2' 'side: proved, jobs 2')" \
     "$(head -n 2 <<<"$calls" | LC_ALL=C sort)"
@@ -211,7 +211,7 @@ check 'four jobs: all for what everything left stands on' 'high: proved, jobs 4'
 # One that is refused ends the other that is being proved.
 echo low >"$REFUSED"
 for crate in low side; do echo '// wrong' >>"$room/top/crates/$crate/src/lib.rt"; done
-printf 'low side 5\nside none 5\n' >"$SLOW"
+printf 'low side 30\nside none 5\n' >"$SLOW"
 RT_JOBS=2 call "$room/top/relayplum" books x
 check 'side by side: one that is refused ends the script' 1 "$status"
 has 'side by side: it names the crate' '^relayplum: low isn.t proved$' "$err"
@@ -265,8 +265,8 @@ check 'unproved: a diagram goes where it is to be' "--diagram=$room/elsewhere/ou
 
 # Ended from the keyboard while it builds, it ends what it has started, and says no more.
 echo '// more' >>"$room/top/crates/low/src/lib.rt"
-echo 'low none 20' >"$SLOW"
-call timeout -s INT 2 ./link books x
+echo 'low none 40' >"$SLOW"
+call timeout -s INT 6 ./link books x
 check 'an interrupt: its status' 124 "$status"
 check 'an interrupt: no words but its own' '' "$(grep -v '^relayplum: ' <<<"$err")"
 sleep 1
