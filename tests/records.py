@@ -116,9 +116,8 @@ class Reading(relayplum.Build):
         return "record"
 
     def claims(self, crate):
-        """Returns whether the record of a crate says that it is of what stands here."""
-        of = relayplum.written(self.top).get(crate.name, ("", self.kit))[1]
-        if of != self.kit or any(self.how[it.name] != "record" for it in crate.below):
+        """Returns whether the record of a crate says that it is of what stands here, the toolchain's kit too."""
+        if self.other_kit(crate) or any(self.how[it.name] != "record" for it in crate.below):
             return False
         with tempfile.TemporaryDirectory() as room:
             try:

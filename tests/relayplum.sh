@@ -328,8 +328,14 @@ record_of low src/lib.rt
 echo 'a toolchain 2' >"$room/kit/KIT-ID"
 anew
 call ./link books x
-check 'records: those of another toolchain are not taken' "$built" "$calls"
-has 'records: it says of which they are' 'of low was not taken: it is of another toolchain, a toolchain 1$' "$err"
+check 'records: of those that a kit of another name wrote the toolchain decides' 'low: record' "$(head -n 1 <<<"$calls")"
+has 'records: it takes one that is of its own logic' '^relayplum: low built from the record of its proof' "$err"
+sed -i 's/proved/open/' "$room/record/verdict"
+tar -C "$room/record" -c verdict inputs | xz >"$room/top/proved/low.tar.xz"
+anew
+call ./link books x
+check 'records: one that it refuses is not taken' "$(printf '%s\n' 'low: record' "$built")" "$calls"
+has 'records: it says of which kit that was' 'of low was not taken: the toolchain, a toolchain 2 and not a toolchain 1, refuses it: error' "$err"
 rm -r "$room/top/proved"
 
 # Words that need no program, before there is one.

@@ -75,9 +75,10 @@ def digests_of(root, crate, by):
 
 
 def by_of(script, toolchain):
-    """Returns the digest of what tries the edits: the script, and what the toolchain says that it is."""
+    """Returns the digest of what tries the edits: the script, and the logic that the toolchain says it proves by. The name of
+    its kit is not in it: machines have kits of other names with the same logic."""
     with open(script, "rb") as file:
-        return digest([file.read(), toolchain])
+        return digest([file.read(), toolchain.strip().rpartition(b" logic ")[2]])
 
 
 # ---------------------------------------------------------------------------------------------------------------------
@@ -161,7 +162,7 @@ def is_chosen(commit, crate, group):
 
 def stale_for(entry, digests, edits):
     """Returns what a crate's lines don't agree with, or nothing where they stand."""
-    names = "its own files", "what stands below it", "the script or the toolchain"
+    names = "its own files", "what stands below it", "the script or the logic"
     why = [name for name, one, other in zip(names, entry.digests, digests) if one != other]
     if not why and ({*entry.answers} != {*edits} or any(answer != REFUSED for answer, _ in entry.answers.values())):
         why = ["the edits that it names"]

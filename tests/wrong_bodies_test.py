@@ -21,7 +21,7 @@ RT = r'''#!/usr/bin/env python3
 import os, re, sys, types
 
 if __name__ == "__main__":
-    sys.exit(print(os.environ.get("KIT", "a toolchain")))
+    sys.exit(print(os.environ.get("KIT", "kit-1 logic one")))
 
 
 class Crate:
@@ -216,8 +216,12 @@ def test_script(tree):
 
 
 def test_toolchain(tree):
-    texts = "(the script or the toolchain)", "high: 3", "other: 1 wrong body:"
-    stales(tree, lambda: None, 9, *texts, KIT="another toolchain")
+    """Another logic makes the record stale; a kit of another name with the same logic does not."""
+    texts = "(the script or the logic)", "high: 3", "other: 1 wrong body:"
+    stales(tree, lambda: None, 9, *texts, KIT="kit-1 logic two")
+    tree.run("--write")
+    none, _ = quiet(tree)
+    wants(tree.run("--proved", "--commit", none, KIT="kit-2 logic one"), 0, f"{ALL} passed, 0 failed", 0)
 
 
 def test_answers_by_hand(tree):
