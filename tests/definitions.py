@@ -1,0 +1,212 @@
+#!/usr/bin/env python3
+"""docs/DEFINITIONS.md: every definition that a reader has to believe, made from the comments of the definitions.
+
+  tests/definitions.py            says whether the page is current
+  tests/definitions.py --write    writes the page
+
+A crate's definitions stand in its specs/, each behind the comment that says what it is, or behind another one of which the same
+comment speaks; each file begins with a comment of its own. On the page are those that the clauses of a public function cite, and those that these cite in turn: a definition
+that only private contracts and proofs cite needs nobody's belief. Crates come in the order of crates.txt, and the files of a
+crate so that each stands behind those that it cites. The last line is 'N passed, M failed'. Needs Python 3.8 or later.
+"""
+import argparse
+import os
+import re
+import sys
+
+sys.dont_write_bytecode = True
+TOP = os.path.dirname(os.path.dirname(os.path.realpath(__file__)))
+PAGE = "docs/DEFINITIONS.md"
+HEAD = """\
+# The definitions, read aloud
+
+What a reader has to believe: the contracts say that the code does what these definitions say. They stand in the `specs/` folders, in antt, and never repeat the code's loops. In a definition a number is a whole number of any size, and nothing wraps. Each file names the public document that its rules come from, where there is one; the rest is this product's own choice.
+
+Most of them compute: `proofs/Examples.antt` of ten crates, and `proofs/ReplayExamples.antt` of `cdc_message`, run them on small examples, as theorems by computation. PROOFS.md says which definitions the theorems rest on, and in which order to read those.
+
+This page is made from the comments of the definitions (`tests/definitions.py --write`), and the tests see that it is current. It has what the clauses of public functions cite, and what that cites in turn; a definition of private contracts and proofs alone isn't here, and nobody has to believe it.
+"""
+# What begins a definition, with its name; what imports some, and what a module is called.
+DEFINITION = re.compile(r"(?:pub )?(?:abbrev|unfoldable|record|data|inductive|relation|opaque|alias) (?:pub )?(?!pub )([^\s:]*[A-Za-z][^\s:]*)")
+IMPORT = re.compile(r"(?m)^\s*(?:ghost |pub )?use Rattle\.(\w+)\.specs\.([A-Z][\w.]*?)(?:\.\{([^}]*)\}| as (\w+));?$")
+NAME = re.compile(r"(?:([A-Za-z_]\w*)\.)?([A-Za-z_][\w'\-]*)")
+
+
+def crates():
+    """Returns the crates of crates.txt that have definitions, lowest first, without those of tests."""
+    with open(f"{TOP}/crates.txt", encoding="utf-8") as file:
+        rows = [it.partition("#")[0].partition(":")[0].split() for it in file]
+    return [it[0] for it in rows if it and os.path.isdir(f"{TOP}/crates/{it[0]}/specs") and not it[0].endswith("_tests")]
+
+
+def read(path):
+    with open(path, encoding="utf-8") as file:
+        return file.read()
+
+
+def files_below(folder, ending):
+    found = [f"{at}/{it}" for at, _, names in os.walk(folder) for it in names if it.endswith(ending)]
+    return sorted(os.path.relpath(it, folder) for it in found)
+
+
+class Imports:
+    """The names that a file takes from definitions: each by the file that has it, and by its name there."""
+
+    def __init__(self, text):
+        self.names, self.modules = {}, {}
+        for crate, module, names, alias in IMPORT.findall(text):
+            at = crate, f"{module.replace('.', '/')}.antt"
+            if alias:
+                self.modules[alias] = at
+            for it in names.split(","):
+                name, _, other = it.strip().partition(" as ")
+                self.names[other.strip() or name] = (*at, name)
+
+    def cited_in(self, text):
+        """Returns the definitions that a text cites."""
+        found = []
+        for module, name in NAME.findall(text):
+            if module in self.modules:
+                found.append((*self.modules[module], name))
+            for it in (module, name):
+                if it in self.names:
+                    found.append(self.names[it])
+        return found
+
+
+class Definition:
+    def __init__(self, name, comment, text):
+        self.name, self.comment, self.text = name, comment, text
+
+
+class File:
+    """A file of definitions: its first comment, its definitions in their order, and the files of its crate that it cites."""
+
+    def __init__(self, crate, path):
+        text = read(f"{TOP}/crates/{crate}/specs/{path}")
+        self.crate, self.path, self.imports, self.definitions, self.about = crate, path, Imports(text), {}, ""
+        self.cites = {it for of, it, _ in self.imports.names.values() if of == crate}
+        self.cites |= {it for of, it in self.imports.modules.values() if of == crate}
+        name = None
+        for at, paragraph in enumerate(re.split(r"\n\s*\n", text)):
+            lines = [it for it in paragraph.split("\n") if it.strip()]
+            count = next((at for at, it in enumerate(lines) if not it.startswith("--")), len(lines))
+            comment = " ".join(it[2:].strip() for it in lines[:count])
+            begun = [it[1] for it in map(DEFINITION.match, lines) if it]
+            if at == 0:
+                self.about, comment = comment, ""
+            if begun:
+                name = begun[0]
+                self.definitions[name] = Definition(name, comment, "\n".join(lines[count:]))
+            elif name:
+                self.definitions[name].text += "\n" + "\n".join(lines)
+
+    def cited_by(self, name):
+        """Returns the definitions that one of this file cites."""
+        text = self.definitions[name].text
+        own = [(self.crate, self.path, it) for _, it in NAME.findall(text) if it in self.definitions and it != name]
+        return own + self.imports.cited_in(text)
+
+
+def clauses_in(text, is_program):
+    """Returns the clauses of a source's public functions, and what contracts see of its types."""
+    found, taken, is_trait = [], False, False
+    for line in text.split("\n"):
+        if re.match(r"pub trait\b", line):
+            is_trait = True
+        elif line == "}":
+            is_trait = False
+        public = r"\s*(pub fn|pub const fn" + (r"|fn" if is_trait else "") + (r"|pub\(crate\) fn|fn" if is_program else "") + r")\b"
+        if re.match(public, line):
+            taken = True
+        if taken or re.match(r"\s*ghost (Value|\w+:)", line):
+            found.append(line)
+        if taken and (line.strip() == "{" or re.match(r"\s*(?!ensures|requires).*[){>;\w] \{$|.*;$", line)):
+            taken = False
+    return "\n".join(found)
+
+
+def believed(files):
+    """Returns the definitions that the clauses of public functions cite, and those that these cite in turn."""
+    open_ones = []
+    for crate in crates():
+        at = f"{TOP}/crates/{crate}/src"
+        for path in files_below(at, ".rt"):
+            text = read(f"{at}/{path}")
+            is_program = os.path.isfile(f"{at}/main.rt")
+            open_ones += Imports(text).cited_in(clauses_in(text, is_program))
+    found = set()
+    while open_ones:
+        crate, path, name = open_ones.pop()
+        if (crate, path) in files and name in files[crate, path].definitions and (crate, path, name) not in found:
+            found.add((crate, path, name))
+            open_ones += files[crate, path].cited_by(name)
+    return found
+
+
+def in_reading_order(files):
+    """Returns the files of a crate, each behind those that it cites."""
+    found, open_ones, known = [], [], {it.path: it for it in files}
+
+    def visit(path):
+        if path in known and known[path] not in found and path not in open_ones:
+            open_ones.append(path)
+            for it in sorted(known[path].cites):
+                visit(it)
+            found.append(known[path])
+
+    for path in known:
+        visit(path)
+    return found
+
+
+def sentence(text):
+    """Returns a comment as a sentence of its own."""
+    return text if text.endswith(".") else f"{text}."
+
+
+def told_of(file, names):
+    """Returns what is said of these definitions of a file: the names of those that have one comment, and the comment."""
+    found, comment = [], ""
+    for it in file.definitions.values():
+        comment = it.comment or comment
+        if it.name in names and found and found[-1][1] == comment:
+            found[-1][0].append(it.name)
+        elif it.name in names:
+            found.append(([it.name], comment))
+    return [f"- {', '.join(f'**{it}**' for it in names)}: {sentence(said or file.about)}\n" for names, said in found]
+
+
+def page():
+    """Returns the page."""
+    files = {}
+    for crate in crates():
+        for path in files_below(f"{TOP}/crates/{crate}/specs", ".antt"):
+            if os.path.basename(path) != "Lib.antt":
+                files[crate, path] = File(crate, path)
+    told, lines = believed(files), [HEAD]
+    for crate in crates():
+        of_crate = in_reading_order([it for (of, _), it in files.items() if of == crate])
+        parts = [(it, told_of(it, {name for of, path, name in told if (of, path) == (crate, it.path)})) for it in of_crate]
+        if any(said for _, said in parts):
+            lines.append(f"## `{crate}`\n")
+        lines += [f"### {it.path}\n\n{sentence(it.about)}\n\n{''.join(said)}" for it, said in parts if said]
+    return "\n".join(lines)
+
+
+def main():
+    asked = argparse.ArgumentParser(description=__doc__, formatter_class=argparse.RawDescriptionHelpFormatter)
+    asked.add_argument("--write", action="store_true", help="writes the page")
+    text = page()
+    if asked.parse_args().write:
+        with open(f"{TOP}/{PAGE}", "w", encoding="utf-8") as file:
+            file.write(text)
+    is_current = read(f"{TOP}/{PAGE}") == text
+    if not is_current:
+        print(f"definitions: {PAGE} is not what the comments of the definitions say: tests/definitions.py --write")
+    print("1 passed, 0 failed" if is_current else "0 passed, 1 failed")
+    return int(not is_current)
+
+
+if __name__ == "__main__":
+    sys.exit(main())
