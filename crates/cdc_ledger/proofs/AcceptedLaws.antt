@@ -1,10 +1,9 @@
 -- What it takes that a request is accepted: no line of its table applies. Then its entry may come next.
 use Rattle.std.proofs.Common.{ℕ, ◌+◌, ◌<◌, ◌≤◌, Bool, true, false, not, ◌&&◌, ◌||◌, List, [], ◌∷◌, ◌++◌, ◌≡◌, ◌≢◌, Option, Some, None, refl, sym, ap, subst, ◌∙◌, arith}
-use Rattle.std.specs.Prelude.{◌==◌, if◌then◌else◌, unwrap_or, nat_lt, nat_le}
-use Rattle.std.specs.List.{list_all, list_any}
+use Rattle.std.specs.Prelude.{◌==◌, if◌then◌else◌, nat_lt, nat_le}
+use Rattle.std.specs.List.{list_any}
 use Rattle.std.specs.Option.{IsSome}
 use Rattle.std.proofs.lemmas.Bool.{and_parts, and_from, not-true, not-false, eqb-true, eq-eqb, ne_eqb, ltb-false, both_ways, or_from, or_parts, false≢true}
-use Rattle.std.proofs.lemmas.List.Folds.{list_all-append}
 use Rattle.cdc_types.specs.declared.accounts.Balances.{Balances}
 use Rattle.cdc_types.specs.declared.accounts.NewAccount.{NewAccount}
 use Rattle.cdc_types.specs.declared.events.Entry.{Entry}
@@ -30,43 +29,10 @@ use Rattle.cdc_ledger.specs.Kinds.{holds, settles, settled_id, posts, voids, exp
 use Rattle.cdc_ledger.specs.Sound.{HasAccounts, Stands, IsSound}
 use Rattle.cdc_ledger.specs.Submit.{kind_of, entry_of}
 use Rattle.cdc_ledger.specs.Changes.{expiry}
-use Rattle.cdc_ledger.specs.Verdict.{max_timestamp, is_other, is_over, known_account_lines, account_verdict, known_transfer_lines, plain_lines, settling_lines, transfer_lines, transfer_verdict}
+use Rattle.cdc_ledger.specs.Verdict.{max_timestamp, is_other, is_over, known_account_lines, account_refused, known_transfer_lines, plain_lines, settling_lines, transfer_lines}
 use Rattle.cdc_ledger.proofs.BalanceLaws.{balances_later, resolved_later}
 use Rattle.cdc_ledger.proofs.LineLaws.{first_line_append_none_parts, test_of, test_fails}
 use Rattle.cdc_ledger.proofs.StoredLaws.{stored_has}
-
--- each line refuses: its result isn't the acceptance, whose number is 0
-module _ {R : Type 0} (number : R → ℕ) (accepted : R) where
-  -- no line of this table has the acceptance for its result
-  abbrev refuse : List (Bool × R) → Bool
-  refuse lines = list_all (λ line. not (number line.1 == 0)) lines
-
-  -- one line: it doesn't apply, since its result would be a refusal
-  no_line_from : (b : Bool) (r : R) (o : Option R) → not (number r == 0) ≡ true
-      → (number (unwrap_or (if b then Some r else o) accepted) == 0) ≡ true
-      → ((number (unwrap_or o accepted) == 0) ≡ true → o ≡ None) → (if b then Some r else o) ≡ None
-  no_line_from true r o refuses zero rest = absurd (both_ways (number r == 0) (not-true (number r == 0) refuses) zero)
-  no_line_from false r o refuses zero rest = rest zero
-
-  -- so a verdict that is the acceptance came of no line
-  no_line : (lines : List (Bool × R)) → refuse lines ≡ true
-      → (number (unwrap_or (first_line lines) accepted) == 0) ≡ true → first_line lines ≡ None
-  no_line [] refuses zero = refl
-  no_line (line ∷ lines) refuses zero =
-      let both : (not (number line.1 == 0) ≡ true) × (refuse lines ≡ true) =
-      and_parts (not (number line.1 == 0)) (refuse lines) refuses in
-      no_line_from line.0 line.1 (first_line lines) both.0 zero (no_line lines both.1)
-
--- tables one after the other have no line that accepts, where neither of them has one
-refuse-append : {R : Type 0} (number : R → ℕ) (accepted : R) (xs ys : List (Bool × R))
-    → refuse number accepted xs ≡ true → refuse number accepted ys ≡ true → refuse number accepted (xs ++ ys) ≡ true
-refuse-append number accepted xs ys p q = list_all-append (λ line. not (number line.1 == 0)) xs ys ∙ and_from _ _ p q
-
--- neither line on an account that is there accepts it
-known_account_refuse : (o : Option Opened) (a : NewAccount)
-    → refuse account_number account.Accepted (known_account_lines o a) ≡ true
-known_account_refuse None a = refl
-known_account_refuse (Some o) a = refl
 
 -- an account that is there is always refused; so where no line applies the id was free
 known_account_none : (o : Option Opened) (a : NewAccount) → first_line (known_account_lines o a) ≡ None → o ≡ None
@@ -76,25 +42,15 @@ known_account_none (Some o) a none =
 
 -- an account that is accepted had a free id, so that it can be opened
 pub accepted_account : (offered : Features) (h : History) (a : NewAccount)
-    → (account_number (account_verdict offered h a) == 0) ≡ true
+    → account_refused offered h a ≡ None
     → (first_line (account_shape_lines offered a) ≡ None) × (opened h a.id ≡ None)
-accepted_account offered h a zero =
+accepted_account offered h a none =
     let known : List (Bool × AccountResult) = known_account_lines (opened h a.id) a in
-    let none : first_line (account_shape_lines offered a ++ known) ≡ None =
-    no_line account_number account.Accepted (account_shape_lines offered a ++ known)
-    (refuse-append account_number account.Accepted (account_shape_lines offered a) known refl
-    (known_account_refuse (opened h a.id) a)) zero in
     let parts : (first_line (account_shape_lines offered a) ≡ None) × (first_line known ≡ None) =
     first_line_append_none_parts (account_shape_lines offered a) known none in
     (parts.0, known_account_none (opened h a.id) a parts.1)
 
 -- a transfer
-
--- neither line on a transfer that is there accepts it
-known_transfer_refuse : (o : Option Entry) (h : History) (r : NewTransfer)
-    → refuse transfer_number transfer.Accepted (known_transfer_lines o h r) ≡ true
-known_transfer_refuse None h r = refl
-known_transfer_refuse (Some e) h r = refl
 
 -- a transfer that is there is always refused; so where no line applies the id is new
 known_transfer_none : (o : Option Entry) (h : History) (r : NewTransfer)
@@ -103,47 +59,12 @@ known_transfer_none None h r none = refl
 known_transfer_none (Some e) h r none =
     absurd (false≢true (sym (test_fails transfer_number transfer.Exists (known_transfer_lines (Some e) h r) none)))
 
--- no line on a single-phase or a pending transfer accepts it
-plain_refuse : (d c : Option Opened) (h : History) (r : NewTransfer) (t : ℕ)
-    → refuse transfer_number transfer.Accepted (plain_lines d c h r t) ≡ true
-plain_refuse None c h r t = refl
-plain_refuse (Some d) None h r t = refl
-plain_refuse (Some d) (Some c) h r t = refl
-
--- nor does one on a post or a void
-settling_refuse : (o : Option Entry) (h : History) (r : NewTransfer) (t : ℕ)
-    → refuse transfer_number transfer.Accepted (settling_lines o h r t) ≡ true
-settling_refuse None h r t = refl
-settling_refuse (Some e) h r t = refl
-
--- so none does, whichever of the two tables the request is judged by
-either_refuse : (b : Bool) (xs ys : List (Bool × TransferResult)) → refuse transfer_number transfer.Accepted xs ≡ true
-    → refuse transfer_number transfer.Accepted ys ≡ true
-    → refuse transfer_number transfer.Accepted (if b then xs else ys) ≡ true
-either_refuse true xs ys p q = p
-either_refuse false xs ys p q = q
-
 -- the lines on the accounts of a plain request, or on the pending transfer that a post or a void names
 abbrev pub own_lines : History → NewTransfer → ℕ → List (Bool × TransferResult)
 own_lines h r t =
     if is_plain_request r
     then plain_lines (opened h r.debit_account_id) (opened h r.credit_account_id) h r t
     else settling_lines (stored h r.pending_id) h r t
-
--- a transfer that is accepted is refused by no line
-pub no_line_from_accepted : (offered : Features) (h : History) (r : NewTransfer) (t : ℕ)
-    → (transfer_number (transfer_verdict offered h r t) == 0) ≡ true
-    → first_line (transfer_lines offered h r t) ≡ None
-no_line_from_accepted offered h r t zero =
-    let known : List (Bool × TransferResult) = known_transfer_lines (stored h r.id) h r in
-    let rest_refuse : refuse transfer_number transfer.Accepted (known ++ own_lines h r t) ≡ true =
-    refuse-append transfer_number transfer.Accepted known (own_lines h r t) (known_transfer_refuse (stored h r.id) h r)
-    (either_refuse (is_plain_request r) _ _
-    (plain_refuse (opened h r.debit_account_id) (opened h r.credit_account_id) h r t)
-    (settling_refuse (stored h r.pending_id) h r t)) in
-    no_line transfer_number transfer.Accepted (transfer_lines offered h r t)
-    (refuse-append transfer_number transfer.Accepted (transfer_shape_lines offered r)
-    (known ++ own_lines h r t) refl rest_refuse) zero
 
 -- the three parts of the table, of which no line applies
 no_line_parts : (offered : Features) (h : History) (r : NewTransfer) (t : ℕ)

@@ -279,3 +279,27 @@ module _ (h : History) (e : Entry) (sound : IsSound h) (follows : Follows h e) w
           → endings_of all ≡ set (endings_of h.entries) p.place (ending_by e.kind) ++ Open ∷ []
       by true settling = settled_at settling p (sym is) found
       by false none = let clash : settled_by h e ≡ None = settled_by_none h e none in cc
+
+  -- before the entry, the pending transfer that it settles was open
+  pub open_before : (p : Pending) → option_map (λ p. p.transfer) (Some p) ≡ settled_by h e
+      → IsStoredAt h p.transfer.id p.place → slice_get (endings_of h.entries) p.place ≡ Some Open
+  open_before p is found = by (settles e.kind) refl
+    where
+      by : (b : Bool) → settles e.kind ≡ b → slice_get (endings_of h.entries) p.place ≡ Some Open
+      by true settling =
+          let unended = follows.settling settling in
+          let x = unended.pending in
+          let it = IsStored-found h (settled_id e.kind e.transfer) x unended.settles.named in
+          let named : settled_by h e ≡ Some x.transfer = settled_by_is h e x settling unended.settles in
+          let same : x.transfer ≡ p.transfer = let some : settled_by h e ≡ Some p.transfer = sym is in cc in
+          let there : stored h p.transfer.id ≡ Some x =
+          ap (stored h) (sym (ap (λ (q : Transfer). q.id) same) ∙ it.same_id) ∙ unended.settles.named in
+          let one : found.0 ≡ x = let two : stored h p.transfer.id ≡ Some found.0 = found.2 in cc in
+          let open_still : ending_of h.entries x ≡ Open =
+          ap (λ b. if b then ending_among h.entries x.transfer else Open) unended.settles.pending
+          ∙ ending_open h.entries x.transfer (unended_from x.transfer h.last h.entries sound.past unended.unsettled) in
+          slice_get-map (ending_of h.entries) h.entries p.place
+          ∙ ap (option_map (ending_of h.entries)) (found.1 ∙ ap (λ y. Some y) one)
+          ∙ ap (λ y. Some y) open_still
+      by false none = let clash : settled_by h e ≡ None = settled_by_none h e none in
+          let some : settled_by h e ≡ Some p.transfer = sym is in cc

@@ -11,6 +11,7 @@ use Rattle.cdc_types.specs.declared.batches.BatchResults.TheVariants as results
 use Rattle.cdc_types.specs.declared.events.Event.{Event}
 use Rattle.cdc_types.specs.declared.events.EventKind.{EventKind}
 use Rattle.cdc_types.specs.declared.events.EventKind.TheVariants.{SinglePhase, TwoPhasePending, TwoPhasePosted, TwoPhaseVoided, TwoPhaseExpired}
+use Rattle.cdc_types.specs.declared.results.AccountResult.{AccountResult}
 use Rattle.cdc_types.specs.declared.results.AccountResult.TheVariants as account_result
 use Rattle.cdc_types.specs.declared.results.TransferResult.{TransferResult}
 use Rattle.cdc_types.specs.declared.results.TransferResult.TheVariants as result
@@ -391,3 +392,101 @@ faulty-answers : answers empty_history all_faulty ≡
     given (map (λ row. row.1) faulty) ∷
     []
 faulty-answers = refl
+
+-- ---- chains
+
+-- the answer to requests for accounts
+abbrev given_accounts : List AccountResult → Answer
+given_accounts items = Ok (results.Accounts items)
+
+-- an item that is chained to the next one
+abbrev linked : NewTransfer → NewTransfer
+linked r = record r { flags = 1 }
+
+-- a chain of three that fails at its last item, for want of an account, and a transfer by itself after it
+abbrev failed_chain : List Batch
+failed_chain =
+    two_accounts ∷
+    batch.Transfers 2000
+    (linked (transfer 1 1 2 5) ∷ linked (transfer 2 1 2 7) ∷ transfer 3 1 9 1 ∷ transfer 4 1 2 9 ∷ []) ∷
+    []
+
+-- nothing of the chain is left, but each of its items took a timestamp
+failed_chain-answers : answers empty_history failed_chain ≡
+    two_opened ∷
+    given (result.LinkedEventFailed ∷ result.LinkedEventFailed ∷ result.CreditAccountNotFound ∷ result.Accepted ∷ []) ∷
+    []
+failed_chain-answers = refl
+
+-- the transfer after the chain has the fourth timestamp of the batch
+failed_chain-events : map told (events (history failed_chain)) ≡
+    (2003, SinglePhase, 9, sums 0 9 0 0, sums 0 0 0 9) ∷
+    []
+failed_chain-events = refl
+
+-- a chain that is taken; one that is open at the batch's end; one that fails at its first item, whose id is there;
+-- and an open one that fails at its first item
+abbrev four_chains : List Batch
+four_chains =
+    two_accounts ∷
+    batch.Transfers 2000 (linked (transfer 1 1 2 5) ∷ transfer 2 1 2 7 ∷ []) ∷
+    batch.Transfers 3000 (linked (transfer 3 1 2 1) ∷ linked (transfer 4 1 2 1) ∷ []) ∷
+    batch.Transfers 4000 (linked (transfer 1 1 2 5) ∷ transfer 5 1 2 1 ∷ []) ∷
+    batch.Transfers 5000 (linked (transfer 0 1 2 1) ∷ linked (transfer 6 1 2 1) ∷ []) ∷
+    []
+
+-- the last item of an open chain is found to be so, whatever failed before it
+four_chains-answers : answers empty_history four_chains ≡
+    two_opened ∷
+    given (result.Accepted ∷ result.Accepted ∷ []) ∷
+    given (result.LinkedEventFailed ∷ result.LinkedEventChainOpen ∷ []) ∷
+    given (result.Exists ∷ result.LinkedEventFailed ∷ []) ∷
+    given (result.IdMustNotBeZero ∷ result.LinkedEventChainOpen ∷ []) ∷
+    []
+four_chains-answers = refl
+
+-- only the first chain has events
+four_chains-events : map told (events (history four_chains)) ≡
+    (2000, SinglePhase, 5, sums 0 5 0 0, sums 0 0 0 5) ∷
+    (2001, SinglePhase, 7, sums 0 12 0 0, sums 0 0 0 12) ∷
+    []
+four_chains-events = refl
+
+-- a post that its chain takes back leaves the pending transfer as it was, and so its time comes
+abbrev post_taken_back : List Batch
+post_taken_back =
+    two_accounts ∷
+    batch.Transfers 2000 (pending 10 100 1 ∷ []) ∷
+    batch.Transfers 3000 (settling 11 10 whole 5 ∷ settling 12 10 whole 4 ∷ []) ∷
+    batch.Pulse 1000002000 ∷
+    []
+
+-- the second post of the chain finds that the first one posted
+post_taken_back-answers : answers empty_history post_taken_back ≡
+    two_opened ∷
+    given (result.Accepted ∷ []) ∷
+    given (result.LinkedEventFailed ∷ result.PendingTransferAlreadyPosted ∷ []) ∷
+    pulsed 1 ∷
+    []
+post_taken_back-answers = refl
+
+-- it is held back, and comes to its end
+post_taken_back-events : map told (events (history post_taken_back)) ≡
+    (2000, TwoPhasePending, 100, sums 100 0 0 0, sums 0 0 100 0) ∷
+    (1000002000, TwoPhaseExpired, 100, sums 0 0 0 0, sums 0 0 0 0) ∷
+    []
+post_taken_back-events = refl
+
+-- accounts are chained likewise
+abbrev linked_accounts : List Batch
+linked_accounts =
+    batch.Accounts 1000 (account 1 1 ∷ record (account 2 0) { ledger = 0 } ∷ []) ∷
+    batch.Accounts 2000 (account 1 1 ∷ []) ∷
+    []
+
+-- the first chain fails at its second item, the second one is open
+linked_accounts-answers : answers empty_history linked_accounts ≡
+    given_accounts (account_result.LinkedEventFailed ∷ account_result.LedgerMustNotBeZero ∷ []) ∷
+    given_accounts (account_result.LinkedEventChainOpen ∷ []) ∷
+    []
+linked_accounts-answers = refl

@@ -2,52 +2,38 @@
 use Rattle.std.proofs.Common.{ℕ, ◌≤◌, Bool, List, [], ◌∷◌, ◌++◌, ◌≡◌, Some, None, ap, ◌∙◌, length, sym, subst, map}
 use Rattle.std.specs.Prelude.{◌==◌, if◌then◌else◌}
 use Rattle.std.proofs.lemmas.List.{map_push}
-use Rattle.std.specs.FinSet.{from_list}
 use Rattle.cdc_types.specs.declared.accounts.NewAccount.{NewAccount}
 use Rattle.cdc_ledger.specs.declared.tables.Tables.TheInside.{Inside}
 use Rattle.cdc_ledger.specs.Accounts.{opened_as, fresh_account}
 use Rattle.cdc_ledger.specs.Changes.{with_account}
 use Rattle.cdc_ledger.specs.Endings.{endings_of}
-use Rattle.cdc_ledger.specs.Events.{accounts_now, events}
+use Rattle.cdc_ledger.specs.Events.{accounts_now}
 use Rattle.cdc_ledger.specs.History.{History, Opened, opened}
-use Rattle.cdc_ledger.specs.OpenTriples.{index_of}
 use Rattle.cdc_ledger.specs.Places.{account_place, place_of, stored_place}
 use Rattle.cdc_ledger.specs.Sound.{IsSound}
 use Rattle.cdc_ledger.specs.Tables.{IsKept, history_of}
 use Rattle.cdc_ledger.specs.Verdict.{max_timestamp}
 use Rattle.cdc_ledger.proofs.AccountLaws.{accounts_now-timed, accounts_now-with_account}
-use Rattle.cdc_ledger.proofs.EventLaws.{events-with_account}
-use Rattle.cdc_ledger.proofs.IndexLaws.{open_triples-later}
 use Rattle.cdc_ledger.proofs.PlaceLaws.{accounts_placed-opened}
 use Rattle.cdc_ledger.proofs.SoundLaws.{IsSound-timed, IsSound-with_account}
 
--- the index doesn't change with time and accounts alone
-index_of-later : (h : History) (accounts : List Opened) (t : ℕ) (closed : Bool) → IsSound h → h.last ≤ t
-    → index_of (record { accounts = accounts; entries = h.entries; last = t; closed = closed }) ≡ index_of h
-index_of-later h accounts t closed sound later = ap from_list (open_triples-later h accounts t closed sound later)
-
 -- from the history that the tables hold
 pub IsKept-from : (t : Inside) (h : History) → history_of t ≡ h → t.accounts.items ≡ accounts_now h
-    → t.log.events ≡ events h → t.index.triples ≡ index_of h
     → ((id : ℕ) → place_of t.account_places id ≡ account_place t.accounts.items id)
     → ((id : ℕ) → place_of t.transfer_places id ≡ stored_place t.entries.items id)
     → t.endings.items ≡ endings_of t.entries.items → IsSound h → IsKept t
-IsKept-from t h same balanced logged indexed accounts_placed transfers_placed ended sound = record {
+IsKept-from t h same balanced accounts_placed transfers_placed ended sound = record {
   balanced = balanced ∙ ap accounts_now (sym same);
-  logged = logged ∙ ap events (sym same);
-  indexed = indexed ∙ ap index_of (sym same);
   accounts_placed = accounts_placed;
   transfers_placed = transfers_placed;
   ended = ended;
   sound = subst IsSound (sym same) sound;
 }
 
--- a refused request, which only takes its timestamp, leaves balances, log and index right
+-- a refused request, which only takes its timestamp, leaves the balances right
 pub IsKept-timed : (t : Inside) (n : ℕ) → IsKept t → t.last ≤ n → n ≤ max_timestamp → IsKept (record t { last = n })
 IsKept-timed t n kept later within = record {
   balanced = kept.balanced ∙ sym (accounts_now-timed (history_of t) n kept.sound.past later);
-  logged = kept.logged;
-  indexed = kept.indexed ∙ sym (index_of-later (history_of t) (history_of t).accounts n t.closed kept.sound later);
   accounts_placed = kept.accounts_placed;
   transfers_placed = kept.transfers_placed;
   ended = kept.ended;
@@ -65,24 +51,21 @@ history-opened t t' r n accounts entries last closed =
     ap (map opened_as) accounts ∙ map_push opened_as t.accounts.items (fresh_account r n) in
     cc
 
--- a new account has no amount, no event and no triple, so balances, log and index stay right; its place is the last one
+-- a new account has no amount, so the balances stay right; its place is the last one
 pub IsKept-opened : (t t' : Inside) (r : NewAccount) (n : ℕ) → IsKept t → opened (history_of t) r.id ≡ None → t.last ≤ n
     → n ≤ max_timestamp
-    → t'.accounts.items ≡ t.accounts.items ++ fresh_account r n ∷ [] → t'.log.events ≡ t.log.events
-    → t'.index.triples ≡ t.index.triples
+    → t'.accounts.items ≡ t.accounts.items ++ fresh_account r n ∷ []
     → ((id : ℕ) → place_of t'.account_places id
     ≡ (if r.id == id then Some (length t.accounts.items) else place_of t.account_places id))
     → t'.transfer_places ≡ t.transfer_places → t'.endings.items ≡ t.endings.items
     → t'.entries.items ≡ t.entries.items
     → history_of t' ≡ with_account (history_of t) (record { request = r; timestamp = n }) → IsKept t'
-IsKept-opened t t' r n kept free later within accounts log index added places endings entries same =
+IsKept-opened t t' r n kept free later within accounts added places endings entries same =
     let h : History = history_of t in
     let o : Opened = record { request = r; timestamp = n } in
     IsKept-from t' (with_account h o) same
     (accounts ∙ ap (λ xs. xs ++ fresh_account r n ∷ []) kept.balanced
     ∙ sym (accounts_now-with_account h o kept.sound.past kept.sound.known free later))
-    (log ∙ kept.logged ∙ sym (events-with_account h o kept.sound.known))
-    (index ∙ kept.indexed ∙ sym (index_of-later h (with_account h o).accounts n h.closed kept.sound later))
     (λ id. accounts_placed-opened h t.account_places t'.account_places t.accounts.items (fresh_account r n)
     kept.balanced free kept.accounts_placed added id ∙ ap (λ xs. account_place xs id) (sym accounts))
     (λ id. ap (λ ids. place_of ids id) places ∙ kept.transfers_placed id

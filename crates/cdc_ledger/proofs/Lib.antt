@@ -7,6 +7,7 @@ pub mod OpenedLaws
 pub mod StoredLaws
 pub mod EventLaws
 pub mod AccountLaws
+pub mod ChainLaws
 pub mod BatchLaws
 pub mod LegalLaws
 pub mod SoundLaws
@@ -32,4 +33,7 @@ pub mod Expiring
 pub mod Pulsed
 pub mod Judged
 pub mod Recorded
-pub mod Answered
+pub mod ToldLaws
+pub mod RecordedLaws
+pub mod TakenBack
+pub mod Unlinked

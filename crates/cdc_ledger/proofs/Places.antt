@@ -142,7 +142,7 @@ module _ (f : Effect) (debit credit : ℕ) (apart : debit ≢ credit) (a : Accou
 module _ (accounts : List Account) (m : Movement) (placed : IsPlaced accounts m)
     (apart : m.entry.transfer.debit_account_id ≢ m.entry.transfer.credit_account_id) (d : Account) where
   -- the two accounts stand at two places, since their ids differ
-  places_apart : m.debit ≢ m.credit
+  pub places_apart : m.debit ≢ m.credit
   places_apart same =
       apart (sym (place-id accounts m.entry.transfer.debit_account_id m.debit d placed.debit)
       ∙ ap (λ k. (get_or accounts k d).id) same

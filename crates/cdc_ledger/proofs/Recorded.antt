@@ -84,7 +84,7 @@ module _ (h : History) (e : Entry) (sound : IsSound h) (follows : Follows h e) (
       (λ k d inside. (debit_fits (get_or h.accounts k d).request.id, credit_fits (get_or h.accounts k d).request.id))
 
 -- the movement of an entry has its effect
-effect-movement : (h : History) (m : Movement) → settled_transfer m ≡ settled_by h m.entry
+pub effect-movement : (h : History) (m : Movement) → settled_transfer m ≡ settled_by h m.entry
     → effect_of_movement m ≡ effect_of h m.entry
 effect-movement h m settled = ap (λ p. effect_by p m.entry) settled
 
@@ -123,7 +123,7 @@ pub IsPlaced-kept : (t : Inside) (m : Movement) → CanTake t m → IsPlaced t.a
 IsPlaced-kept t m can = subst (λ (xs : List Account). IsPlaced xs m) (sym can.kept.balanced) can.movement.placed
 
 -- accounts have the ids that they were opened with, whatever their balances
-ids_opened : (xs : List Account) → account_ids xs ≡ map (λ o. o.request.id) (map opened_as xs)
+pub ids_opened : (xs : List Account) → account_ids xs ≡ map (λ o. o.request.id) (map opened_as xs)
 ids_opened xs = sym (map-map (λ (o : Opened). o.request.id) opened_as xs)
 
 -- no two accounts of the tables have one id, so that a movement changes just two of them
@@ -206,19 +206,6 @@ accounts-recorded t m can =
     ∙ ap (map (account_after (effect_of (history_of t) m.entry) d c)) can.kept.balanced
     ∙ sym (accounts_now-pushed (history_of t) m.entry can.kept.sound can.follows can.later)
 
--- events have the timestamps of their entries, of which none is past the last one
-last_timestamp_from-events : (h : History) (s : ℕ) (es : List Entry) → s ≤ h.last
-    → AllByRecursion (λ e. e.timestamp ≤ h.last) es → last_timestamp_from s (map (event_of h) es) ≤ h.last
-last_timestamp_from-events h s [] before all = before
-last_timestamp_from-events h s (e ∷ es) before all = last_timestamp_from-events h e.timestamp es all.0 all.1
-
--- no event is past the last timestamp
-pub last_timestamp-kept : (t : Inside) → IsKept t → last_timestamp t.log.events ≤ t.last
-last_timestamp-kept t kept =
-    let P : List Event → Type 0 = λ told. last_timestamp told ≤ t.last in
-    subst P (sym kept.logged)
-    (last_timestamp_from-events (history_of t) 0 t.entries.items (omega arith) kept.sound.past)
-
 -- the vector after its elements were mapped in place
 pub items-with_items : {X Z : Type 0} (v : Vec X Z) (f : X → X) (ws xs : List X) → ws ≡ map f xs → xs ≡ v.items
     → (with_items v ws).items ≡ map f v.items
@@ -226,34 +213,29 @@ items-with_items v f ws xs mapped same =
     let written : ws ≡ map f v.items = mapped ∙ ap (map f) same in
     with_items_is v ws (ap length written ∙ length-map v.items f ∙ sym v.ok.0) ∙ written
 
+-- the event that is made of the accounts after the movement is that of its entry
+pub event_of-recorded : (t : Inside) (m : Movement) (xs : List Account) → CanTake t m
+    → xs ≡ accounts_after m t.accounts.items
+    → event_from xs m.entry ≡ event_of (pushed (history_of t) m.entry) m.entry
+event_of-recorded t m xs can changed =
+    ap (λ (ys : List Account). event_from ys m.entry) (changed ∙ accounts-recorded t m can)
+    ∙ event_from-now (pushed (history_of t) m.entry) m.entry can.follows.accounts.0 can.follows.accounts.1 refl
+
 -- what is kept of the tables is kept after the movement, whose entry takes this place
 pub IsKept-recorded : (t t' : Inside) (m : Movement) (place : ℕ) → CanTake t m → m.entry.timestamp ≤ max_timestamp
     → place ≡ length t.entries.items
     → t'.accounts.items ≡ accounts_after m t.accounts.items
-    → t'.log.events ≡ t.log.events ++ event_from t'.accounts.items m.entry ∷ []
-    → t'.index.triples ≡ ends_after (settled_transfer m) m.entry place t.index.triples
     → t'.account_places ≡ t.account_places
     → ((id : ℕ) → place_of t'.transfer_places id
     ≡ (if stores m.entry.kind && (m.entry.transfer.id == id) then Some place else place_of t.transfer_places id))
     → t'.endings.items ≡ endings_after m.settled m.entry.kind t.endings.items
     → history_of t' ≡ pushed (history_of t) m.entry → IsKept t'
-IsKept-recorded t t' m place can top at accounts log index places added endings same =
+IsKept-recorded t t' m place can top at accounts places added endings same =
     let h : History = history_of t in
     let now : t'.accounts.items ≡ accounts_now (pushed h m.entry) =
     accounts ∙ accounts-recorded t m can in
-    let told : event_from t'.accounts.items m.entry ≡ event_of (pushed h m.entry) m.entry =
-    ap (λ (xs : List Account). event_from xs m.entry) now
-    ∙ event_from-now (pushed h m.entry) m.entry can.follows.accounts.0 can.follows.accounts.1 refl in
-    let ends : ends_after (settled_transfer m) m.entry place t.index.triples ≡ index_of (pushed h m.entry) =
-    ap (λ (o : Option Transfer). ends_after o m.entry place t.index.triples) can.movement.settled
-    ∙ ap₂ (λ n s. ends_after (settled_by h m.entry) m.entry n s) at can.kept.indexed
-    ∙ sym (index_of-ended h m.entry can.kept.sound can.follows can.later) in
     record {
       balanced = now ∙ ap accounts_now (sym same);
-      logged = log ∙ ap₂ (λ xs x. xs ++ x ∷ []) can.kept.logged told
-          ∙ sym (events-pushed h m.entry can.kept.sound.past can.later)
-          ∙ ap events (sym same);
-      indexed = index ∙ ends ∙ ap index_of (sym same);
       accounts_placed = λ id. ap (λ ids. place_of ids id) places ∙ can.kept.accounts_placed id
           ∙ sym (account_place-changed m id t.accounts.items) ∙ ap (λ xs. account_place xs id) (sym accounts);
       transfers_placed = λ id. transfers_placed-pushed h t.transfer_places t'.transfer_places m.entry can.follows.fresh

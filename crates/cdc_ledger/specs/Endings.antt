@@ -1,5 +1,5 @@
 -- How the pending transfers of a list of entries ended (for private contracts and the laws).
-use Rattle.std.specs.Prelude.{ℕ, ◌+◌, ◌&&◌, ◌==◌, Bool, true, false, not, nat_le, List, [], ◌∷◌, ◌++◌, map, set, Option, Some, None, if◌then◌else◌}
+use Rattle.std.specs.Prelude.{ℕ, ◌+◌, ◌-◌, ◌&&◌, ◌==◌, Bool, true, false, not, nat_le, List, [], ◌∷◌, ◌++◌, map, length, set, take, Option, Some, None, if◌then◌else◌}
 use Rattle.std.specs.List.{list_any}
 use Rattle.cdc_types.specs.declared.events.Entry.{Entry}
 use Rattle.cdc_types.specs.declared.events.EventKind.{EventKind}
@@ -46,6 +46,11 @@ ending_by TwoPhaseExpired = Expired
 abbrev pub endings_after : Option Pending → EventKind → List Ending → List Ending
 endings_after None kind endings = endings ++ Open ∷ []
 endings_after (Some p) kind endings = set endings p.place (ending_by kind) ++ Open ∷ []
+
+-- the endings before the last entry, which settled this pending transfer, if any
+abbrev pub endings_before : Option Pending → List Ending → List Ending
+endings_before None endings = take (length endings - 1) endings
+endings_before (Some p) endings = set (take (length endings - 1) endings) p.place Open
 
 -- why a pending transfer that ended so can't be settled at the moment t, if so: its timeout ends it too
 abbrev pub ended_refusal : Ending → Transfer → ℕ → Option TransferResult

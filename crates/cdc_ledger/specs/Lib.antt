@@ -2,6 +2,7 @@
 pub mod Answers
 pub mod Balances
 pub mod BatchErrors
+pub mod Chains
 pub mod Changes
 pub mod Due
 pub mod Events
@@ -20,5 +21,8 @@ pub mod Follows
 pub mod Movements
 pub mod OpenTriples
 pub mod Places
+pub mod Recorded
 pub mod Sound
+pub mod Stops
 pub mod Tables
+pub mod Told

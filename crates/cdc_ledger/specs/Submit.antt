@@ -10,21 +10,23 @@ use Rattle.cdc_types.specs.declared.events.Entry.{Entry}
 use Rattle.cdc_types.specs.declared.events.EventKind.{EventKind}
 use Rattle.cdc_types.specs.declared.events.EventKind.TheVariants.{SinglePhase, TwoPhasePending, TwoPhasePosted, TwoPhaseVoided}
 use Rattle.cdc_types.specs.declared.results.AccountResult.{AccountResult}
+use Rattle.cdc_types.specs.declared.results.AccountResult.TheVariants as account
 use Rattle.cdc_types.specs.declared.results.TransferResult.{TransferResult}
+use Rattle.cdc_types.specs.declared.results.TransferResult.TheVariants as transfer
 use Rattle.cdc_types.specs.declared.transfers.NewTransfer.{NewTransfer}
 use Rattle.cdc_types.specs.declared.transfers.Transfer.{Transfer}
 use Rattle.cdc_types.specs.declared.bounds.TheConstants.Limits.{BATCH_ITEMS}
 use Rattle.cdc_types.specs.Features.{Features, features}
-use Rattle.cdc_types.specs.Flags.{is_pending_request, is_post_request, is_void_request}
+use Rattle.cdc_types.specs.Flags.{is_linked_account, is_linked_transfer, is_pending_request, is_post_request, is_void_request}
 use Rattle.cdc_types.specs.Lines.{first_line}
-use Rattle.cdc_types.specs.Results.{account_number, transfer_number}
 use Rattle.cdc_ledger.specs.declared.errors.BatchError.{BatchError}
 use Rattle.cdc_ledger.specs.declared.errors.BatchError.TheVariants as refusal
-use Rattle.cdc_ledger.specs.Changes.{pushed, with_account, timed, expiry}
+use Rattle.cdc_ledger.specs.Chains.{Rules, items_from}
+use Rattle.cdc_ledger.specs.Changes.{pushed, with_account, expiry}
 use Rattle.cdc_ledger.specs.Fits.{BatchFits}
 use Rattle.cdc_ledger.specs.History.{Opened, History, empty_history}
 use Rattle.cdc_ledger.specs.Filling.{filled}
-use Rattle.cdc_ledger.specs.Verdict.{max_timestamp, account_verdict, transfer_verdict}
+use Rattle.cdc_ledger.specs.Verdict.{max_timestamp, account_refused, transfer_refused}
 use Rattle.cdc_ledger.specs.Due.{due}
 
 -- what a request is once it's accepted
@@ -43,30 +45,36 @@ opened_by a t = record { request = a; timestamp = t }
 abbrev pub entry_of : History → NewTransfer → ℕ → Entry
 entry_of h r t = record { timestamp = t; kind = kind_of r; transfer = filled h r t }
 
--- the history after a request for an account at the moment t: it takes its timestamp whether it is accepted or not
-abbrev pub after_account : History → NewAccount → ℕ → AccountResult → History
-after_account h a t verdict = if account_number verdict == 0 then with_account h (opened_by a t) else timed h t
+-- the rules of requests for accounts
+abbrev pub account_rules : Features → Rules NewAccount AccountResult
+account_rules offered = record {
+  linked = is_linked_account;
+  refused = λ h a t. account_refused offered h a;
+  taken = λ h a t. with_account h (opened_by a t);
+  accepted = account.Accepted;
+  failed = account.LinkedEventFailed;
+  unfinished = account.LinkedEventChainOpen;
+}
 
--- the history after a request for a transfer at the moment t
-abbrev pub after_transfer : History → NewTransfer → ℕ → TransferResult → History
-after_transfer h r t verdict = if transfer_number verdict == 0 then pushed h (entry_of h r t) else timed h t
+-- the rules of requests for transfers
+abbrev pub transfer_rules : Features → Rules NewTransfer TransferResult
+transfer_rules offered = record {
+  linked = is_linked_transfer;
+  refused = λ h r t. transfer_refused offered h r t;
+  taken = λ h r t. pushed h (entry_of h r t);
+  accepted = transfer.Accepted;
+  failed = transfer.LinkedEventFailed;
+  unfinished = transfer.LinkedEventChainOpen;
+}
 
 -- the answers to requests for accounts from the moment t on, each judged by what those before it left, and the
 -- history after them
 abbrev pub accounts_from : Features → History → ℕ → List NewAccount → List AccountResult × History
-accounts_from offered h t [] = ([], h)
-accounts_from offered h t (a ∷ rest) =
-    let verdict = account_verdict offered h a in
-    let later = accounts_from offered (after_account h a t verdict) (t + 1) rest in
-    (verdict ∷ later.0, later.1)
+accounts_from offered = items_from (account_rules offered)
 
 -- the answers to requests for transfers from the moment t on, likewise
 abbrev pub transfers_from : Features → History → ℕ → List NewTransfer → List TransferResult × History
-transfers_from offered h t [] = ([], h)
-transfers_from offered h t (r ∷ rest) =
-    let verdict = transfer_verdict offered h r t in
-    let later = transfers_from offered (after_transfer h r t verdict) (t + 1) rest in
-    (verdict ∷ later.0, later.1)
+transfers_from offered = items_from (transfer_rules offered)
 
 -- the history after these pending transfers expired, from the moment t on
 abbrev pub expiries_from : History → ℕ → List Transfer → History

@@ -1,6 +1,6 @@
 -- What becomes of a request: the first line of its table that applies (TigerBeetle, `create_accounts` and
 -- `create_transfers`).
-use Rattle.std.specs.Prelude.{ℕ, ◌+◌, Bool, true, ◌==◌, ◌&&◌, ◌||◌, not, nat_lt, nat_le, Option, Some, None, unwrap_or, List, [], ◌∷◌, ◌++◌, if◌then◌else◌}
+use Rattle.std.specs.Prelude.{ℕ, ◌+◌, Bool, true, ◌==◌, ◌&&◌, ◌||◌, not, nat_lt, nat_le, Option, Some, None, List, [], ◌∷◌, ◌++◌, if◌then◌else◌}
 use Rattle.cdc_types.specs.declared.accounts.Balances.{Balances}
 use Rattle.cdc_types.specs.declared.accounts.NewAccount.{NewAccount}
 use Rattle.cdc_types.specs.declared.events.Entry.{Entry}
@@ -41,9 +41,9 @@ known_account_lines (Some o) a =
 abbrev pub account_lines : Features → History → NewAccount → List (Bool × AccountResult)
 account_lines offered h a = account_shape_lines offered a ++ known_account_lines (opened h a.id) a
 
--- what becomes of a request for an account
-abbrev pub account_verdict : Features → History → NewAccount → AccountResult
-account_verdict offered h a = unwrap_or (first_line (account_lines offered h a)) account.Accepted
+-- why a request for an account is refused, if it is
+abbrev pub account_refused : Features → History → NewAccount → Option AccountResult
+account_refused offered h a = first_line (account_lines offered h a)
 
 -- the lines on a transfer that is there already: a post or a void is filled in before it is compared. Timestamps aren't
 -- compared, so the entry's own one, which fills the request in here, stands for any
@@ -138,6 +138,6 @@ transfer_lines offered h r t =
     then plain_lines (opened h r.debit_account_id) (opened h r.credit_account_id) h r t
     else settling_lines (stored h r.pending_id) h r t)
 
--- what becomes of a request for a transfer at the moment t
-abbrev pub transfer_verdict : Features → History → NewTransfer → ℕ → TransferResult
-transfer_verdict offered h r t = unwrap_or (first_line (transfer_lines offered h r t)) transfer.Accepted
+-- why a request for a transfer at the moment t is refused, if it is
+abbrev pub transfer_refused : Features → History → NewTransfer → ℕ → Option TransferResult
+transfer_refused offered h r t = first_line (transfer_lines offered h r t)

@@ -4,9 +4,12 @@ ghost use Rattle.std.specs.Prelude.{◌≡◌, nat_lt, OnOk};
 ghost use Rattle.cdc_ledger.specs.Answers.{Answers};
 ghost use Rattle.cdc_ledger.specs.Fits.{BatchFits};
 ghost use Rattle.cdc_ledger.specs.Submit.{base as first_timestamp, refusal_at};
+ghost use Rattle.cdc_ledger.specs.Told.{IsTold};
 
+use crate::chains::tail_len;
 use crate::errors::BatchError;
 use crate::tables::Tables;
+use crate::told::Told;
 use cdc_types::{
     AccountResult, Batch, BatchResults, Limits, NewAccount, NewTransfer, TransferResult,
 };
@@ -70,20 +73,25 @@ impl Tables {
     /// Takes a batch of requests for transfers.
     pub(crate) fn create_transfers(
         &mut self,
+        told: &mut Told,
         alloc: Global,
         now: u64,
         requests: &[NewTransfer],
     ) -> Result<Vec<TransferResult>, BatchError>
+        requires { IsTold self.old.history told.old }
         ensures answers { Answers (λ v. BatchResults.Transfers v.items) self.old.history
             (Batch.Transfers now requests.now) result self.new.history }
+        ensures told { IsTold self.new.history told.new }
         ensures fit { OnOk result (BatchFits (Batch.Transfers now requests.now)) }
     {
         if let Some(refusal) = self.items_refusal(now, requests.len()) {
             return Err(refusal);
         }
         let results = Vec::with_capacity(alloc, requests.len())?;
+        let tail = Vec::with_capacity(alloc, tail_len(requests))?;
         self.reserve_transfers(requests.len())?;
+        told.reserve(requests.len())?;
         let base = self.base(now);
-        Ok(self.take_transfers(base, requests, results))
+        Ok(self.take_transfers(told, base, requests, tail, results))
     }
 }

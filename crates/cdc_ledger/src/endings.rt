@@ -1,7 +1,7 @@
 //! How pending transfers end: each entry has a note of its own, so that no post or void has to search for one.
 
-ghost use Rattle.std.specs.Prelude.{◌≡◌, ◌+◌, ◌<◌, ◌≤◌, IfSome, length, vec_capacity, vec_len};
-ghost use Rattle.cdc_ledger.specs.Endings.{ending_by as ending_of_kind, endings_after};
+ghost use Rattle.std.specs.Prelude.{◌≡◌, ◌+◌, ◌-◌, ◌<◌, ◌≤◌, IfSome, length, vec_capacity, vec_len};
+ghost use Rattle.cdc_ledger.specs.Endings.{ending_by as ending_of_kind, endings_after, endings_before};
 
 use crate::movements::Movement;
 use cdc_types::EventKind;
@@ -42,4 +42,18 @@ pub(crate) fn follow_ending(endings: &mut Vec<Ending>, movement: &Movement)
         endings[pending.place] = ending_by(movement.entry.kind);
     }
     endings.push_reserved(Ending::Open);
+}
+
+/// Takes the note of the movement's own entry out again, which is the last one, and that on the pending transfer that
+/// it settled, if it settled one: it is open again.
+pub(crate) fn forget_ending(endings: &mut Vec<Ending>, movement: &Movement)
+    requires { IfSome movement.now.settled (λ p. p.place + 1 < length endings.old.items) }
+    ensures endings { endings.new.items ≡ endings_before movement.now.settled endings.old.items }
+    ensures len { vec_len endings.new ≡ vec_len endings.old - 1 }
+    ensures capacity { vec_capacity endings.new ≡ vec_capacity endings.old }
+{
+    let _own = endings.pop();
+    if let Some(pending) = movement.settled {
+        endings[pending.place] = Ending::Open;
+    }
 }

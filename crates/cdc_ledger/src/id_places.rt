@@ -1,6 +1,6 @@
 //! The places of accounts and of transfers by their ids: a hash map, with room that was made ahead.
 
-ghost use Rattle.std.specs.Prelude.{◌≡◌, ◌+◌, ◌≤◌, ◌<◌, ◌==◌, ℕ, [], Some, if◌then◌else◌, OnOk};
+ghost use Rattle.std.specs.Prelude.{◌≡◌, ◌+◌, ◌≤◌, ◌<◌, ◌==◌, ℕ, [], None, Some, if◌then◌else◌, OnOk};
 ghost use Rattle.cdc_ledger.specs.Places.{place_of};
 
 use indexmap::IndexMap;
@@ -64,5 +64,14 @@ impl IdPlaces {
     {
         let _none = self.map.insert(id, place).unwrap();
         self.room -= 1;
+    }
+
+    /// Takes the id out again. What was room for it isn't counted as room once more.
+    pub(crate) fn remove(&mut self, id: u128)
+        ensures places { (other : ℕ) → place_of self.new other
+            ≡ (if id == other then None else place_of self.old other) }
+        ensures room { self.new.room ≡ self.old.room }
+    {
+        let _place = self.map.swap_remove(&id);
     }
 }

@@ -14,6 +14,7 @@ ghost use Rattle.cdc_ledger.specs.Verdict.{max_timestamp};
 
 use crate::errors::BatchError;
 use crate::tables::Tables;
+use crate::told::Told;
 use cdc_log::EventLog;
 use cdc_types::{
     Account, AccountResult, Balances, Batch, BatchResults, Entry, Items, NewAccount, NewTransfer,
@@ -26,12 +27,13 @@ use std::marker::Model;
 /// that was ever accepted, the last timestamp, and whether it is closed.
 pub struct Ledger {
     tables: Tables,
+    told: Told,
 }
 
 // By hand, so that whoever lets go of a ledger calls this, and doesn't take it apart anew.
 impl Drop for Ledger {
     fn drop(self) {
-        let Ledger { tables: _ } = self;
+        let Ledger { tables: _, told: _ } = self;
     }
 }
 
@@ -41,10 +43,12 @@ impl Model for Ledger {
     ghost Value = { History };
 
     ghost use Rattle.cdc_ledger.specs.Submit.{IsLegal};
+    ghost use Rattle.cdc_ledger.specs.Told.{IsTold};
 
     ghost view = { λ ledger. ledger.tables.history };
 
-    ghost invariant = { λ ledger. IsLegal ledger.tables.history };
+    ghost invariant = { λ ledger.
+        IsLegal ledger.tables.history × IsTold ledger.tables.history ledger.told };
 }
 
 impl Ledger {
@@ -54,6 +58,7 @@ impl Ledger {
     {
         Ledger {
             tables: Tables::new(alloc),
+            told: Told::new(alloc),
         }
     }
 
@@ -83,7 +88,8 @@ impl Ledger {
         ensures { Answers (λ v. BatchResults.Transfers v.items) self.old
             (Batch.Transfers now requests.now) result self.new }
     {
-        self.tables.create_transfers(alloc, now, requests)
+        let told = &mut self.told;
+        self.tables.create_transfers(told, alloc, now, requests)
     }
 
     /// Lets the pending transfers expire whose time is up at the moment `now`, in nanoseconds, and answers how many
@@ -92,7 +98,7 @@ impl Ledger {
     pub fn pulse(&mut self, now: u64) -> Result<u64, BatchError>
         ensures { Answers BatchResults.Pulsed self.old (Batch.Pulse now) result self.new }
     {
-        self.tables.pulse(now)
+        self.tables.pulse(&mut self.told, now)
     }
 
     /// Takes a batch of any kind.
@@ -181,6 +187,6 @@ impl Ledger {
     pub fn log(&self) -> &EventLog
         ensures { result.now.events ≡ events self.now }
     {
-        self.tables.log()
+        &self.told.log
     }
 }

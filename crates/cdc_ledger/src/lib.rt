@@ -3,6 +3,7 @@
 
 mod accounts;
 mod batches;
+mod chains;
 mod endings;
 pub mod errors;
 mod id_places;
@@ -15,6 +16,7 @@ mod recording;
 mod requests;
 mod settling_refusals;
 mod tables;
+mod told;
 mod transfers;
 
 pub use errors::BatchError;

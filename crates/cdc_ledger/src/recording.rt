@@ -1,59 +1,53 @@
-//! The changes that the tables take: a timestamp, one more account, one more entry.
+//! The changes that the tables take: a timestamp, one more account, one more entry, and the last account or entry out
+//! again.
 
-ghost use Rattle.std.specs.Prelude.{◌≡◌, ◌+◌, ◌≤◌, ◌<◌, ◌^◌, ◌==◌, ◌&&◌, ℕ, true, None, Some, if◌then◌else◌, IfSome};
-ghost use Rattle.cdc_expiry.specs.Triples.{IsNewTimestamp};
+ghost use Rattle.std.specs.Prelude.{◌≡◌, ◌+◌, ◌≤◌, ◌<◌, ◌==◌, ◌&&◌, ℕ, true, None, Some, length, slice_set, if◌then◌else◌};
 ghost use Rattle.cdc_ledger.specs.Changes.{pushed, with_account, timed};
-ghost use Rattle.cdc_ledger.specs.Filling as filling;
+ghost use Rattle.cdc_ledger.specs.Events.{event_of};
 ghost use Rattle.cdc_ledger.specs.Follows.{Follows};
 ghost use Rattle.cdc_ledger.specs.History.{opened};
 ghost use Rattle.cdc_ledger.specs.Kinds as kinds;
-ghost use Rattle.cdc_ledger.specs.Movements.{IsMovement, settled_transfer};
-ghost use Rattle.cdc_ledger.specs.OpenTriples as triples;
-ghost use Rattle.cdc_ledger.specs.OpenTriples.{ends_after};
+ghost use Rattle.cdc_ledger.specs.Movements.{IsMovement};
 ghost use Rattle.cdc_ledger.specs.Places.{place_of};
+ghost use Rattle.cdc_ledger.specs.Recorded.{IsLastOpened, IsLastRecorded, IsRecorded, without_account, without_entry};
+ghost use Rattle.cdc_ledger.specs.Sound.{IsSound};
 ghost use Rattle.cdc_ledger.specs.Submit.{opened_by};
 ghost use Rattle.cdc_ledger.specs.Verdict.{max_timestamp};
 
 use crate::accounts::opened_account;
-use crate::endings::follow_ending;
+use crate::endings::{follow_ending, forget_ending};
 use crate::id_places::IdPlaces;
 use crate::movements::Movement;
 use crate::tables::Tables;
-use crate::transfers::{expires_at, stores};
-use cdc_expiry::{DueIndex, Triple};
-use cdc_types::{Entry, EventKind, NewAccount};
+use crate::transfers::stores;
+use cdc_types::{Account, Entry, Event, NewAccount};
 
-/// Whether the entry's transfer may expire.
-fn opens(entry: &Entry) -> bool
-    ensures { result ≡ triples.opens entry.now }
-{
-    entry.kind == EventKind::TwoPhasePending && entry.transfer.timeout != 0
+/// An entry that was taken, with its event, and with what it takes to take it out again.
+#[derive(Clone, Copy)]
+pub(crate) struct Recorded {
+    pub(crate) movement: Movement,
+    /// The place of the entry, from 0.
+    pub(crate) place: usize,
+    pub(crate) event: Event,
+    /// The last timestamp before it.
+    last: u64,
+    /// The account that it debits, as it was before.
+    debit: Account,
+    /// The account that it credits, as it was before.
+    credit: Account,
 }
 
-/// Keeps the end that the pending transfer of an entry at this place will come to, and forgets that of one that is
-/// settled.
-fn follow_end(index: &mut DueIndex, movement: &Movement, place: usize)
-    requires settled { IfSome (settled_transfer movement.now)
-        (λ p. filling.expires_at p < 2 ^ 64) }
-    requires timely { triples.opens movement.now.entry ≡ true
-        → filling.expires_at movement.now.entry.transfer < 2 ^ 64 }
-    requires fresh { triples.opens movement.now.entry ≡ true
-        → IsNewTimestamp index.old.triples movement.now.entry.transfer.timestamp }
-    requires room { triples.opens movement.now.entry ≡ true → 0 < index.old.room }
-    ensures triples { index.new.triples
-        ≡ ends_after (settled_transfer movement.now) movement.now.entry place index.old.triples }
-    ensures room { index.old.room ≤ index.new.room + 1 }
-{
-    let entry = &movement.entry;
-    if let Some(pending) = movement.settled {
-        let transfer = pending.transfer;
-        let _had_an_end = index.remove(expires_at(&transfer), transfer.timestamp);
-    } else if opens(entry) {
-        index.add(Triple {
-            expires_at: expires_at(&entry.transfer),
-            timestamp: entry.transfer.timestamp,
-            slot: place,
-        });
+impl Recorded {
+    /// Makes the two accounts what they were before.
+    fn restore(&self, accounts: &mut [Account])
+        requires debit { self.now.movement.debit < length accounts.old }
+        requires credit { self.now.movement.credit < length accounts.old }
+        ensures { accounts.new ≡ slice_set
+            (slice_set accounts.old self.now.movement.debit self.now.debit)
+            self.now.movement.credit self.now.credit }
+    {
+        accounts[self.movement.debit] = self.debit;
+        accounts[self.movement.credit] = self.credit;
     }
 }
 
@@ -67,6 +61,18 @@ fn keep_place(places: &mut IdPlaces, entry: &Entry, place: usize)
 {
     if stores(entry.kind) {
         places.add(entry.transfer.id, place);
+    }
+}
+
+/// Forgets the place of an entry, where it stored its transfer.
+fn forget_place(places: &mut IdPlaces, entry: &Entry)
+    ensures places { (id : ℕ) → place_of places.new id
+        ≡ (if kinds.stores entry.now.kind && (entry.now.transfer.id == id) then None
+        else place_of places.old id) }
+    ensures room { places.new.room ≡ places.old.room }
+{
+    if stores(entry.kind) {
+        places.remove(entry.transfer.id);
     }
 }
 
@@ -97,25 +103,85 @@ impl Tables {
         self.last = timestamp;
     }
 
-    /// Takes the movement's entry and tells of it. There is room for it.
-    pub(crate) fn record(&mut self, movement: &Movement)
+    /// Takes the last account out again, before which this was the last timestamp.
+    pub(crate) fn take_account_back(&mut self, last: u64)
+        requires { IsLastOpened self.old.history last }
+        ensures history { self.new.history ≡ without_account self.old.history last }
+        ensures room { self.old.account_room ≤ self.new.account_room }
+    {
+        let account = self.accounts.pop().unwrap();
+        self.account_places.remove(account.id);
+        self.last = last;
+    }
+
+    /// Takes the movement's entry, and answers its event. There is room for it.
+    pub(crate) fn record(&mut self, movement: &Movement) -> Event
         requires later { self.old.history.last < movement.now.entry.timestamp }
         requires within { movement.now.entry.timestamp ≤ max_timestamp }
         requires follows { Follows self.old.history movement.now.entry }
         requires movement { IsMovement self.old.history movement.now }
         requires room { 0 < self.old.entry_room }
-        requires end_room { kinds.stores movement.now.entry.kind ≡ true → 0 < self.old.end_room }
+        requires place_room { kinds.stores movement.now.entry.kind ≡ true
+            → 0 < self.old.place_room }
+        ensures sound { IsSound self.old.history }
         ensures history { self.new.history ≡ pushed self.old.history movement.now.entry }
+        ensures event { result
+            ≡ event_of (pushed self.old.history movement.now.entry) movement.now.entry }
         ensures room { self.new.entry_room + 1 ≡ self.old.entry_room }
-        ensures end_room { self.old.end_room ≤ self.new.end_room + 1 }
+        ensures place_room { self.old.place_room ≤ self.new.place_room + 1 }
     {
         let place = self.entries.len();
-        follow_end(&mut self.index, movement, place);
         keep_place(&mut self.transfer_places, &movement.entry, place);
         follow_ending(&mut self.endings, movement);
         movement.apply(self.accounts.as_mut_slice());
-        self.log.push(movement.event(self.accounts.as_slice()));
+        let event = movement.event(self.accounts.as_slice());
         self.entries.push_reserved(movement.entry);
         self.last = movement.entry.timestamp;
+        event
+    }
+
+    /// Takes the movement's entry, and answers what it takes to tell of it or to take it out again. There is room for
+    /// it.
+    pub(crate) fn record_for_chain(&mut self, movement: &Movement) -> Recorded
+        requires later { self.old.history.last < movement.now.entry.timestamp }
+        requires within { movement.now.entry.timestamp ≤ max_timestamp }
+        requires follows { Follows self.old.history movement.now.entry }
+        requires movement { IsMovement self.old.history movement.now }
+        requires room { 0 < self.old.entry_room }
+        requires place_room { 0 < self.old.place_room }
+        ensures recorded { IsRecorded self.old.history result }
+        ensures movement { result.movement ≡ movement.now }
+        ensures history { self.new.history ≡ pushed self.old.history movement.now.entry }
+        ensures room { self.new.entry_room + 1 ≡ self.old.entry_room }
+        ensures place_room { self.old.place_room ≤ self.new.place_room + 1 }
+    {
+        let accounts = self.accounts();
+        let debit = accounts[movement.debit];
+        let credit = accounts[movement.credit];
+        let place = self.entries().len();
+        let last = self.last();
+        Recorded {
+            movement: *movement,
+            place,
+            event: self.record(movement),
+            last,
+            debit,
+            credit,
+        }
+    }
+
+    /// Takes the last entry out again, as if it had never come.
+    pub(crate) fn take_back(&mut self, recorded: &Recorded)
+        requires { IsLastRecorded self.old.history recorded.now }
+        ensures history { self.new.history
+            ≡ without_entry self.old.history recorded.now.last }
+        ensures room { self.new.entry_room ≡ self.old.entry_room + 1 }
+        ensures place_room { self.new.place_room ≡ self.old.place_room }
+    {
+        let _entry = self.entries.pop();
+        forget_place(&mut self.transfer_places, &recorded.movement.entry);
+        forget_ending(&mut self.endings, &recorded.movement);
+        recorded.restore(self.accounts.as_mut_slice());
+        self.last = recorded.last;
     }
 }

@@ -3,7 +3,7 @@
 ghost use Rattle.std.specs.Prelude.{◌≡◌, ◌<◌, ◌≤◌, true, Some, length, option_map, slice_get, OnOk, IfErr};
 ghost use Rattle.std.specs.Option.{option_copied};
 ghost use Rattle.cdc_ledger.specs.Endings.{ending_of};
-ghost use Rattle.cdc_ledger.specs.Events.{account_now, accounts_now, events};
+ghost use Rattle.cdc_ledger.specs.Events.{account_now, accounts_now};
 ghost use Rattle.cdc_ledger.specs.Filling.{stored};
 ghost use Rattle.cdc_ledger.specs.History.{empty_history, opened};
 ghost use Rattle.cdc_ledger.specs.Places.{account_place, stored_place};
@@ -13,14 +13,12 @@ ghost use Rattle.cdc_ledger.specs.Verdict.{max_timestamp};
 use crate::endings::Ending;
 use crate::errors::BatchError;
 use crate::id_places::IdPlaces;
-use cdc_expiry::DueIndex;
-use cdc_log::EventLog;
 use cdc_types::{Account, Entry};
 use std::alloc::Global;
 use std::marker::Model;
 
-/// The accounts with their running balances, the entries, their events, the ends that may still come, and how far the
-/// ledger has come. A clause sees the history that they hold, and for how many more of each there is room.
+/// The accounts with their running balances, the entries, and how far the ledger has come. A clause sees the history
+/// that they hold, and for how many more of each there is room.
 #[derive(Drop)]
 pub(crate) struct Tables {
     pub(crate) accounts: Vec<Account>,
@@ -31,10 +29,6 @@ pub(crate) struct Tables {
     pub(crate) transfer_places: IdPlaces,
     /// How the transfer of each entry ended.
     pub(crate) endings: Vec<Ending>,
-    pub(crate) log: EventLog,
-    /// A triple for each pending transfer with a timeout that is neither posted, voided nor expired; its slot is the
-    /// place of the entry.
-    pub(crate) index: DueIndex,
     pub(crate) last: u64,
     pub(crate) closed: bool,
 }
@@ -62,8 +56,6 @@ impl Tables {
             entries: Vec::new(alloc),
             transfer_places: IdPlaces::new(alloc),
             endings: Vec::new(alloc),
-            log: EventLog::new(alloc),
-            index: DueIndex::new(alloc),
             last: 0,
             closed: false,
         }
@@ -127,13 +119,6 @@ impl Tables {
         self.endings[place]
     }
 
-    /// The events of the entries.
-    pub(crate) fn log(&self) -> &EventLog
-        ensures { result.now.events ≡ events self.now.history }
-    {
-        &self.log
-    }
-
     /// The last timestamp that was given out, or 0.
     pub(crate) fn last(&self) -> u64
         ensures last { result ≡ self.now.history.last }
@@ -167,7 +152,7 @@ impl Tables {
         Ok(())
     }
 
-    /// Makes room for this many more entries and their events.
+    /// Makes room for this many more entries.
     pub(crate) fn reserve_entries(&mut self, additional: usize) -> Result<(), BatchError>
         ensures history { self.new.history ≡ self.old.history }
         ensures room { OnOk result (additional ≤ self.new.entry_room) }
@@ -175,20 +160,18 @@ impl Tables {
     {
         self.entries.reserve(additional)?;
         self.endings.reserve(additional)?;
-        self.log.reserve(additional)?;
         Ok(())
     }
 
-    /// Makes room for this many more transfers: their entries, their events and their ends.
+    /// Makes room for this many more transfers: their entries and their places.
     pub(crate) fn reserve_transfers(&mut self, additional: usize) -> Result<(), BatchError>
         ensures history { self.new.history ≡ self.old.history }
         ensures room { OnOk result (additional ≤ self.new.entry_room) }
-        ensures end_room { OnOk result (additional ≤ self.new.end_room) }
+        ensures place_room { OnOk result (additional ≤ self.new.place_room) }
         ensures memory { IfErr result (λ e. e ≡ BatchError.OutOfMemory) }
     {
         self.reserve_entries(additional)?;
         self.transfer_places.reserve(additional)?;
-        self.index.reserve(additional)?;
         Ok(())
     }
 }

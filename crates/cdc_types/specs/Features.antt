@@ -6,6 +6,6 @@ pub record Features : Type 0 where
   pub account_flags : ℕ
   pub transfer_flags : ℕ
 
--- what the ledger offers today: every flag but the one that links an item to the next
+-- what the ledger offers today: every flag
 abbrev pub features : Features
-features = record { account_flags = 14; transfer_flags = 14 }
+features = record { account_flags = 15; transfer_flags = 15 }

@@ -1,5 +1,6 @@
 -- The bits of the flags (TigerBeetle, Account and Transfer, `flags`).
 use Rattle.std.specs.Prelude.{ℕ, ◌-◌, Bool, not, ◌==◌, ◌||◌, bit_and}
+use Rattle.cdc_types.specs.declared.accounts.NewAccount.{NewAccount}
 use Rattle.cdc_types.specs.declared.transfers.NewTransfer.{NewTransfer}
 use Rattle.cdc_types.specs.Widths.{max_16}
 
@@ -10,6 +11,14 @@ has_flag flags bits = not (bit_and flags bits == 0)
 -- a bit is set that isn't among the accepted ones
 abbrev pub has_other_flag : ℕ → ℕ → Bool
 has_other_flag flags accepted = has_flag flags (max_16 - accepted)
+
+-- the account is chained to the next item of its batch
+abbrev pub is_linked_account : NewAccount → Bool
+is_linked_account a = has_flag a.flags 1
+
+-- the transfer is chained to the next item of its batch
+abbrev pub is_linked_transfer : NewTransfer → Bool
+is_linked_transfer t = has_flag t.flags 1
 
 -- the amount is held back until it is posted or voided
 abbrev pub is_pending_request : NewTransfer → Bool

@@ -5,3 +5,4 @@ pub mod Results
 pub mod Shapes
 pub mod Timestamps
 pub mod Widths
+pub mod Windows

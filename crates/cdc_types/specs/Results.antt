@@ -16,6 +16,8 @@ account_number account.LedgerMustNotBeZero = 5
 account_number account.CodeMustNotBeZero = 6
 account_number account.ExistsWithDifferentFields = 7
 account_number account.Exists = 8
+account_number account.LinkedEventFailed = 9
+account_number account.LinkedEventChainOpen = 10
 
 -- the name of the result in the manual's spelling
 abbrev pub account_name : AccountResult → List ℕ
@@ -28,6 +30,8 @@ account_name account.LedgerMustNotBeZero = codes "ledger_must_not_be_zero"
 account_name account.CodeMustNotBeZero = codes "code_must_not_be_zero"
 account_name account.ExistsWithDifferentFields = codes "exists_with_different_fields"
 account_name account.Exists = codes "exists"
+account_name account.LinkedEventFailed = codes "linked_event_failed"
+account_name account.LinkedEventChainOpen = codes "linked_event_chain_open"
 
 -- the place of the result in its table, and 0 where the item was accepted
 abbrev pub transfer_number : TransferResult → ℕ
@@ -69,6 +73,8 @@ transfer_number transfer.OverflowsCredits = 34
 transfer_number transfer.OverflowsTimeout = 35
 transfer_number transfer.ExceedsCredits = 36
 transfer_number transfer.ExceedsDebits = 37
+transfer_number transfer.LinkedEventFailed = 38
+transfer_number transfer.LinkedEventChainOpen = 39
 
 -- the name of the result in the manual's spelling
 abbrev pub transfer_name : TransferResult → List ℕ
@@ -112,3 +118,5 @@ transfer_name transfer.OverflowsCredits = codes "overflows_credits"
 transfer_name transfer.OverflowsTimeout = codes "overflows_timeout"
 transfer_name transfer.ExceedsCredits = codes "exceeds_credits"
 transfer_name transfer.ExceedsDebits = codes "exceeds_debits"
+transfer_name transfer.LinkedEventFailed = codes "linked_event_failed"
+transfer_name transfer.LinkedEventChainOpen = codes "linked_event_chain_open"

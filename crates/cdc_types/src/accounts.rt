@@ -1,6 +1,7 @@
 //! Accounts: what a client asks for, and what the ledger keeps.
 
 ghost use Rattle.std.specs.Prelude.{◌≡◌};
+ghost use Rattle.cdc_types.specs.Flags.{is_linked_account};
 ghost use Rattle.cdc_types.specs.Shapes.{account_refusal};
 ghost use Rattle.cdc_types.specs.Features.{features};
 
@@ -22,8 +23,8 @@ impl AccountFlags {
     /// Shown in messages, with no other effect.
     pub const HISTORY: u16 = 8;
 
-    /// The bits that the ledger accepts today: all but `LINKED`.
-    pub const ACCEPTED: u16 = 14;
+    /// The bits that the ledger accepts today.
+    pub const ACCEPTED: u16 = 15;
 }
 
 /// An account as a client asks for it (TigerBeetle, Account).
@@ -82,6 +83,13 @@ pub struct Account {
 }
 
 impl NewAccount {
+    /// Whether the account is chained to the next item of its batch.
+    pub fn is_linked(&self) -> bool
+        ensures { result ≡ is_linked_account self.now }
+    {
+        self.flags & AccountFlags::LINKED != 0
+    }
+
     /// The first refusal that the request's own fields call for, whatever the ledger holds.
     pub fn check(&self) -> Option<AccountResult>
         ensures { result ≡ account_refusal features self.now }

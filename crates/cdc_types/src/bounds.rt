@@ -13,11 +13,8 @@ impl Limits {
     /// The `key=value` pairs of one binding, at most.
     pub const BINDING_PAIRS: usize = 10;
 
-    /// The unconfirmed messages of a session, at most, once a session can wait for several.
-    pub const WINDOW: u64 = 64;
-
-    /// The unconfirmed messages of a session, at most, as sessions are made today.
-    pub const WINDOW_TODAY: usize = 1;
+    /// The unconfirmed messages of a session, at most.
+    pub const WINDOW: usize = 64;
 
     /// The unacknowledged deliveries of a queue, at most.
     pub const PREFETCH: u64 = 64;

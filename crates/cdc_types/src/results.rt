@@ -25,6 +25,10 @@ pub enum AccountResult {
     ExistsWithDifferentFields,
     /// The account is there already.
     Exists,
+    /// Another item of its chain was refused.
+    LinkedEventFailed,
+    /// It links on to a next item, and is the last of its batch.
+    LinkedEventChainOpen,
 }
 
 /// What became of a request for a transfer (TigerBeetle, `create_transfers`). The variants stand in the order of their
@@ -107,6 +111,10 @@ pub enum TransferResult {
     ExceedsCredits,
     /// The credits would pass the debits of an account that forbids it.
     ExceedsDebits,
+    /// Another item of its chain was refused.
+    LinkedEventFailed,
+    /// It links on to a next item, and is the last of its batch.
+    LinkedEventChainOpen,
 }
 
 impl AccountResult {
@@ -131,6 +139,8 @@ impl AccountResult {
             AccountResult::CodeMustNotBeZero => "code_must_not_be_zero",
             AccountResult::ExistsWithDifferentFields => "exists_with_different_fields",
             AccountResult::Exists => "exists",
+            AccountResult::LinkedEventFailed => "linked_event_failed",
+            AccountResult::LinkedEventChainOpen => "linked_event_chain_open",
         }
     }
 }
@@ -193,6 +203,8 @@ impl TransferResult {
             TransferResult::OverflowsTimeout => "overflows_timeout",
             TransferResult::ExceedsCredits => "exceeds_credits",
             TransferResult::ExceedsDebits => "exceeds_debits",
+            TransferResult::LinkedEventFailed => "linked_event_failed",
+            TransferResult::LinkedEventChainOpen => "linked_event_chain_open",
         }
     }
 }

@@ -2,7 +2,7 @@
 
 ghost use Rattle.std.specs.Prelude.{◌≡◌};
 ghost use Rattle.cdc_types.specs.Features.{features};
-ghost use Rattle.cdc_types.specs.Flags.{is_pending_request, is_post_request, is_void_request, is_plain_request};
+ghost use Rattle.cdc_types.specs.Flags.{is_linked_transfer, is_pending_request, is_post_request, is_void_request, is_plain_request};
 ghost use Rattle.cdc_types.specs.Shapes.{transfer_refusal, asks_for_two_kinds};
 
 use crate::results::TransferResult;
@@ -23,8 +23,8 @@ impl TransferFlags {
     /// Voids the pending transfer that `pending_id` names.
     pub const VOID_PENDING_TRANSFER: u16 = 8;
 
-    /// The bits that the ledger accepts today: all but the one that chains items.
-    pub const ACCEPTED: u16 = 14;
+    /// The bits that the ledger accepts today.
+    pub const ACCEPTED: u16 = 15;
 }
 
 /// A transfer as a client asks for it (TigerBeetle, Transfer).
@@ -88,6 +88,13 @@ pub struct Transfer {
 }
 
 impl NewTransfer {
+    /// Whether the transfer is chained to the next item of its batch.
+    pub fn is_linked(&self) -> bool
+        ensures { result ≡ is_linked_transfer self.now }
+    {
+        self.flags & TransferFlags::LINKED != 0
+    }
+
     /// Whether the amount is to be held back.
     pub fn is_pending(&self) -> bool
         ensures { result ≡ is_pending_request self.now }

@@ -4,8 +4,10 @@ use Rattle.cdc_ledger.proofs.Legal.{IsLegal-answered}
 use Rattle.cdc_ledger.proofs.ledger.Ledger.create_transfers.Goals as goal
 
 pub invariant_of-self : goal.invariant_of-self
-invariant_of-self c =
-    IsLegal-answered (λ v. results.Transfers v.items) c.self.inside.tables.history
-    c.create_transfers.new.self.history
-    (batch.Transfers c.args.now c.args.requests.now) c.create_transfers.result c.self.invariant
-    c.create_transfers.ensures.fit c.create_transfers.ensures.answers
+invariant_of-self c = (
+  IsLegal-answered (λ v. results.Transfers v.items) c.self.inside.tables.history
+      c.create_transfers.new.self.history
+      (batch.Transfers c.args.now c.args.requests.now) c.create_transfers.result c.self.invariant.0
+      c.create_transfers.ensures.fit c.create_transfers.ensures.answers,
+  c.create_transfers.ensures.told,
+)

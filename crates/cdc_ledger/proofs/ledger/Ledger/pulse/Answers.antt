@@ -4,7 +4,9 @@ use Rattle.cdc_ledger.proofs.Legal.{IsLegal-answered, on_ok}
 use Rattle.cdc_ledger.proofs.ledger.Ledger.pulse.Goals as goal
 
 pub invariant_of-self : goal.invariant_of-self
-invariant_of-self c =
-    IsLegal-answered results.Pulsed c.self.inside.tables.history c.pulse.new.self.history
-    (batch.Pulse c.args.now) c.pulse.result c.self.invariant
-    (on_ok _ c.pulse.result c.ranges.now.fits) c.pulse.ensures
+invariant_of-self c = (
+  IsLegal-answered results.Pulsed c.self.inside.tables.history c.pulse.new.self.history
+      (batch.Pulse c.args.now) c.pulse.result c.self.invariant.0
+      (on_ok _ c.pulse.result c.ranges.now.fits) c.pulse.ensures.answers,
+  c.pulse.ensures.told,
+)

@@ -4,8 +4,8 @@ use Rattle.cdc_ledger.specs.History.{History}
 use Rattle.cdc_ledger.proofs.Expiring.{GoesOn, GoesOn-some, GoesOn-step}
 use Rattle.cdc_ledger.proofs.tables.Tables.expire_all.Goals as goal
 
-pub first_due-pending-requires : goal.first_due-pending-requires
-first_due-pending-requires c =
+pub first_due-pending-requires-clause-some : goal.first_due-pending-requires-clause-some
+first_due-pending-requires-clause-some c =
     GoesOn-some c.args.self.now.history c.args.base c.args.now c.args.count c.loop-place.place
     c.loop-place.self.history c.loop-place.invariant.on c.loop-place-test.true
 
@@ -25,6 +25,8 @@ loop-place-preserved c =
           c.loop-place.self.history c.first_due-pending.result.transfer c.loop-place.invariant.on
           c.first_due-pending.ensures.next
           c.loop-place.invariant.later);
+      told = c.expire.ensures.told;
+      log_room = omega (arith, c.expire.ensures.log_room, c.loop-place.invariant.log_room);
       later = omega (arith, last);
       room = omega (arith, room, c.loop-place.invariant.room);
     }

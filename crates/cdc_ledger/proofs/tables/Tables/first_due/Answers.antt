@@ -1,10 +1,10 @@
-use Rattle.std.proofs.Common.{◌≡◌, ◌≢◌, ◌∙◌, [], Some, ap, subst, sym, arith}
+use Rattle.std.proofs.Common.{◌≡◌, ◌∙◌, Some, ap, subst, sym, arith}
 use Rattle.cdc_types.specs.declared.transfers.Transfer.{Transfer}
 use Rattle.cdc_types.specs.declared.events.Entry.{Entry}
 use Rattle.cdc_ledger.specs.Contents.{Contents}
-use Rattle.cdc_ledger.specs.Due.{due}
 use Rattle.cdc_ledger.specs.Follows.{IsDueNext}
 use Rattle.cdc_ledger.specs.Movements.{IsStoredAt}
+use Rattle.cdc_ledger.specs.OpenTriples.{index_of}
 use Rattle.cdc_ledger.specs.Tables.{history_of}
 use Rattle.cdc_ledger.proofs.Expiring.{IsSome-answer, IsNext-answer, IsDueNext-next}
 use Rattle.cdc_ledger.proofs.IndexNext.{IsNext}
@@ -12,16 +12,16 @@ use Rattle.cdc_ledger.proofs.tables.Tables.first_due.Goals as goal
 
 pub unwrap-first-requires : goal.unwrap-first-requires
 unwrap-first-requires c =
-    IsSome-answer (history_of c.self.inside) c.self.inside.index.triples c.args.now c.due.result
-    c.self.invariant.indexed
-    (subst (λ (v : Contents). due v.history c.args.now ≢ []) (sym c.self.view_is) c.requires) c.due.ensures
+    IsSome-answer c.args.self.now.history c.args.told.now.index.triples c.args.now c.due.result
+    c.requires.told.indexed c.requires.some c.due.ensures
 
 pub index-requires : goal.index-requires
 index-requires c =
     let some : c.due.result ≡ Some c.unwrap-first.result = cc in
     let next : IsNext (history_of c.self.inside) c.args.now c.unwrap-first.result =
-    IsNext-answer (history_of c.self.inside) c.self.inside.index.triples c.args.now c.due.result
-    c.unwrap-first.result c.self.invariant.sound c.self.invariant.indexed c.due.ensures some in
+    IsNext-answer (history_of c.self.inside) c.args.told.now.index.triples c.args.now c.due.result
+    c.unwrap-first.result c.self.invariant.sound
+    (c.requires.told.indexed ∙ ap (λ (v : Contents). index_of v.history) (sym c.self.view_is)) c.due.ensures some in
     omega (arith, next.found.within)
 
 pub returns-clause-next : goal.returns-clause-next
@@ -29,8 +29,9 @@ returns-clause-next c =
     let h = history_of c.self.inside in
     let some : c.due.result ≡ Some c.unwrap-first.result = cc in
     let next : IsNext h c.args.now c.unwrap-first.result =
-    IsNext-answer h c.self.inside.index.triples c.args.now c.due.result c.unwrap-first.result
-    c.self.invariant.sound c.self.invariant.indexed c.due.ensures some in
+    IsNext-answer h c.args.told.now.index.triples c.args.now c.due.result c.unwrap-first.result
+    c.self.invariant.sound
+    (c.requires.told.indexed ∙ ap (λ (v : Contents). index_of v.history) (sym c.self.view_is)) c.due.ensures some in
     let same : c.index.result.now ≡ next.found.entry = c.index.ensures ∙ next.found.at c.index.result.now in
     subst (λ (v : Contents). IsDueNext v.history c.args.now c.index.result.now.transfer) c.self.view_is
     (subst (λ (p : Transfer). IsDueNext h c.args.now p) (sym (ap (λ (e : Entry). e.transfer) same))
@@ -41,8 +42,9 @@ returns-clause-found c =
     let h = history_of c.self.inside in
     let some : c.due.result ≡ Some c.unwrap-first.result = cc in
     let next : IsNext h c.args.now c.unwrap-first.result =
-    IsNext-answer h c.self.inside.index.triples c.args.now c.due.result c.unwrap-first.result
-    c.self.invariant.sound c.self.invariant.indexed c.due.ensures some in
+    IsNext-answer h c.args.told.now.index.triples c.args.now c.due.result c.unwrap-first.result
+    c.self.invariant.sound
+    (c.requires.told.indexed ∙ ap (λ (v : Contents). index_of v.history) (sym c.self.view_is)) c.due.ensures some in
     let same : c.index.result.now ≡ next.found.entry = c.index.ensures ∙ next.found.at c.index.result.now in
     subst (λ (v : Contents). IsStoredAt v.history c.index.result.now.transfer.id c.unwrap-first.result.slot)
     c.self.view_is

@@ -29,7 +29,7 @@ invariant_of-self c =
     IsKept-opened t t' c.args.request.now c.args.timestamp c.self.invariant
     (subst (λ (v : Contents). opened v.history c.args.request.now.id ≡ None) (sym c.self.view_is) c.requires.free)
     (subst (λ (v : Contents). v.history.last ≤ c.args.timestamp) (sym c.self.view_is) c.requires.later)
-    c.requires.within accounts refl refl added refl refl refl
+    c.requires.within accounts added refl refl refl
     (history-opened t t' c.args.request.now c.args.timestamp accounts refl refl refl)
 
 pub returns-clause-history : goal.returns-clause-history

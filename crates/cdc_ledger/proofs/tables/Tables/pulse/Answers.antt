@@ -7,14 +7,14 @@ use Rattle.cdc_ledger.specs.Submit.{base, expiries_from}
 use Rattle.cdc_ledger.proofs.Pulsed.{pulse-refused, pulse-taken, pulse-unmade}
 use Rattle.cdc_ledger.proofs.tables.Tables.pulse.Goals as goal
 
-pub returns-in-Some : goal.returns-in-Some
-returns-in-Some c =
+pub returns-in-Some-clause-answers : goal.returns-in-Some-clause-answers
+returns-in-Some-clause-answers c =
     pulse-refused c.args.self.now.history c.args.now c.due_count-count.result
     c.due_count-count.ensures
     c.in-Some.refusal (sym c.batch_refusal.ensures ∙ c.in-Some.is)
 
-pub returns-in_err-reserve_entries : goal.returns-in_err-reserve_entries
-returns-in_err-reserve_entries c =
+pub returns-in_err-reserve_entries-clause-answers : goal.returns-in_err-reserve_entries-clause-answers
+returns-in_err-reserve_entries-clause-answers c =
     let out : c.in_err-reserve_entries.field-0.0 ≡ OutOfMemory =
     subst (λ r. IfErr r (λ e. e ≡ OutOfMemory)) c.in_err-reserve_entries.was c.reserve_entries.ensures.memory in
     let same : IsErrAnd c.from_residual.result (λ e. e ≡ c.in_err-reserve_entries.field-0.0) =
@@ -30,13 +30,13 @@ expire_all-requires-clause-count c =
     c.due_count-count.ensures
     ∙ ap (λ (h : History). length (due h c.args.now)) (sym c.reserve_entries.ensures.history)
 
-pub returns : goal.returns
-returns c =
+pub returns-clause-answers : goal.returns-clause-answers
+returns-clause-answers c =
     let same : c.reserve_entries.new.self.history ≡ c.args.self.now.history = c.reserve_entries.ensures.history in
     pulse-taken c.args.self.now.history c.args.now c.due_count-count.result
     c.due_count-count.ensures
     c.expire_all.new.self.history (sym c.batch_refusal.ensures ∙ c.in_default.is)
-    (c.expire_all.ensures
+    (c.expire_all.ensures.history
     ∙ (ap (λ n. expiries_from c.reserve_entries.new.self.history n
     (due c.reserve_entries.new.self.history c.args.now)) c.base-base.ensures
     ∙ ap (λ (h : History). expiries_from h (base h c.args.now) (due h c.args.now)) same))

@@ -1,52 +1,23 @@
-use Rattle.std.proofs.Common.{◌<◌, ◌≡◌, ◌∙◌, ◌++◌, [], ◌∷◌, List, ap, sym, subst, refl, arith}
+use Rattle.std.proofs.Common.{◌<◌, ◌≡◌, ◌∙◌, List, ap, sym, subst, refl, arith}
 use Rattle.std.specs.Prelude.{All}
 use Rattle.std.specs.Vec.{with_items}
 use Rattle.cdc_types.specs.declared.accounts.Account.{Account}
-use Rattle.cdc_types.specs.declared.events.Event.{Event}
-use Rattle.cdc_types.specs.Timestamps.{last_timestamp}
 use Rattle.cdc_ledger.specs.declared.tables.Tables.TheInside.{Inside}
-use Rattle.cdc_ledger.specs.Accounts.{event_from}
 use Rattle.cdc_ledger.specs.Changes.{pushed}
+use Rattle.cdc_ledger.specs.Events.{event_of}
 use Rattle.cdc_ledger.specs.Contents.{Contents}
 use Rattle.cdc_ledger.specs.Effects.{account_after}
-use Rattle.cdc_ledger.specs.Movements.{IsPlaced, Takes, account_ids, accounts_after, effect_of_movement, settled_transfer}
-use Rattle.cdc_ledger.specs.Sound.{AreApart}
+use Rattle.cdc_ledger.specs.Movements.{IsPlaced, Takes, account_ids, accounts_after, effect_of_movement}
+use Rattle.cdc_ledger.specs.Sound.{AreApart, IsSound}
 use Rattle.cdc_ledger.specs.Tables.{contents_of, history_of}
 use Rattle.cdc_ledger.proofs.EndingLaws.{settled_within}
-use Rattle.cdc_ledger.proofs.IndexKept.{opens-end, opens-new, stores-opens, settled-end}
-use Rattle.cdc_ledger.proofs.Recorded.{CanTake-from, All-Takes, AreApart-kept, IsPlaced-changed, IsPlaced-kept, history-recorded, last_timestamp-kept, items-with_items, IsKept-recorded}
+use Rattle.cdc_ledger.proofs.Recorded.{CanTake-from, All-Takes, AreApart-kept, IsPlaced-changed, IsPlaced-kept, history-recorded, items-with_items, IsKept-recorded, event_of-recorded}
 use Rattle.cdc_ledger.proofs.tables.Tables.record.Goals as goal
-
-pub follow_end-requires-clause-settled : goal.follow_end-requires-clause-settled
-follow_end-requires-clause-settled c =
-    let m = c.args.movement.now in
-    let can = CanTake-from c.self.inside c.args.self.now m c.self.view_is c.self.invariant c.requires.follows
-    c.requires.later c.requires.movement in
-    settled-end (history_of c.self.inside) m.entry (settled_transfer m) can.kept.sound can.follows can.movement.settled
-
-pub follow_end-requires-clause-timely : goal.follow_end-requires-clause-timely
-follow_end-requires-clause-timely c =
-    opens-end c.args.self.now.history c.args.movement.now.entry c.requires.follows
-
-pub follow_end-requires-clause-fresh : goal.follow_end-requires-clause-fresh
-follow_end-requires-clause-fresh c =
-    let m = c.args.movement.now in
-    let can = CanTake-from c.self.inside c.args.self.now m c.self.view_is c.self.invariant c.requires.follows
-    c.requires.later c.requires.movement in
-    opens-new (history_of c.self.inside) m.entry c.self.inside.index.triples can.kept.sound can.follows can.later
-    can.kept.indexed
-
-pub follow_end-requires-clause-room : goal.follow_end-requires-clause-room
-follow_end-requires-clause-room c opening =
-    let room : 0 < (contents_of c.self.inside).end_room =
-    subst (λ (v : Contents). 0 < v.end_room) (sym c.self.view_is)
-    (c.requires.end_room (stores-opens c.args.movement.now.entry opening)) in
-    omega (arith, room)
 
 pub keep_place-requires : goal.keep_place-requires
 keep_place-requires c storing =
-    let room : 0 < (contents_of c.self.inside).end_room =
-    subst (λ (v : Contents). 0 < v.end_room) (sym c.self.view_is) (c.requires.end_room storing) in
+    let room : 0 < (contents_of c.self.inside).place_room =
+    subst (λ (v : Contents). 0 < v.place_room) (sym c.self.view_is) (c.requires.place_room storing) in
     omega (arith, room)
 
 pub follow_ending-requires-clause-there : goal.follow_ending-requires-clause-there
@@ -78,8 +49,8 @@ apply-requires-clause-fits c =
     (Takes (effect_of_movement m) m.entry.transfer.debit_account_id m.entry.transfer.credit_account_id) xs)
     (sym c.as_mut_slice.ensures.value) (All-Takes c.self.inside m can)
 
-pub event-requires : goal.event-requires
-event-requires c =
+pub event-event-requires : goal.event-event-requires
+event-event-requires c =
     let t = c.self.inside in
     let m = c.args.movement.now in
     let can = CanTake-from t c.args.self.now m c.self.view_is c.self.invariant c.requires.follows
@@ -91,16 +62,6 @@ event-requires c =
     c.apply.new.accounts c.as_mut_slice.result.now c.apply.ensures c.as_mut_slice.ensures.value)
     (IsPlaced-kept t m can)
 
-pub push-requires-clause-later : goal.push-requires-clause-later
-push-requires-clause-later c =
-    let t = c.self.inside in
-    let m = c.args.movement.now in
-    let can = CanTake-from t c.args.self.now m c.self.view_is c.self.invariant c.requires.follows
-    c.requires.later c.requires.movement in
-    let before : last_timestamp t.log.events < m.entry.timestamp =
-    omega (arith, last_timestamp-kept t can.kept, can.later) in
-    rw c.event.ensures before
-
 pub invariant_of-self : goal.invariant_of-self
 invariant_of-self c =
     let t = c.self.inside in
@@ -111,8 +72,6 @@ invariant_of-self c =
     record t {
       accounts = with_items t.accounts c.apply.new.accounts;
       entries = c.push_reserved.new.self;
-      log = c.push.new.self;
-      index = c.follow_end.new.index;
       transfer_places = c.keep_place.new.places;
       endings = c.follow_ending.new.endings;
       last = m.entry.timestamp;
@@ -121,12 +80,8 @@ invariant_of-self c =
     items-with_items t.accounts
     (account_after (effect_of_movement m) m.entry.transfer.debit_account_id m.entry.transfer.credit_account_id)
     c.apply.new.accounts c.as_mut_slice.result.now c.apply.ensures c.as_mut_slice.ensures.value in
-    let told : t'.log.events ≡ t.log.events ++ event_from t'.accounts.items m.entry ∷ [] =
-    c.push.ensures.events
-    ∙ ap (λ (e : Event). t.log.events ++ e ∷ [])
-    (c.event.ensures ∙ ap (λ (xs : List Account). event_from xs m.entry) c.as_slice.ensures.value) in
-    IsKept-recorded t t' m c.len-place.result can c.requires.within (omega arith) accounts told
-    c.follow_end.ensures.triples refl c.keep_place.ensures.places
+    IsKept-recorded t t' m c.len-place.result can c.requires.within (omega arith) accounts
+    refl c.keep_place.ensures.places
     c.follow_ending.ensures.endings
     (history-recorded m t t' accounts c.push_reserved.ensures.items refl refl)
 
@@ -138,8 +93,6 @@ returns-clause-history c =
     record t {
       accounts = with_items t.accounts c.apply.new.accounts;
       entries = c.push_reserved.new.self;
-      log = c.push.new.self;
-      index = c.follow_end.new.index;
       transfer_places = c.keep_place.new.places;
       endings = c.follow_ending.new.endings;
       last = m.entry.timestamp;
@@ -150,3 +103,20 @@ returns-clause-history c =
     c.apply.new.accounts c.as_mut_slice.result.now c.apply.ensures c.as_mut_slice.ensures.value)
     c.push_reserved.ensures.items refl refl
     ∙ ap (λ (v : Contents). pushed v.history m.entry) c.self.view_is
+
+pub returns-clause-sound : goal.returns-clause-sound
+returns-clause-sound c = subst (λ (v : Contents). IsSound v.history) c.self.view_is c.self.invariant.sound
+
+pub returns-clause-event : goal.returns-clause-event
+returns-clause-event c =
+    let t = c.self.inside in
+    let m = c.args.movement.now in
+    let can = CanTake-from t c.args.self.now m c.self.view_is c.self.invariant c.requires.follows
+    c.requires.later c.requires.movement in
+    c.event-event.ensures
+    ∙ event_of-recorded t m c.as_slice.result.now can
+    (c.as_slice.ensures.value
+    ∙ items-with_items t.accounts
+    (account_after (effect_of_movement m) m.entry.transfer.debit_account_id m.entry.transfer.credit_account_id)
+    c.apply.new.accounts c.as_mut_slice.result.now c.apply.ensures c.as_mut_slice.ensures.value)
+    ∙ ap (λ (v : Contents). event_of (pushed v.history m.entry) m.entry) c.self.view_is

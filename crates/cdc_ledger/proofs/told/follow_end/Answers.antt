@@ -3,7 +3,7 @@ use Rattle.std.specs.Prelude.{option_map}
 use Rattle.cdc_expiry.specs.Triples.{without}
 use Rattle.cdc_ledger.specs.declared.movements.Pending.{Pending}
 use Rattle.cdc_ledger.specs.OpenTriples.{ends_after}
-use Rattle.cdc_ledger.proofs.recording.follow_end.Goals as goal
+use Rattle.cdc_ledger.proofs.told.follow_end.Goals as goal
 
 pub returns-in-Some-clause-triples : goal.returns-in-Some-clause-triples
 returns-in-Some-clause-triples c =

@@ -1,0 +1,165 @@
+-- What is told of a history stays right.
+use Rattle.std.proofs.Common.{ℕ, ◌+◌, ◌<◌, ◌≤◌, ◌^◌, List, [], ◌∷◌, ◌++◌, ◌≡◌, true, false, Option, Some, None, Result, Ok, Err, length, map, refl, ap, ap₂, sym, ◌∙◌, subst, arith}
+use Rattle.std.specs.Prelude.{IfSome}
+use Rattle.std.specs.List.{AllByRecursion}
+use Rattle.cdc_types.specs.declared.events.Entry.{Entry}
+use Rattle.cdc_types.specs.declared.events.Event.{Event}
+use Rattle.cdc_types.specs.declared.transfers.Transfer.{Transfer}
+use Rattle.cdc_types.specs.Timestamps.{last_timestamp_from, last_timestamp}
+use Rattle.cdc_types.specs.declared.accounts.NewAccount.{NewAccount}
+use Rattle.cdc_types.specs.declared.batches.Batch.TheVariants as batch
+use Rattle.cdc_types.specs.declared.batches.BatchResults.{BatchResults}
+use Rattle.cdc_types.specs.Features.{features}
+use Rattle.cdc_expiry.specs.Triples.{IsNewTimestamp, Triples}
+use Rattle.cdc_ledger.specs.declared.errors.BatchError.{BatchError}
+use Rattle.cdc_ledger.specs.declared.errors.BatchError.TheVariants.{LedgerClosed, BatchTooLarge, TimestampsExhausted, OutOfMemory}
+use Rattle.cdc_ledger.specs.Answers.{Answers}
+use Rattle.cdc_ledger.specs.declared.movements.Movement.{Movement}
+use Rattle.cdc_ledger.specs.declared.told.Told.{Told}
+use Rattle.cdc_ledger.specs.Changes.{pushed, timed, with_account}
+use Rattle.cdc_ledger.specs.Effects.{settled_by}
+use Rattle.cdc_ledger.specs.Events.{event_of, events}
+use Rattle.cdc_ledger.specs.Filling.{expires_at}
+use Rattle.cdc_ledger.specs.Follows.{Follows}
+use Rattle.cdc_ledger.specs.History.{History, Opened}
+use Rattle.cdc_ledger.specs.Movements.{settled_transfer}
+use Rattle.cdc_ledger.specs.OpenTriples.{ends_after, index_of, opens}
+use Rattle.cdc_ledger.specs.Sound.{IsSound}
+use Rattle.cdc_ledger.specs.Submit.{account_rules, accounts_from, base, is_past_the_end, opened_by, taken}
+use Rattle.cdc_ledger.specs.Told.{IsTold}
+use Rattle.cdc_ledger.specs.Verdict.{max_timestamp}
+use Rattle.cdc_ledger.proofs.AcceptedLaws.{accepted_account}
+use Rattle.cdc_ledger.proofs.ChainLaws.{items_from-keeps}
+use Rattle.cdc_ledger.proofs.EventLaws.{events-pushed, events-with_account}
+use Rattle.cdc_ledger.proofs.IndexKept.{index_of-ended, index_of-later, opens-end, opens-new, settled-end}
+use Rattle.cdc_ledger.proofs.KeptLaws.{after_last, submit_parts, within_end}
+use Rattle.cdc_ledger.proofs.SoundLaws.{IsSound-timed, IsSound-with_account}
+
+-- events have the timestamps of their entries, of which none is past the last one
+last_timestamp_from-events : (h : History) (s : ℕ) (es : List Entry) → s ≤ h.last
+    → AllByRecursion (λ e. e.timestamp ≤ h.last) es → last_timestamp_from s (map (event_of h) es) ≤ h.last
+last_timestamp_from-events h s [] before all = before
+last_timestamp_from-events h s (e ∷ es) before all = last_timestamp_from-events h e.timestamp es all.0 all.1
+
+-- no event that was told is past the last timestamp
+pub last_timestamp-told : (h : History) (told : Told) → IsSound h → IsTold h told
+    → last_timestamp told.log.events ≤ h.last
+last_timestamp-told h told sound is =
+    let P : List Event → Type 0 = λ xs. last_timestamp xs ≤ h.last in
+    subst P (sym is.logged) (last_timestamp_from-events h 0 h.entries (omega arith) sound.past)
+
+-- a movement whose entry may be told of next
+pub record CanTell (h : History) (told : Told) (m : Movement) : Type 0 where
+  pub sound : IsSound h
+  pub follows : Follows h m.entry
+  pub later : h.last < m.entry.timestamp
+  pub settled : settled_transfer m ≡ settled_by h m.entry
+  pub so_far : IsTold h told
+
+module _ (h : History) (told : Told) (m : Movement) (can : CanTell h told m) where
+  -- the end of what it settles can be computed
+  pub tell-settled : IfSome (settled_transfer m) (λ p. expires_at p < 2 ^ 64)
+  tell-settled = settled-end h m.entry (settled_transfer m) can.sound can.follows can.settled
+
+  -- so can its own
+  pub tell-timely : opens m.entry ≡ true → expires_at m.entry.transfer < 2 ^ 64
+  tell-timely = opens-end h m.entry can.follows
+
+  -- whose timestamp is new to the index
+  pub tell-fresh : opens m.entry ≡ true → IsNewTimestamp told.index.triples m.entry.transfer.timestamp
+  tell-fresh = opens-new h m.entry told.index.triples can.sound can.follows can.later can.so_far.indexed
+
+  -- its event is later than all that were told
+  pub tell-later : (event : Event) → event ≡ event_of (pushed h m.entry) m.entry
+      → last_timestamp told.log.events < event.timestamp
+  tell-later event is =
+      let past = last_timestamp-told h told can.sound can.so_far in
+      let own : event.timestamp ≡ m.entry.timestamp = ap (λ (e : Event). e.timestamp) is in
+      omega (arith, past, own, can.later)
+
+  -- once it is told, all is told of the history with its entry
+  pub IsTold-told : (told' : Told) (place : ℕ) (event : Event) → place ≡ length h.entries
+      → event ≡ event_of (pushed h m.entry) m.entry → told'.log.events ≡ told.log.events ++ event ∷ []
+      → told'.index.triples ≡ ends_after (settled_transfer m) m.entry place told.index.triples
+      → IsTold (pushed h m.entry) told'
+  IsTold-told told' place event at is log index = record {
+    logged = log ∙ ap₂ (λ xs x. xs ++ x ∷ []) can.so_far.logged is
+        ∙ sym (events-pushed h m.entry can.sound.past can.later);
+    indexed = index
+        ∙ ap (λ (o : Option Transfer). ends_after o m.entry place told.index.triples) can.settled
+        ∙ ap₂ (λ n s. ends_after (settled_by h m.entry) m.entry n s) at can.so_far.indexed
+        ∙ sym (index_of-ended h m.entry can.sound can.follows can.later);
+  }
+
+-- time alone tells nothing
+pub IsTold-timed : (h : History) (told : Told) (t : ℕ) → IsSound h → h.last ≤ t → IsTold h told
+    → IsTold (timed h t) told
+IsTold-timed h told t sound later is = record {
+  logged = is.logged;
+  indexed = is.indexed ∙ sym (index_of-later h h.accounts t h.closed sound later);
+}
+
+-- what is the same of two histories is told of both
+pub record IsToldAlike (g h : History) : Type 0 where
+  pub logged : events g ≡ events h
+  pub indexed : index_of g ≡ index_of h
+
+-- so what was told of one is told of the other
+pub IsTold-alike : (h g : History) (told : Told) → IsToldAlike g h → IsTold h told → IsTold g told
+IsTold-alike h g told alike is =
+    record { logged = is.logged ∙ sym alike.logged; indexed = is.indexed ∙ sym alike.indexed }
+
+-- more room changes nothing of what was told
+pub IsTold-same : (h g : History) (told told' : Told) → g ≡ h → told'.log.events ≡ told.log.events
+    → told'.index.triples ≡ told.index.triples → IsTold h told → IsTold g told'
+IsTold-same h g told told' same log index is = record {
+  logged = log ∙ is.logged ∙ ap events (sym same);
+  indexed = index ∙ is.indexed ∙ ap index_of (sym same);
+}
+
+-- requests for accounts tell nothing
+told_accounts : (h : History) (t : ℕ) (rs : List NewAccount) → IsSound h → h.last < t
+    → (0 < length rs → t + length rs ≤ max_timestamp + 1)
+    → IsToldAlike (accounts_from features h t rs).1 h
+told_accounts h t rs sound later fits =
+    let found : IsSound (accounts_from features h t rs).1 × IsToldAlike (accounts_from features h t rs).1 h =
+    items_from-keeps (account_rules features) (λ g. IsSound g × IsToldAlike g h) (λ n. n ≤ max_timestamp)
+    (λ g a n so_far later' within none. (
+      IsSound-with_account g (opened_by a n) so_far.0 (accepted_account features g a none).1 (omega arith) within,
+      record {
+        logged = events-with_account g (opened_by a n) so_far.0.known ∙ so_far.1.logged;
+        indexed = index_of-later g (with_account g (opened_by a n)).accounts n g.closed so_far.0 (omega arith)
+            ∙ so_far.1.indexed;
+      },
+    ))
+    (λ g n so_far later' within. (
+      IsSound-timed g n so_far.0 (omega arith) within,
+      record {
+        logged = so_far.1.logged;
+        indexed = index_of-later g g.accounts n g.closed so_far.0 (omega arith) ∙ so_far.1.indexed;
+      },
+    ))
+    (λ g a n. refl) h t rs (sound, record { logged = refl; indexed = refl }) later
+    (λ n from below. let whole : t + length rs ≤ max_timestamp + 1 = fits (omega arith) in omega arith) in
+    found.1
+
+-- so what was told stays right after a batch of them, however it is answered
+pub IsTold-accounts : {A : Type 0} (shown : A → BatchResults) (h g : History) (told : Told) (now : ℕ)
+    (items : List NewAccount) (r : Result A BatchError) → IsSound h → IsTold h told
+    → Answers shown h (batch.Accounts now items) r g → IsTold g told
+IsTold-accounts shown h g told now items (Ok results) sound is answers =
+    let parts : (is_past_the_end h now (length items) ≡ false) ×
+    (taken features h (batch.Accounts now items) ≡ (shown results, g)) =
+    submit_parts h (batch.Accounts now items) (shown results, g) answers in
+    let alike = told_accounts h (base h now) items sound (after_last h now) (within_end h now (length items) parts.0) in
+    let made : (accounts_from features h (base h now) items).1 ≡ g =
+    ap (λ (a : BatchResults × History). a.1) parts.1 in
+    subst (λ k. IsTold k told) made (IsTold-alike h (accounts_from features h (base h now) items).1 told alike is)
+IsTold-accounts shown h g told now items (Err LedgerClosed) sound is answers =
+    subst (λ k. IsTold k told) (sym answers.1) is
+IsTold-accounts shown h g told now items (Err BatchTooLarge) sound is answers =
+    subst (λ k. IsTold k told) (sym answers.1) is
+IsTold-accounts shown h g told now items (Err TimestampsExhausted) sound is answers =
+    subst (λ k. IsTold k told) (sym answers.1) is
+IsTold-accounts shown h g told now items (Err OutOfMemory) sound is answers =
+    subst (λ k. IsTold k told) (sym answers.1) is

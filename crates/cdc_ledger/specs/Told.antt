@@ -1,0 +1,12 @@
+-- What the ledger tells of its history (for private contracts and the laws).
+use Rattle.std.specs.Prelude.{◌≡◌}
+use Rattle.cdc_ledger.specs.declared.told.Told.{Told}
+use Rattle.cdc_ledger.specs.Events.{events}
+use Rattle.cdc_ledger.specs.History.{History}
+use Rattle.cdc_ledger.specs.OpenTriples.{index_of}
+
+-- the log has the events of the history, and the index a triple for each pending transfer with a timeout that nothing
+-- settled yet
+pub record IsTold (h : History) (told : Told) : Type 0 where
+  pub logged : told.log.events ≡ events h
+  pub indexed : told.index.triples ≡ index_of h

@@ -1,0 +1,125 @@
+//! Chains of linked requests: how long they are, and the results of those that fail.
+
+ghost use Rattle.std.specs.Prelude.{◌≡◌, ◌+◌, ◌≤◌, ◌<◌, ◌++◌, ◌∷◌, true, All, drop, length, replicate, take, vec_capacity, vec_len};
+ghost use Rattle.std.specs.List.{AllByRecursion};
+ghost use Rattle.cdc_types.specs.Features.{features};
+ghost use Rattle.cdc_types.specs.Flags.{is_linked_account, is_linked_transfer};
+ghost use Rattle.cdc_ledger.specs.Chains.{chains_of, unjudged, unjudged_one};
+ghost use Rattle.cdc_ledger.specs.Fits.{NewAccountFits, NewTransferFits};
+ghost use Rattle.cdc_ledger.specs.Submit.{account_rules, transfer_rules};
+
+use cdc_types::{AccountResult, NewAccount, NewTransfer, TransferResult};
+
+/// The item of a chain at which it failed: its place in the chain, from 0, and why it was refused.
+#[derive(Clone, Copy)]
+pub(crate) struct Stop<R> {
+    pub(crate) place: usize,
+    pub(crate) refusal: R,
+}
+
+/// How many requests the first chain of a batch has.
+pub(crate) fn account_chain_len(requests: &[NewAccount]) -> usize
+    requires { 0 < length requests.now }
+    ensures some { 0 < result }
+    ensures within { result ≤ length requests.now }
+    ensures first { chains_of is_linked_account requests.now
+        ≡ take result requests.now ∷ chains_of is_linked_account (drop result requests.now) }
+{
+    for (place, request) in requests.iter().enumerate() {
+        if !request.is_linked() {
+            return place + 1;
+        }
+    }
+    requests.len()
+}
+
+/// How many requests the first chain of a batch has.
+pub(crate) fn transfer_chain_len(requests: &[NewTransfer]) -> usize
+    requires { 0 < length requests.now }
+    ensures some { 0 < result }
+    ensures within { result ≤ length requests.now }
+    ensures first { chains_of is_linked_transfer requests.now
+        ≡ take result requests.now ∷ chains_of is_linked_transfer (drop result requests.now) }
+{
+    for (place, request) in requests.iter().enumerate() {
+        if !request.is_linked() {
+            return place + 1;
+        }
+    }
+    requests.len()
+}
+
+/// For how many requests a chain of the batch has to be kept until it is accepted: for none where none is linked.
+pub(crate) fn tail_len(requests: &[NewTransfer]) -> usize
+    ensures { All (λ r. is_linked_transfer r ≡ true → length requests.now ≤ result) requests.now }
+{
+    if requests.iter().any(|request| request.is_linked()) {
+        requests.len()
+    } else {
+        0
+    }
+}
+
+/// The same result for this many requests more. There is room for it.
+pub(crate) fn push_times<R: Copy>(results: &mut Vec<R>, each: R, times: usize)
+    requires { vec_len results.old + times ≤ vec_capacity results.old }
+    ensures items { results.new.items ≡ results.old.items ++ replicate times each }
+    ensures len { vec_len results.new ≡ vec_len results.old + times }
+    ensures capacity { vec_capacity results.new ≡ vec_capacity results.old }
+{
+    for _ in 0..times {
+        results.push_reserved(each);
+    }
+}
+
+/// The result of a request that isn't judged, since one before it in its chain was refused.
+fn unjudged_account(request: NewAccount, is_last: bool) -> AccountResult
+    ensures result { result ≡ unjudged_one (account_rules features) request is_last }
+    ensures fits { NewAccountFits request }
+{
+    if request.is_linked() && is_last {
+        AccountResult::LinkedEventChainOpen
+    } else {
+        AccountResult::LinkedEventFailed
+    }
+}
+
+/// The result of a request that isn't judged, since one before it in its chain was refused.
+fn unjudged_transfer(request: NewTransfer, is_last: bool) -> TransferResult
+    ensures result { result ≡ unjudged_one (transfer_rules features) request is_last }
+    ensures fits { NewTransferFits request }
+{
+    if request.is_linked() && is_last {
+        TransferResult::LinkedEventChainOpen
+    } else {
+        TransferResult::LinkedEventFailed
+    }
+}
+
+/// The results of requests that aren't judged. There is room for them.
+pub(crate) fn push_unjudged_accounts(results: &mut Vec<AccountResult>, requests: &[NewAccount])
+    requires { vec_len results.old + length requests.now ≤ vec_capacity results.old }
+    ensures items { results.new.items
+        ≡ results.old.items ++ unjudged (account_rules features) requests.now }
+    ensures len { vec_len results.new ≡ vec_len results.old + length requests.now }
+    ensures capacity { vec_capacity results.new ≡ vec_capacity results.old }
+    ensures fit { AllByRecursion NewAccountFits requests.now }
+{
+    for (place, request) in requests.iter().enumerate() {
+        results.push_reserved(unjudged_account(*request, place + 1 == requests.len()));
+    }
+}
+
+/// The results of requests that aren't judged. There is room for them.
+pub(crate) fn push_unjudged_transfers(results: &mut Vec<TransferResult>, requests: &[NewTransfer])
+    requires { vec_len results.old + length requests.now ≤ vec_capacity results.old }
+    ensures items { results.new.items
+        ≡ results.old.items ++ unjudged (transfer_rules features) requests.now }
+    ensures len { vec_len results.new ≡ vec_len results.old + length requests.now }
+    ensures capacity { vec_capacity results.new ≡ vec_capacity results.old }
+    ensures fit { AllByRecursion NewTransferFits requests.now }
+{
+    for (place, request) in requests.iter().enumerate() {
+        results.push_reserved(unjudged_transfer(*request, place + 1 == requests.len()));
+    }
+}
