@@ -54,12 +54,17 @@ impl EventLog {
         }
     }
 
-    /// Makes room for `additional` more events. Where memory runs out the events are as they were.
+    /// Makes room for `additional` more events; an error is want of memory for those that there is no room for yet.
+    /// Where memory runs out the events are as they were.
     pub fn reserve(&mut self, additional: usize) -> Result<(), AllocError>
         ensures events { self.new.events ≡ self.old.events }
         ensures room { OnOk result (additional ≤ self.new.room) }
         ensures kept { self.old.room ≤ self.new.room }
+        ensures lacking { OnErr result (self.old.room < additional) }
     {
+        if additional <= self.room() {
+            return Ok(());
+        }
         // What can't be had at all is refused before any segment is made.
         self.segments.reserve(additional / SEGMENT)?;
         while self.room() < additional {
