@@ -272,6 +272,48 @@ fn longest_event() -> Event {
     }
 }
 
+// A body as it was written, and others of the same event that differ from it by little.
+#[test]
+fn the_longest_body_is_read(rt: HostRuntime) -> Result<(), Fail> {
+    let alloc = rt.alloc();
+    let event = longest_event();
+    let text = encode(alloc, &event)?;
+    assert_eq!(rt; decode(alloc, text.as_bytes()), Ok(event));
+    let changes = [
+        (",\"ledger\"", ", \"ledger\""),
+        ("\"type\"", "\"type\" "),
+        ("\"timestamp\":\"1", "\"timestamp\":\"01"),
+        ("\"flags\":65535", "\"flags\":\"65535\""),
+    ];
+    for (from, to) in changes {
+        let read = read_changed(alloc, text.as_str(), from, to)?;
+        assert_eq!(rt; read, Ok(event), "{to}");
+    }
+    Ok(())
+}
+
+// Texts that begin as the body does, or read like it but for a number.
+#[test]
+fn a_body_that_was_written_and_spoilt_is_refused(rt: HostRuntime) -> Result<(), Fail> {
+    let alloc = rt.alloc();
+    let ledger = field(Part::Top, FieldName::Ledger);
+    let changes = [
+        ("_phase\"}", "_phase\"}}", DecodeError::NotJson),
+        ("\"ledger\":700", "\"ledger\":0700", DecodeError::NotJson),
+        (
+            "\"ledger\":700",
+            "\"ledger\":4294967296",
+            DecodeError::OutOfRange(ledger),
+        ),
+        ("single_phase", "single_phas", DecodeError::UnknownKind),
+    ];
+    for (from, to, error) in changes {
+        let read = read_changed(alloc, BODY, from, to)?;
+        assert_eq!(rt; read, Err(error), "{to}");
+    }
+    Ok(())
+}
+
 // The event of an item, read from its message's body.
 fn event_of(alloc: Global, item: &Item) -> Result<Option<Event>, DecodeError> {
     match item {

@@ -42,8 +42,8 @@ fn accounts_are_refused_by_the_first_line(rt: HostRuntime) {
                 flags: 1,
                 ..ACCOUNT
             },
-            1,
-            "reserved_flag",
+            0,
+            "ok",
         ),
         (
             NewAccount {
@@ -101,8 +101,8 @@ fn transfers_are_refused_by_the_first_line(rt: HostRuntime) {
                 flags: 1,
                 ..TRANSFER
             },
-            1,
-            "reserved_flag",
+            0,
+            "ok",
         ),
         (
             NewTransfer {
@@ -244,6 +244,68 @@ fn results_are_copied(rt: HostRuntime) -> Result<(), Fail> {
     Ok(())
 }
 
+#[test]
+fn results_of_chains_have_numbers_and_names(rt: HostRuntime) {
+    let rows = [
+        (AccountResult::LinkedEventFailed.number(), 9),
+        (AccountResult::LinkedEventChainOpen.number(), 10),
+        (TransferResult::LinkedEventFailed.number(), 38),
+        (TransferResult::LinkedEventChainOpen.number(), 39),
+    ];
+    for (number, expected) in rows {
+        assert_eq!(rt; number, expected);
+    }
+    let names = [
+        (
+            AccountResult::LinkedEventFailed.name(),
+            "linked_event_failed",
+        ),
+        (
+            AccountResult::LinkedEventChainOpen.name(),
+            "linked_event_chain_open",
+        ),
+        (
+            TransferResult::LinkedEventFailed.name(),
+            "linked_event_failed",
+        ),
+        (
+            TransferResult::LinkedEventChainOpen.name(),
+            "linked_event_chain_open",
+        ),
+    ];
+    for (name, expected) in names {
+        assert_eq!(rt; name, expected);
+    }
+    assert!(rt;
+        NewAccount {
+            flags: 9,
+            ..ACCOUNT
+        }
+        .is_linked()
+    );
+    assert!(rt;
+        !NewAccount {
+            flags: 8,
+            ..ACCOUNT
+        }
+        .is_linked()
+    );
+    assert!(rt;
+        NewTransfer {
+            flags: 3,
+            ..TRANSFER
+        }
+        .is_linked()
+    );
+    assert!(rt;
+        !NewTransfer {
+            flags: 2,
+            ..TRANSFER
+        }
+        .is_linked()
+    );
+}
+
 // The numbers that clauses don't name: a wrong one would go unnoticed where nothing reads it yet.
 #[test]
 fn flags_and_limits_have_their_numbers(rt: HostRuntime) {
@@ -263,7 +325,7 @@ fn flags_and_limits_have_their_numbers(rt: HostRuntime) {
         (
             "accepted of accounts",
             u64::from(AccountFlags::ACCEPTED),
-            14,
+            15,
         ),
         ("transfer linked", u64::from(TransferFlags::LINKED), 1),
         ("transfer pending", u64::from(TransferFlags::PENDING), 2),
@@ -280,12 +342,11 @@ fn flags_and_limits_have_their_numbers(rt: HostRuntime) {
         (
             "accepted of transfers",
             u64::from(TransferFlags::ACCEPTED),
-            14,
+            15,
         ),
         ("items of a batch", Limits::BATCH_ITEMS as u64, 1_000),
         ("pairs of a binding", Limits::BINDING_PAIRS as u64, 10),
-        ("window", Limits::WINDOW, 64),
-        ("window of today", Limits::WINDOW_TODAY as u64, 1),
+        ("window", Limits::WINDOW as u64, 64),
         ("prefetch", Limits::PREFETCH, 64),
         ("subscribers", Limits::SUBSCRIBERS as u64, 8),
         ("clients", Limits::CLIENTS, 2),

@@ -1,8 +1,9 @@
 -- Reading an event from bytes, by the value that the bytes are.
-use Rattle.std.proofs.Common.{◌≡◌, ℕ, List, Bool, true, false, Some, None, Err, IsUtf8, refl}
+use Rattle.std.proofs.Common.{◌≡◌, ℕ, ◌<◌, List, [], ◌∷◌, length, arith, Bool, true, false, Some, None, Err, IsUtf8, refl}
 use Rattle.std.proofs.lemmas.Str.{IsUtf8-from_is_utf8, is_utf8-from_IsUtf8}
 use Rattle.std.specs.Str.{is_utf8}
 use Rattle.serde_json.specs.Data.{Data}
+use Rattle.serde_json.proofs.OnLiterals.{serde_json_on_literals}
 use Rattle.serde_json.specs.Read as json
 use Rattle.cdc_message.specs.declared.errors.DecodeError.TheVariants.{NotJson}
 use Rattle.cdc_message.specs.Reading.{read, event_of, value_of}
@@ -23,3 +24,13 @@ value_none bytes false e none = rw e
 pub read_none : (bytes : List ℕ) → (IsUtf8 bytes → json.read bytes ≡ None) → read bytes ≡ Err NotJson
 unfolding read
 read_none bytes none = rw (value_none bytes (is_utf8 bytes) refl none)
+
+-- no bytes are no JSON text
+read_nothing : json.read [] ≡ None
+unfolding serde_json_on_literals
+read_nothing = refl
+
+-- so that where a value was read there were some
+pub some_bytes : (bytes : List ℕ) (value : Data) → json.read bytes ≡ Some value → 0 < length bytes
+some_bytes [] value is = let nothing = read_nothing in let never : ⊥ = cc in absurd never
+some_bytes (byte ∷ bytes) value is = omega arith

@@ -4,6 +4,7 @@ pub mod DecimalTexts
 pub mod Examples
 pub mod Law
 pub mod LineLaws
+pub mod Members
 pub mod Parts
 pub mod ReplayExamples
 pub mod ReplayLaws

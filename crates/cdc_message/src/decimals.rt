@@ -54,3 +54,15 @@ pub fn decimal_up_to(text: &[u8], greatest: u128) -> Option<u128>
         None
     }
 }
+
+/// The number that the digits in front of a text write, 0 where there are none; any number at all where it has more
+/// than 128 bits. Who takes it has to see that it is the text's.
+pub(crate) fn leading_number(text: &[u8]) -> u128 {
+    text.iter()
+        .take_while(|byte| byte.is_ascii_digit())
+        .fold(0, |number: u128, digit| {
+            number
+                .wrapping_mul(10)
+                .wrapping_add(u128::from(digit.wrapping_sub(b'0')))
+        })
+}

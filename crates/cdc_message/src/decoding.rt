@@ -1,6 +1,6 @@
 //! An event from its JSON text.
 
-ghost use Rattle.std.specs.Prelude.{◌≡◌, ◌≤◌, ◌^◌, ◌-◌, IfOk};
+ghost use Rattle.std.specs.Prelude.{◌≡◌, ◌<◌, ◌≤◌, ◌^◌, ◌-◌, length, Err, IfOk};
 ghost use Rattle.serde_json.specs.Data.{string};
 ghost use Rattle.serde_json.specs.View.{view};
 ghost use Rattle.cdc_message.specs.Errors.{GivesUnlessMemory};
@@ -13,6 +13,7 @@ use crate::decimals::{is_decimal, value_of_text};
 use crate::errors::DecodeError;
 use crate::fields::{Field, FieldName, Part};
 use crate::kinds::kind_named;
+use crate::own_bodies::own_event;
 use cdc_types::{Event, EventAccount, EventKind, EventTransfer};
 use serde_json::Value;
 use std::alloc::Global;
@@ -179,14 +180,27 @@ fn event_of(value: &Value) -> Result<Event, DecodeError>
     })
 }
 
-/// The event that the bytes of a body are. Members may come in any order, with white space between them and with
-/// further members; a number may be a decimal string or a JSON number (TigerBeetle, Change Data Capture).
-pub fn decode(alloc: Global, bytes: &[u8]) -> Result<Event, DecodeError>
-    ensures { GivesUnlessMemory result (spec.read bytes.now) }
+// The event of a body, by the JSON value that it is.
+fn decode_value(alloc: Global, bytes: &[u8]) -> Result<Event, DecodeError>
+    ensures event { GivesUnlessMemory result (spec.read bytes.now) }
+    ensures memory { result ≡ Err DecodeError.OutOfMemory → 0 < length bytes.now }
 {
     match Value::from_slice(alloc, bytes) {
         Ok(value) => event_of(&value),
         Err(error) if error.is_memory() => Err(DecodeError::OutOfMemory),
         Err(_) => Err(DecodeError::NotJson),
+    }
+}
+
+/// The event that the bytes of a body are. Members may come in any order, with white space between them and with
+/// further members; a number may be a decimal string or a JSON number (TigerBeetle, Change Data Capture). To see that
+/// no bytes are no text takes no memory.
+pub fn decode(alloc: Global, bytes: &[u8]) -> Result<Event, DecodeError>
+    ensures event { GivesUnlessMemory result (spec.read bytes.now) }
+    ensures memory { result ≡ Err DecodeError.OutOfMemory → 0 < length bytes.now }
+{
+    match own_event(bytes) {
+        Some(event) => Ok(event),
+        None => decode_value(alloc, bytes),
     }
 }

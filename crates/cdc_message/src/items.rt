@@ -1,6 +1,7 @@
 //! What goes to subscribers: an event's message or the mark that no more follow, and its place in a queue.
 
-ghost use Rattle.std.specs.Prelude.{◌≡◌, IfOk};
+ghost use Rattle.std.specs.Prelude.{◌≡◌, IfOk, IsSome, OnErr};
+ghost use Rattle.cdc_message.specs.Items.{item_event};
 
 use crate::message::Message;
 use std::alloc::{AllocError, Global};
@@ -24,9 +25,10 @@ pub struct Delivery {
 }
 
 impl Item {
-    /// An equal item in memory of its own.
+    /// An equal item in memory of its own, which an end mark doesn't take.
     pub fn try_copy(&self, alloc: Global) -> Result<Item, AllocError>
-        ensures { IfOk result (λ copy. copy ≡ self.now) }
+        ensures copy { IfOk result (λ copy. copy ≡ self.now) }
+        ensures memory { OnErr result (IsSome (item_event self.now)) }
     {
         match self {
             Item::Event(message) => Ok(Item::Event(message.try_copy(alloc)?)),
@@ -36,9 +38,10 @@ impl Item {
 }
 
 impl Delivery {
-    /// An equal delivery in memory of its own.
+    /// An equal delivery in memory of its own, which that of an end mark doesn't take.
     pub fn try_copy(&self, alloc: Global) -> Result<Delivery, AllocError>
-        ensures { IfOk result (λ copy. copy ≡ self.now) }
+        ensures copy { IfOk result (λ copy. copy ≡ self.now) }
+        ensures memory { OnErr result (IsSome (item_event self.now.item)) }
     {
         Ok(Delivery {
             position: self.position,

@@ -11,6 +11,7 @@ mod items;
 mod kinds;
 mod laws;
 mod message;
+mod own_bodies;
 mod packets;
 
 pub use decimals::{decimal_up_to, is_decimal};

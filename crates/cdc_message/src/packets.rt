@@ -1,6 +1,7 @@
 //! What a publisher and a broker send each other.
 
-ghost use Rattle.std.specs.Prelude.{◌≡◌, IfOk};
+ghost use Rattle.std.specs.Prelude.{◌≡◌, IfOk, IsSome, OnErr};
+ghost use Rattle.cdc_message.specs.Packets.{packet_event};
 
 use crate::items::Item;
 use std::alloc::{AllocError, Global};
@@ -47,9 +48,10 @@ pub struct Confirm {
 }
 
 impl Packet {
-    /// An equal packet in memory of its own.
+    /// An equal packet in memory of its own, which only that of a message takes.
     pub fn try_copy(&self, alloc: Global) -> Result<Packet, AllocError>
-        ensures { IfOk result (λ copy. copy ≡ self.now) }
+        ensures copy { IfOk result (λ copy. copy ≡ self.now) }
+        ensures memory { OnErr result (IsSome (packet_event self.now)) }
     {
         match self {
             Packet::Connect { session } => Ok(Packet::Connect { session: *session }),
