@@ -1,4 +1,4 @@
 pub mod Accepted
 pub mod Made
-pub mod Places
+pub mod Marks
 pub mod States

@@ -12,17 +12,18 @@ use Rattle.cdc_broker.proofs.Accepted.{Holds}
 -- a queue for each of the first bindings, and room for those of the rest
 pub record AreMade (all first rest : List Arguments) (queues : List Queue) (len capacity : ℕ) : Type 0 where
   pub parts : first ++ rest ≡ all
-  pub empty : map queue_state queues ≡ map empty_queue first
-  pub in_order : All IsInOrder queues
+  pub empty : map (queue_state []) queues ≡ map empty_queue first
+  pub in_order : All (IsInOrder []) queues
   pub room : len + length rest ≤ capacity
   pub count : len ≡ length first
 
 -- one more queue
 pub empty_push : (queues all : List Queue) (first : List Arguments) (q : Queue) (binding : Arguments)
-    → map queue_state queues ≡ map empty_queue first → all ≡ queues ++ q ∷ [] → queue_state q ≡ empty_queue binding
-    → map queue_state all ≡ map empty_queue (first ++ binding ∷ [])
+    → map (queue_state []) queues ≡ map empty_queue first → all ≡ queues ++ q ∷ []
+    → queue_state [] q ≡ empty_queue binding
+    → map (queue_state []) all ≡ map empty_queue (first ++ binding ∷ [])
 empty_push queues all first q binding so_far pushed state =
-    ap (map queue_state) pushed ∙ map_push queue_state queues q
+    ap (map (queue_state [])) pushed ∙ map_push (queue_state []) queues q
     ∙ ap₂ (λ xs x. xs ++ x ∷ []) so_far state ∙ sym (map_push empty_queue first binding)
 
 -- empty queues hold what belongs to them of nothing

@@ -1,57 +1,208 @@
--- The broker that a list of queues stands for, and what a change of one queue makes of it.
-use Rattle.std.proofs.Common.{◌≡◌, ℕ, ◌-◌, ◌<◌, ◌≤◌, Bool, true, false, List, sym, ap, ◌∙◌, length, map, get_or, Option, arith}
-use Rattle.std.specs.Prelude.{slice_set, if◌then◌else◌}
+-- The broker that a list of items and its queues stand for, and what a change makes of it.
+use Rattle.std.proofs.Common.{◌≡◌, ℕ, zero, suc, ◌+◌, ◌-◌, ◌<◌, ◌≤◌, ◌^◌, Bool, true, false, List, [], ◌∷◌, ◌++◌, refl, sym, ap, ap₂, ◌∙◌, subst, length, length-append, map, get_or, append-nil, Option, Some, None, take, drop, arith}
+use Rattle.std.specs.Prelude.{All, is_some, nat_lt, slice_get, slice_set, if◌then◌else◌}
+use Rattle.std.specs.Option.{option_map}
+use Rattle.std.proofs.lemmas.Bool.Decides.{nat_tests}
 use Rattle.std.proofs.lemmas.List.{map-set, get_or-map, set-get_or, length-map}
+use Rattle.std.proofs.lemmas.List.Elements.{All-map}
 use Rattle.std.proofs.lemmas.Option.{unwrap_or-slice_get}
+use Rattle.std.proofs.Math.Seq.{take-nil, drop-nil}
+use Rattle.cdc_match.specs.Queue.{queue, takes_item}
+use Rattle.cdc_message.specs.declared.items.Item.{Item}
+use Rattle.cdc_message.specs.declared.items.Delivery.{Delivery}
 use Rattle.cdc_broker.specs.declared.queue.Queue.{Queue}
 use Rattle.cdc_broker.specs.Broker.{BrokerState, queue_of, with_queue, nobody}
-use Rattle.cdc_broker.specs.Kept.{queue_state}
-use Rattle.cdc_broker.specs.Queues.{QueueState, empty_queue}
+use Rattle.cdc_broker.specs.Kept.{IsInOrder, counting, queue_state}
+use Rattle.cdc_broker.specs.Queues.{QueueState, empty_queue, next_delivery, queued, with_item}
+use Rattle.cdc_broker.proofs.Accepted.{filter_push}
+use Rattle.cdc_broker.proofs.Marks.{count_all_within, mark_stays}
 
--- the broker of these queues
-abbrev pub broker_of : ℕ → Option ℕ → List Queue → BrokerState
-broker_of connection expected queues =
-    record { connection = connection; expected = expected; queues = map queue_state queues }
+-- the broker of these items and queues
+abbrev pub broker_of : ℕ → Option ℕ → List Item → List Queue → BrokerState
+broker_of connection expected accepted queues =
+    record { connection = connection; expected = expected; queues = map (queue_state accepted) queues }
 
-module _ (connection : ℕ) (expected : Option ℕ) (queues : List Queue) (i : ℕ) (q : Queue)
+module _ (connection : ℕ) (expected : Option ℕ) (accepted : List Item) (queues : List Queue) (i : ℕ) (q : Queue)
     (inside : i - 1 < length queues) (found : q ≡ get_or queues (i - 1) q) where
+  -- the broker as it is
+  abbrev here : BrokerState
+  here = broker_of connection expected accepted queues
+
   -- the queue of a number is the one at its place
-  pub queue_of-broker_of : queue_of (broker_of connection expected queues) i ≡ queue_state q
+  pub queue_of-broker_of : queue_of here i ≡ queue_state accepted q
   queue_of-broker_of =
-      unwrap_or-slice_get (map queue_state queues) (i - 1) (empty_queue nobody)
-      ∙ get_or-map queue_state queues (i - 1) q (empty_queue nobody) inside
-      ∙ ap queue_state (sym found)
+      unwrap_or-slice_get (map (queue_state accepted) queues) (i - 1) (empty_queue nobody)
+      ∙ get_or-map (queue_state accepted) queues (i - 1) q (empty_queue nobody) inside
+      ∙ ap (queue_state accepted) (sym found)
 
   -- a queue that is put into its place
-  pub broker_of-set : (q' : Queue) → broker_of connection expected (slice_set queues (i - 1) q')
-      ≡ with_queue i (queue_state q') (broker_of connection expected queues)
+  pub broker_of-set : (q' : Queue) → broker_of connection expected accepted (slice_set queues (i - 1) q')
+      ≡ with_queue i (queue_state accepted q') here
   broker_of-set q' = ap (λ (qs : List QueueState). record { connection = connection; expected = expected; queues = qs })
-      (map-set queue_state queues (i - 1) q')
+      (map-set (queue_state accepted) queues (i - 1) q')
 
   -- the queue put back into its place
-  pub with_queue-same : with_queue i (queue_state q) (broker_of connection expected queues)
-      ≡ broker_of connection expected queues
+  pub with_queue-same : with_queue i (queue_state accepted q) here ≡ here
   with_queue-same =
       ap (λ (qs : List QueueState). record { connection = connection; expected = expected; queues = qs })
-      (ap (λ x. slice_set (map queue_state queues) (i - 1) x) (sym here)
-      ∙ set-get_or (map queue_state queues) (i - 1) (queue_state q))
+      (ap (λ x. slice_set (map (queue_state accepted) queues) (i - 1) x) (sym there)
+      ∙ set-get_or (map (queue_state accepted) queues) (i - 1) (queue_state accepted q))
     where
-      here : get_or (map queue_state queues) (i - 1) (queue_state q) ≡ queue_state q
-      here = get_or-map queue_state queues (i - 1) q (queue_state q) inside ∙ ap queue_state (sym found)
+      there : get_or (map (queue_state accepted) queues) (i - 1) (queue_state accepted q) ≡ queue_state accepted q
+      there = get_or-map (queue_state accepted) queues (i - 1) q (queue_state accepted q) inside
+          ∙ ap (queue_state accepted) (sym found)
 
   -- a queue that changes where the test holds, and stays as it is where it doesn't
   pub broker_of-set_if : (b : Bool) (q' : Queue) (after : QueueState)
-      → queue_state q' ≡ (if b then after else queue_state q)
-      → broker_of connection expected (slice_set queues (i - 1) q')
-      ≡ (if b then with_queue i after (broker_of connection expected queues) else broker_of connection expected queues)
+      → queue_state accepted q' ≡ (if b then after else queue_state accepted q)
+      → broker_of connection expected accepted (slice_set queues (i - 1) q')
+      ≡ (if b then with_queue i after here else here)
   broker_of-set_if true q' after is =
-      broker_of-set q' ∙ ap (λ x. with_queue i x (broker_of connection expected queues)) is
+      broker_of-set q' ∙ ap (λ x. with_queue i x here) is
   broker_of-set_if false q' after is =
-      broker_of-set q' ∙ ap (λ x. with_queue i x (broker_of connection expected queues)) is ∙ with_queue-same
+      broker_of-set q' ∙ ap (λ x. with_queue i x here) is ∙ with_queue-same
 
 -- a queue's number is within its broker's
-pub within_queues : (connection : ℕ) (expected : Option ℕ) (queues : List Queue) (s : BrokerState) (i : ℕ)
-    → broker_of connection expected queues ≡ s → 0 < i → i ≤ length s.queues → i - 1 < length queues
-within_queues connection expected queues s i is first last =
-    let same : length (map queue_state queues) ≡ length s.queues = ap (λ x. length x.queues) is in
-    omega (arith, length-map queues queue_state)
+pub within_queues : (connection : ℕ) (expected : Option ℕ) (accepted : List Item) (queues : List Queue)
+    (s : BrokerState) (i : ℕ)
+    → broker_of connection expected accepted queues ≡ s → 0 < i → i ≤ length s.queues → i - 1 < length queues
+within_queues connection expected accepted queues s i is first last =
+    let same : length (map (queue_state accepted) queues) ≡ length s.queues = ap (λ x. length x.queues) is in
+    omega (arith, length-map queues (queue_state accepted))
+
+-- the queue at the place of a number is the broker's queue of that number
+pub queue_seen : (connection : ℕ) (expected : Option ℕ) (accepted seen : List Item) (queues : List Queue)
+    (s : BrokerState) (i : ℕ) (q : Queue) → broker_of connection expected accepted queues ≡ s → seen ≡ accepted
+    → 0 < i → i ≤ length s.queues → q ≡ get_or queues (i - 1) q → queue_state seen q ≡ queue_of s i
+queue_seen connection expected accepted seen queues s i q is same first last found =
+    let inside : i - 1 < length queues = within_queues connection expected accepted queues s i is first last in
+    ap (λ (items : List Item). queue_state items q) same
+    ∙ sym (queue_of-broker_of connection expected accepted queues i q inside found)
+    ∙ ap (λ (s : BrokerState). queue_of s i) is
+
+-- a queue that is counted, or isn't, as contracts see it
+state_by : (b : Bool) (accepted : List Item) (item : Item) (q : Queue)
+    → queue (accepted ++ item ∷ []) q.binding ≡ queue accepted q.binding ++ (if b then item ∷ [] else [])
+    → queue_state (accepted ++ item ∷ []) (if b then record q { len = q.len + 1 } else q)
+    ≡ with_item (if b then Some item else None) (queue_state accepted q)
+state_by true accepted item q is =
+    ap (λ (items : List Item). record (queue_state accepted q) { items = items }) is
+state_by false accepted item q is =
+    ap (λ (items : List Item). record (queue_state accepted q) { items = items })
+    (is ∙ append-nil (queue accepted q.binding))
+
+-- so an item at the back of the list goes to the queue as it should
+counting_state : (accepted : List Item) (item : Item) (q : Queue)
+    → queue_state (accepted ++ item ∷ []) (counting item q) ≡ queued item (queue_state accepted q)
+counting_state accepted item q =
+    state_by (takes_item q.binding item) accepted item q (filter_push (takes_item q.binding) accepted item)
+
+-- and to all of them
+pub counting_states : (accepted : List Item) (item : Item) (queues : List Queue)
+    → map (queue_state (accepted ++ item ∷ [])) (map (counting item) queues)
+    ≡ map (queued item) (map (queue_state accepted) queues)
+counting_states accepted item [] = refl
+counting_states accepted item (q ∷ queues) =
+    ap₂ (λ x (xs : List QueueState). x ∷ xs) (counting_state accepted item q) (counting_states accepted item queues)
+
+-- a queue that is counted, or isn't, stays in order
+order_by : (b : Bool) (accepted : List Item) (item : Item) (q : Queue) → IsInOrder accepted q
+    → queue (accepted ++ item ∷ []) q.binding ≡ queue accepted q.binding ++ (if b then item ∷ [] else [])
+    → IsInOrder (accepted ++ item ∷ []) (if b then record q { len = q.len + 1 } else q)
+order_by true accepted item q order is =
+    let len = order.len in
+    let there = order.handed_there in
+    let more : length (queue (accepted ++ item ∷ []) q.binding) ≡ length (queue accepted q.binding ++ item ∷ []) =
+    ap length is in
+    record {
+      len = omega (arith, length-append (queue accepted q.binding) (item ∷ []));
+      acked = mark_stays accepted (item ∷ []) q.binding q.acked order.acked;
+      cursor = mark_stays accepted (item ∷ []) q.binding q.cursor order.cursor;
+      handed_there = omega arith;
+      acked_handed = order.acked_handed;
+      past_acked = order.past_acked;
+      next_at_most = order.next_at_most;
+    }
+order_by false accepted item q order is = record {
+  len = order.len ∙ ap length (sym (is ∙ append-nil (queue accepted q.binding)));
+  acked = mark_stays accepted (item ∷ []) q.binding q.acked order.acked;
+  cursor = mark_stays accepted (item ∷ []) q.binding q.cursor order.cursor;
+  handed_there = order.handed_there;
+  acked_handed = order.acked_handed;
+  past_acked = order.past_acked;
+  next_at_most = order.next_at_most;
+}
+
+-- and so do all
+pub counting_in_order : (accepted : List Item) (item : Item) (queues : List Queue) → All (IsInOrder accepted) queues
+    → All (IsInOrder (accepted ++ item ∷ [])) (map (counting item) queues)
+counting_in_order accepted item queues in_order =
+    All-map (IsInOrder (accepted ++ item ∷ [])) (counting item) queues
+    (λ k d lt. let q = get_or queues k d in
+    order_by (takes_item q.binding item) accepted item q (in_order k d lt)
+    (filter_push (takes_item q.binding) accepted item))
+
+-- where the queues in front are changed, the next one is as it was
+pub at_front : (f : Queue → Queue) (queues : List Queue) (i : ℕ) (d : Queue) → i < length queues
+    → get_or (map f (take i queues) ++ drop i queues) i d ≡ get_or queues i d
+at_front f [] i d inside = absurd (omega arith)
+at_front f (q ∷ queues) zero d inside = refl
+at_front f (q ∷ queues) (suc i) d inside = at_front f queues i d (omega arith)
+
+-- and at the end all are changed
+pub over_front : (f : Queue → Queue) (queues : List Queue) (i : ℕ) → length queues ≤ i
+    → map f (take i queues) ++ drop i queues ≡ map f queues
+over_front f [] i past = ap₂ (λ (xs ys : List Queue). map f xs ++ ys) (take-nil i) (drop-nil i)
+over_front f (q ∷ queues) zero past = absurd (omega arith)
+over_front f (q ∷ queues) (suc i) past = ap (λ qs. f q ∷ qs) (over_front f queues i (omega arith))
+
+-- no queue is longer than the list
+pub counts_fit : (accepted : List Item) (queues : List Queue) → length accepted < 2 ^ 63
+    → All (IsInOrder accepted) queues → All (λ q. q.len < 2 ^ 63) queues
+counts_fit accepted queues fits in_order = λ k d lt.
+    let q = get_or queues k d in
+    let order = in_order k d lt in
+    let len = order.len in
+    let few = count_all_within accepted q.binding in
+    omega arith
+
+-- the queue at a place is in order
+pub in_order_at : (accepted : List Item) (queues : List Queue) (i : ℕ) (q : Queue) → i < length queues
+    → q ≡ get_or queues i q → All (IsInOrder accepted) queues → IsInOrder accepted q
+in_order_at accepted queues i q inside found in_order = subst (IsInOrder accepted) (sym found) (in_order i q inside)
+
+-- a queue that goes back stays in order
+pub rewound_in_order : (accepted : List Item) (q : Queue) → IsInOrder accepted q
+    → IsInOrder accepted (record q { cursor = q.acked })
+rewound_in_order accepted q order = record {
+  len = order.len;
+  acked = order.acked;
+  cursor = order.acked;
+  handed_there = order.handed_there;
+  acked_handed = order.acked_handed;
+  past_acked = omega arith;
+  next_at_most = order.acked_handed;
+}
+
+-- a list has something at a place before its end
+is_some-slice_get : {X : Type 0} (xs : List X) (i : ℕ) → is_some (slice_get xs i) ≡ nat_lt i (length xs)
+is_some-slice_get [] i = grind (arith, nat_tests)
+is_some-slice_get (x ∷ xs) zero = grind (arith, nat_tests)
+is_some-slice_get (x ∷ xs) (suc i) = is_some-slice_get xs i ∙ grind (arith, nat_tests)
+
+-- an item that is wrapped is there where the item is
+is_some-wrapped : (position : ℕ) (item : Option Item)
+    → is_some (option_map (λ item. let d : Delivery = record { position = position; item = item } in d) item)
+    ≡ is_some item
+is_some-wrapped position None = refl
+is_some-wrapped position (Some item) = refl
+
+-- whether an item comes after the cursor of a queue
+pub has_next_by : (accepted : List Item) (q : Queue) → IsInOrder accepted q
+    → nat_lt q.cursor.position q.len ≡ is_some (next_delivery (queue_state accepted q))
+has_next_by accepted q order =
+    let next : q.cursor.position + 1 - 1 ≡ q.cursor.position = omega arith in
+    sym (is_some-wrapped (q.cursor.position + 1) (slice_get (queue accepted q.binding) (q.cursor.position + 1 - 1))
+    ∙ ap (λ i. is_some (slice_get (queue accepted q.binding) i)) next
+    ∙ is_some-slice_get (queue accepted q.binding) q.cursor.position
+    ∙ ap (nat_lt q.cursor.position) (sym order.len))

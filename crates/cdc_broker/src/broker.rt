@@ -1,12 +1,12 @@
 //! The broker as its callers see it.
 
-ghost use Rattle.std.specs.Prelude.{◌≡◌, ◌<◌, ◌≤◌, IsTrue, List, [], All, IfOk, OnOk, OnErr, is_some, not, if◌then◌else◌, length, map, take, drop};
+ghost use Rattle.std.specs.Prelude.{◌≡◌, ◌^◌, ◌<◌, ◌≤◌, IsTrue, List, [], All, IfOk, OnOk, OnErr, is_some, not, if◌then◌else◌, length, map};
 ghost use Rattle.cdc_message.specs.declared.items.Item.{Item as SomeItem};
 ghost use Rattle.cdc_message.specs.declared.packets.Packet.TheVariants.{Connect};
 ghost use Rattle.cdc_broker.specs.Broker.{HasAccepted, Publishes, accepted_after, connected, empty_broker, queue_of, takes_packet, with_queue};
-ghost use Rattle.cdc_broker.specs.Kept.{queue_state, IsInOrder};
+ghost use Rattle.cdc_broker.specs.Kept.{counting};
 ghost use Rattle.cdc_broker.specs.Packets.{tag_after as next_tag};
-ghost use Rattle.cdc_broker.specs.Queues.{acknowledged, is_unknown, next_delivery, queued, rewound_queue, with_delivery};
+ghost use Rattle.cdc_broker.specs.Queues.{acknowledged, is_unknown, next_delivery, rewound_queue, with_delivery};
 
 use crate::queue::Queue;
 use cdc_match::Binding;
@@ -32,11 +32,12 @@ pub enum Taken {
     Ignored(Refusal),
 }
 
-/// A broker in memory, with a queue for each binding, numbered from 1. A clause sees the current connection, the tag that
-/// is taken next, and the queues.
+/// A broker in memory, with a queue for each binding, numbered from 1. It holds each item that it has accepted once,
+/// whichever queues it belongs to. A clause sees the current connection, the tag that is taken next, and the queues.
 pub struct Broker {
     connection: u64,
     expected: Option<u64>,
+    accepted: Vec<Item>,
     queues: Vec<Queue>,
 }
 
@@ -46,6 +47,7 @@ impl Drop for Broker {
         let Broker {
             connection: _,
             expected: _,
+            accepted: _,
             queues: _,
         } = self;
     }
@@ -62,10 +64,10 @@ impl Model for Broker {
     ghost view = { λ broker. record {
       connection = broker.connection;
       expected = broker.expected;
-      queues = map queue_state broker.queues.items;
+      queues = map (queue_state broker.accepted.items) broker.queues.items;
     } };
 
-    ghost invariant = { λ broker. All IsInOrder broker.queues.items };
+    ghost invariant = { λ broker. All (IsInOrder broker.accepted.items) broker.queues.items };
 }
 
 /// The tag after this one; the greatest number of 64 bits is no tag.
@@ -79,30 +81,14 @@ fn tag_after(tag: u64) -> Option<u64>
     }
 }
 
-/// Takes an item to the queues from this place on that it belongs to. No queue is changed before each has room.
-fn queue_from(
-    alloc: Global,
-    queues: &mut [Queue],
-    place: usize,
-    item: &Item,
-) -> Result<(), AllocError>
-    requires inside { place ≤ length queues.old }
-    requires in_order { All IsInOrder queues.old }
-    ensures below { take place queues.new ≡ take place queues.old }
-    ensures ok { OnOk result (map queue_state (drop place queues.new)
-        ≡ map (queued item.now) (map queue_state (drop place queues.old))) }
-    ensures err { OnErr result (map queue_state queues.new ≡ map queue_state queues.old) }
-    ensures in_order { All IsInOrder queues.new }
+/// Counts an item that comes to the back of the list, in the queues that it belongs to.
+fn count_in(queues: &mut [Queue], item: &Item)
+    requires { All (λ q. q.len < 2 ^ 63) queues.old }
+    ensures { queues.new ≡ map (counting item.now) queues.old }
 {
-    if place == queues.len() {
-        return Ok(());
+    for queue in queues.iter_mut() {
+        queue.count(item);
     }
-    let queue = &mut queues[place];
-    let copy = queue.prepare(alloc, item)?;
-    queue_from(alloc, queues, place + 1, item)?;
-    let queue = &mut queues[place];
-    queue.accept(copy);
-    Ok(())
 }
 
 impl Broker {
@@ -113,11 +99,12 @@ impl Broker {
     {
         let mut queues = Vec::with_capacity(alloc, bindings.len())?;
         for binding in bindings {
-            queues.push_reserved(Queue::new(alloc, binding));
+            queues.push_reserved(Queue::new(binding));
         }
         Ok(Broker {
             connection: 0,
             expected: None,
+            accepted: Vec::new(alloc),
             queues,
         })
     }
@@ -138,10 +125,10 @@ impl Broker {
         true
     }
 
-    /// Takes an item under the current connection's number and the tag that is taken next, which then rises by 1: an event
-    /// joins, at the back, the queues that take its headers, and an end mark joins all. A publish under another number,
-    /// or else with another tag, changes nothing, and none is taken under tag 2^64-1. Where memory runs out nothing
-    /// changes.
+    /// Takes an item under the current connection's number and the tag that is taken next, which then rises by 1: an
+    /// event joins, at the back, the queues that take its headers, and an end mark joins all. A publish under another
+    /// number, or else with another tag, changes nothing, and none is taken under tag 2^64-1. Where memory runs out
+    /// nothing changes.
     pub fn publish(
         &mut self,
         alloc: Global,
@@ -159,7 +146,9 @@ impl Broker {
         if self.expected != Some(tag) {
             return Ok(Taken::Ignored(Refusal::WrongTag));
         }
-        queue_from(alloc, self.queues.as_mut_slice(), 0, &item)?;
+        self.accepted.reserve(1)?;
+        count_in(self.queues.as_mut_slice(), &item);
+        self.accepted.push_reserved(item);
         self.expected = tag_after(tag);
         Ok(Taken::Accepted)
     }
@@ -188,8 +177,9 @@ impl Broker {
         ensures accepted { (accepted : List SomeItem) → HasAccepted self.old accepted
             → HasAccepted self.new accepted }
     {
+        let accepted = self.accepted.as_slice();
         let queue = &mut self.queues[i - 1];
-        queue.hand_out(alloc)
+        queue.hand_out(alloc, accepted)
     }
 
     /// Acknowledges all positions of queue `i` up to this one, and moves a cursor that stands at one of them past it.
@@ -204,8 +194,9 @@ impl Broker {
         ensures accepted { (accepted : List SomeItem) → HasAccepted self.old accepted
             → HasAccepted self.new accepted }
     {
+        let accepted = self.accepted.as_slice();
         let queue = &mut self.queues[i - 1];
-        queue.ack(position)
+        queue.ack(accepted, position)
     }
 
     /// Goes back, in queue `i`, to the first position that isn't acknowledged: what was handed out from there on comes
@@ -227,7 +218,7 @@ impl Broker {
         requires last { i ≤ length self.now.queues }
         ensures { result ≡ length (queue_of self.now i).items }
     {
-        self.queues[i - 1].items.len() as u64
+        self.queues[i - 1].len
     }
 
     /// The position of queue `i` up to which all are acknowledged.
@@ -236,7 +227,7 @@ impl Broker {
         requires last { i ≤ length self.now.queues }
         ensures { result ≡ (queue_of self.now i).cursor.acked }
     {
-        self.queues[i - 1].acked
+        self.queues[i - 1].acked.position
     }
 
     /// How many queues there are.

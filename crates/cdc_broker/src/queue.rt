@@ -1,41 +1,58 @@
-//! One queue: a list of items in the order in which they came.
+//! One queue: what belongs to a binding, of a list that all queues share.
 
-ghost use Rattle.std.specs.Prelude.{◌≡◌, ◌<◌, IsTrue, not, is_some, IfOk, OnOk, OnErr, if◌then◌else◌};
-ghost use Rattle.cdc_match.specs.Queue.{takes_item};
-ghost use Rattle.cdc_broker.specs.Queues.{acknowledged, empty_queue, is_unknown, item_for, next_delivery, rewound_queue, with_delivery, with_item};
-ghost use Rattle.cdc_broker.specs.Kept.{queue_state, room_of, IsInOrder};
+ghost use Rattle.std.specs.Prelude.{◌≡◌, ◌+◌, ◌-◌, ◌^◌, ◌<◌, ◌≤◌, IsTrue, [], max, nat_lt, not, is_some, length, slice_get, IfOk, OnOk, OnErr, if◌then◌else◌};
+ghost use Rattle.cdc_match.specs.Queue.{queue, takes_item};
+ghost use Rattle.cdc_broker.specs.Queues.{acknowledged, empty_queue, is_unknown, next_delivery, rewound_queue, with_delivery};
+ghost use Rattle.cdc_broker.specs.Kept.{counting, queue_state, IsInOrder, IsMark};
 
 use cdc_match::Binding;
 use cdc_message::{Delivery, Item};
 use std::alloc::{AllocError, Global};
 
-/// The items that belong to a binding, at positions from 1 on.
+/// How far a queue has come, in the list of all items and by its own count.
+#[derive(Clone, Copy)]
+pub(crate) struct Mark {
+    /// How many items of the list it has come past.
+    pub(crate) place: usize,
+    /// How many of these belong to the queue: the position of the last one, or 0.
+    pub(crate) position: u64,
+}
+
+/// The items that belong to a binding, at positions from 1 on. They stand in the list of all items.
 #[derive(Drop)]
 pub(crate) struct Queue {
     /// Which items belong to it.
     pub(crate) binding: Binding,
-    /// Its own copies of them.
-    pub(crate) items: Vec<Item>,
-    /// The position that is handed out next: the cursor stands there.
-    pub(crate) next: u64,
+    /// How many belong to it.
+    pub(crate) len: u64,
     /// The greatest position that was handed out.
     pub(crate) handed: u64,
-    /// The position up to which all are acknowledged.
-    pub(crate) acked: u64,
+    /// Up to where all are acknowledged.
+    pub(crate) acked: Mark,
+    /// Up to where all are passed: what is handed out next comes after it.
+    pub(crate) cursor: Mark,
+}
+
+impl Mark {
+    /// Before the first item.
+    const START: Mark = Mark {
+        place: 0,
+        position: 0,
+    };
 }
 
 impl Queue {
     /// A queue that nothing has come to.
-    pub(crate) fn new(alloc: Global, binding: Binding) -> Queue
-        ensures state { queue_state result ≡ empty_queue binding }
-        ensures in_order { IsInOrder result }
+    pub(crate) fn new(binding: Binding) -> Queue
+        ensures state { queue_state [] result ≡ empty_queue binding }
+        ensures in_order { IsInOrder [] result }
     {
         Queue {
             binding,
-            items: Vec::new(alloc),
-            next: 1,
+            len: 0,
             handed: 0,
-            acked: 0,
+            acked: Mark::START,
+            cursor: Mark::START,
         }
     }
 
@@ -49,84 +66,111 @@ impl Queue {
         }
     }
 
-    /// A copy of the item, and room for it, where it belongs to the queue.
-    pub(crate) fn prepare(&mut self, alloc: Global, item: &Item) -> Result<Option<Item>, AllocError>
-        requires { IsInOrder self.old }
-        ensures state { queue_state self.new ≡ queue_state self.old }
-        ensures in_order { IsInOrder self.new }
-        ensures copy { IfOk result (λ copy. copy ≡ item_for self.old.binding item.now) }
-        ensures room { OnOk result (0 < room_of self.new) }
+    /// Counts an item that comes to the back of the list, where it belongs to the queue.
+    pub(crate) fn count(&mut self, item: &Item)
+        requires { self.old.len < 2 ^ 63 }
+        ensures { self.new ≡ counting item.now self.old }
     {
-        self.items.reserve(1)?;
         if self.wants(item) {
-            return Ok(Some(item.try_copy(alloc)?));
-        }
-        Ok(None)
-    }
-
-    /// Takes what was prepared to the back.
-    pub(crate) fn accept(&mut self, copy: Option<Item>)
-        requires in_order { IsInOrder self.old }
-        requires room { 0 < room_of self.old }
-        ensures state { queue_state self.new ≡ with_item copy (queue_state self.old) }
-        ensures in_order { IsInOrder self.new }
-    {
-        if let Some(item) = copy {
-            self.items.push_reserved(item);
+            self.len += 1;
         }
     }
 
-    /// Whether there is an item at the cursor.
+    /// Whether an item comes after the cursor.
     pub(crate) fn has_next(&self) -> bool
-        requires { IsInOrder self.now }
-        ensures { result ≡ is_some (next_delivery (queue_state self.now)) }
+        ensures { result ≡ nat_lt self.now.cursor.position self.now.len }
     {
-        self.items.get(self.next as usize - 1).is_some()
+        self.cursor.position < self.len
     }
 
-    /// Hands out a copy of the item at the cursor, which moves on, or nothing where the cursor is past the items.
-    pub(crate) fn hand_out(&mut self, alloc: Global) -> Result<Option<Delivery>, AllocError>
-        requires { IsInOrder self.old }
-        ensures answer { IfOk result (λ delivery. delivery ≡ next_delivery (queue_state self.old)) }
-        ensures ok { OnOk result (queue_state self.new
-            ≡ with_delivery (next_delivery (queue_state self.old)) (queue_state self.old)) }
-        ensures err { OnErr result (queue_state self.new ≡ queue_state self.old) }
-        ensures memory { OnErr result (IsTrue (is_some (next_delivery (queue_state self.old)))) }
-        ensures in_order { IsInOrder self.new }
+    /// Just past the next item after this mark that belongs to the queue.
+    fn past_next(&self, accepted: &[Item], mark: Mark) -> Mark
+        requires here { IsMark accepted.now self.now.binding mark }
+        requires further { mark.position < length (queue accepted.now self.now.binding) }
+        ensures mark { IsMark accepted.now self.now.binding result }
+        ensures position { result.position ≡ mark.position + 1 }
+        ensures past { 0 < result.place }
+        ensures item { slice_get accepted.now (result.place - 1)
+            ≡ slice_get (queue accepted.now self.now.binding) mark.position }
     {
-        let Some(item) = self.items.get(self.next as usize - 1) else {
+        let mut place = mark.place;
+        while !self.wants(&accepted[place]) {
+            place += 1;
+        }
+        Mark {
+            place: place + 1,
+            position: mark.position + 1,
+        }
+    }
+
+    /// Hands out a copy of the item after the cursor, which moves on, or nothing where the cursor is past the items.
+    pub(crate) fn hand_out(
+        &mut self,
+        alloc: Global,
+        accepted: &[Item],
+    ) -> Result<Option<Delivery>, AllocError>
+        requires { IsInOrder accepted.now self.old }
+        ensures answer { IfOk result (λ delivery. delivery
+            ≡ next_delivery (queue_state accepted.now self.old)) }
+        ensures ok { OnOk result (queue_state accepted.now self.new
+            ≡ with_delivery (next_delivery (queue_state accepted.now self.old))
+            (queue_state accepted.now self.old)) }
+        ensures err { OnErr result (self.new ≡ self.old) }
+        ensures memory { OnErr result
+            (IsTrue (is_some (next_delivery (queue_state accepted.now self.old)))) }
+        ensures in_order { IsInOrder accepted.now self.new }
+    {
+        if !self.has_next() {
             return Ok(None);
-        };
-        let item = item.try_copy(alloc)?;
-        let position = self.next;
-        self.handed = self.handed.max(position);
-        self.next += 1;
-        Ok(Some(Delivery { position, item }))
+        }
+        let next = self.past_next(accepted, self.cursor);
+        let item = accepted[next.place - 1].try_copy(alloc)?;
+        self.handed = self.handed.max(next.position);
+        self.cursor = next;
+        Ok(Some(Delivery {
+            position: next.position,
+            item,
+        }))
+    }
+
+    /// Just past the item at this position, or further where more are acknowledged.
+    fn acked_up_to(&self, accepted: &[Item], position: u64) -> Mark
+        requires in_order { IsInOrder accepted.now self.now }
+        requires there { position ≤ self.now.len }
+        ensures mark { IsMark accepted.now self.now.binding result }
+        ensures position { result.position ≡ max self.now.acked.position position }
+    {
+        let mut mark = self.acked;
+        while mark.position < position {
+            mark = self.past_next(accepted, mark);
+        }
+        mark
     }
 
     /// Acknowledges all positions up to this one, if it was handed out.
-    pub(crate) fn ack(&mut self, position: u64) -> bool
-        requires { IsInOrder self.old }
-        ensures answer { result ≡ not (is_unknown (queue_state self.old) position) }
-        ensures state { queue_state self.new
-            ≡ (if result then acknowledged position (queue_state self.old)
-            else queue_state self.old) }
-        ensures in_order { IsInOrder self.new }
+    pub(crate) fn ack(&mut self, accepted: &[Item], position: u64) -> bool
+        requires { IsInOrder accepted.now self.old }
+        ensures answer { result ≡ not (is_unknown (queue_state accepted.now self.old) position) }
+        ensures state { queue_state accepted.now self.new
+            ≡ (if result then acknowledged position (queue_state accepted.now self.old)
+            else queue_state accepted.now self.old) }
+        ensures in_order { IsInOrder accepted.now self.new }
     {
         if position == 0 || position > self.handed {
             return false;
         }
-        self.acked = self.acked.max(position);
-        self.next = self.next.max(self.acked + 1);
+        let acked = self.acked_up_to(accepted, position);
+        self.acked = acked;
+        if self.cursor.position < acked.position {
+            self.cursor = acked;
+        }
         true
     }
 
     /// Goes back to the first position that isn't acknowledged.
     pub(crate) fn rewind(&mut self)
-        requires { IsInOrder self.old }
-        ensures state { queue_state self.new ≡ rewound_queue (queue_state self.old) }
-        ensures in_order { IsInOrder self.new }
+        ensures { self.new ≡ record self.old { cursor = self.old.acked } }
     {
-        self.next = self.acked + 1;
+        self.cursor = self.acked;
     }
 }

@@ -1,5 +1,9 @@
 use Rattle.std.proofs.lemmas.Grind.{common_steps}
-use Rattle.std.proofs.Common.{arith}
+use Rattle.std.proofs.Common.{List, [], map, sym, subst, arith}
+use Rattle.std.specs.Prelude.{All}
+use Rattle.cdc_message.specs.declared.items.Item.{Item}
+use Rattle.cdc_broker.specs.Kept.{queue_state}
+use Rattle.cdc_broker.proofs.Accepted.{Holds}
 use Rattle.cdc_broker.proofs.Made.{empty_push, Holds-empty}
 use Rattle.cdc_broker.proofs.broker.Broker.new.Goals as goal
 
@@ -16,4 +20,7 @@ loop-binding-preserved c =
     }
 
 pub returns-clause-accepted : goal.returns-clause-accepted
-returns-clause-accepted c = Holds-empty c.loop-binding.yielded _ c.loop-binding.invariant.empty
+returns-clause-accepted c =
+    let queues = c.loop-binding.queues.items in
+    subst (λ (items : List Item). All (Holds []) (map (queue_state items) queues)) (sym c.new-2.ensures.items)
+    (Holds-empty c.loop-binding.yielded (map (queue_state []) queues) c.loop-binding.invariant.empty)

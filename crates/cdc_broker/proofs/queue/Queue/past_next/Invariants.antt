@@ -1,0 +1,12 @@
+use Rattle.std.proofs.Common.{◌≡◌, ◌-◌, ◌≤◌, length, take}
+use Rattle.cdc_match.specs.Queue.{queue}
+use Rattle.cdc_broker.proofs.queue.Queue.past_next.Given as goal
+
+abbrev pub invariant-loop-place : goal.invariant-loop-place
+invariant-loop-place l = record {
+  within : l.place ≤ length l.accepted;
+  counts : l.mark.position ≡ length (queue (take l.place l.accepted) l.self.binding);
+}
+
+abbrev pub decreases-loop-place : goal.decreases-loop-place
+decreases-loop-place l = length l.accepted - l.place
