@@ -101,7 +101,7 @@ fn progress(held: Held) -> Option<Progress> {
 
 // The number and the base of a session that starts over this store.
 fn start(alloc: Global, store: &mut MemoryStore) -> Result<(u64, u64), StartError> {
-    let session = Session::start(alloc, store, Limits::WINDOW_TODAY)?;
+    let session = Session::start(alloc, store, 1)?;
     Ok((session.number(), session.base()))
 }
 
@@ -224,8 +224,58 @@ const COURSE: [(Call, Answer); 32] = [
 #[test]
 fn a_course_from_its_connect_to_its_end_mark(rt: HostRuntime) -> Result<(), Fail> {
     let mut store = MemoryStore::new();
-    let mut session = Session::start(rt.alloc(), &mut store, Limits::WINDOW_TODAY)?;
+    let mut session = Session::start(rt.alloc(), &mut store, 1)?;
     for (place, (call, answer)) in COURSE.iter().enumerate() {
+        let given = ask(rt.alloc(), &mut session, &mut store, *call)?;
+        assert_eq!(rt; given, *answer, "call {place}");
+    }
+    Ok(())
+}
+
+// Of one that waits for three events at a time, whose confirms come out of order.
+const WIDE: [(Call, Answer); 23] = [
+    (Call::Send, Answer::Sent(Sent::Connect(1))),
+    (Call::Wants, Answer::Poll(Some(Poll { after: 0, limit: 3 }))),
+    (Call::Offer(2000, 700, false), YES),
+    (Call::Wants, Answer::Poll(None)),
+    (Call::Send, Answer::Sent(Sent::Event(1, 1, 700))),
+    (
+        Call::Wants,
+        Answer::Poll(Some(Poll {
+            after: 2000,
+            limit: 2,
+        })),
+    ),
+    (Call::Offer(2001, 700, false), YES),
+    (Call::Send, Answer::Sent(Sent::Event(1, 2, 700))),
+    (Call::Offer(2002, 700, false), YES),
+    (Call::Send, Answer::Sent(Sent::Event(1, 3, 700))),
+    (Call::Wants, Answer::Poll(None)),
+    (Call::Confirm(1, 3), YES),
+    (Call::Confirm(1, 2), YES),
+    (Call::Confirm(1, 3), NO),
+    (Call::Confirmed, Answer::Moment(0)),
+    (
+        Call::Wants,
+        Answer::Poll(Some(Poll {
+            after: 2002,
+            limit: 2,
+        })),
+    ),
+    (Call::OfferNone(true), YES),
+    (Call::Send, NOTHING),
+    (Call::Confirm(1, 1), YES),
+    (Call::Confirmed, Answer::Moment(2002)),
+    (Call::Send, Answer::Sent(Sent::EndMark(1, 4))),
+    (Call::Confirm(1, 4), YES),
+    (Call::Done, YES),
+];
+
+#[test]
+fn a_course_of_three_events_at_a_time(rt: HostRuntime) -> Result<(), Fail> {
+    let mut store = MemoryStore::new();
+    let mut session = Session::start(rt.alloc(), &mut store, 3)?;
+    for (place, (call, answer)) in WIDE.iter().enumerate() {
         let given = ask(rt.alloc(), &mut session, &mut store, *call)?;
         assert_eq!(rt; given, *answer, "call {place}");
     }
@@ -235,7 +285,7 @@ fn a_course_from_its_connect_to_its_end_mark(rt: HostRuntime) -> Result<(), Fail
 #[test]
 fn a_session_of_a_thousand_events(rt: HostRuntime) -> Result<(), Fail> {
     let mut store = MemoryStore::new();
-    let mut session = Session::start(rt.alloc(), &mut store, Limits::WINDOW_TODAY)?;
+    let mut session = Session::start(rt.alloc(), &mut store, 1)?;
     assert_eq!(rt; send(&mut session, rt.alloc())?, Sent::Connect(1));
     for tag in 1..=1_000 {
         for (call, answer) in [

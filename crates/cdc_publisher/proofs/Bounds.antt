@@ -1,16 +1,136 @@
 -- The numbers of a session stay in their bounds.
-use Rattle.std.proofs.Common.{◌≡◌, ℕ, ◌+◌, ◌≤◌, Bool, true, false, ◌||◌, ◌⊎◌, not, ⊎_elim, is_some, Option, Some, None, arith}
+use Rattle.std.proofs.Common.{◌≡◌, ℕ, zero, suc, ◌+◌, ◌-◌, ◌<◌, ◌≤◌, ◌==◌, Bool, not, Some, List, [], ◌∷◌, ◌++◌, ap, subst, length, drop, get_or, length-append, arith}
+use Rattle.std.specs.Prelude.{All, slice_get}
+use Rattle.std.proofs.lemmas.List.Elements.{All-append, All-filter}
+use Rattle.cdc_types.specs.declared.bounds.TheConstants.Limits.{TIMESTAMP}
 use Rattle.cdc_types.specs.declared.events.Event.{Event}
-use Rattle.cdc_publisher.specs.Stands.{flag_count, unsent_count}
+use Rattle.cdc_types.specs.Timestamps.{RiseFrom, last_timestamp_from}
+use Rattle.cdc_types.proofs.Rising.{last_timestamp_from-slice_get}
+use Rattle.cdc_publisher.specs.declared.session.Unconfirmed.{Unconfirmed}
+use Rattle.cdc_publisher.specs.Kept.{Kept, poll_of, without_tag}
+use Rattle.cdc_publisher.specs.Offers.{IsOffered}
+use Rattle.cdc_publisher.specs.Stands.{HasBounds}
+use Rattle.cdc_publisher.specs.Turns.{tagged}
+use Rattle.cdc_publisher.proofs.Moves.{is_free}
+use Rattle.cdc_publisher.proofs.Rings.{length-without_tag}
 
--- a tag more, for the unsent event or for the end mark
-pub one_more_sent : (sent last : ℕ) (unsent : Option Event) (ended none : Bool)
-    → sent + unsent_count unsent ≤ last + 1 + flag_count ended → is_some unsent ≡ not none
-    → (is_some unsent ≡ true) ⊎ (ended ≡ false)
-    → sent + 1 ≤ last + 1 + flag_count (ended || none)
-one_more_sent sent last (Some event) true none low is kind = omega arith
-one_more_sent sent last (Some event) false true low is kind = cc
-one_more_sent sent last (Some event) false false low is kind = omega arith
-one_more_sent sent last None ended false low is kind = cc
-one_more_sent sent last None false true low is kind = omega arith
-one_more_sent sent last None true true low is kind = ⊎_elim (λ here. cc) (λ off. cc) kind
+-- the moment of the event in the last place
+pub last_is : (moment : ℕ) (events : List Event) (event : Event) → slice_get events (length events - 1) ≡ Some event
+    → last_timestamp_from moment events ≡ event.timestamp
+last_is moment [] event found = cc
+last_is moment (first ∷ events) event found = last_timestamp_from-slice_get (first ∷ events) event found
+
+-- a list that rises from a moment has come further by as many nanoseconds as it has events
+rises_by : (moment : ℕ) (events : List Event) → RiseFrom moment events
+    → moment + length events ≤ last_timestamp_from moment events
+rises_by moment [] rising = omega arith
+rises_by moment (event ∷ events) rising =
+    let above = rising.0 in
+    let rest = rises_by event.timestamp events rising.1 in
+    omega arith
+
+-- and its last moment is the first one or an event's
+last_fits : (moment : ℕ) (events : List Event) → moment ≤ TIMESTAMP
+    → All (λ event. event.timestamp ≤ TIMESTAMP) events → last_timestamp_from moment events ≤ TIMESTAMP
+last_fits moment [] fits all = fits
+last_fits moment (event ∷ events) fits all =
+    last_fits event.timestamp events (all 0 event (omega arith)) (λ k d lt. all (suc k) d (omega arith))
+
+-- where events are offered
+pub offered_bounds : (kept : Kept) (events : List Event) (complete : Bool) → HasBounds kept
+    → IsOffered (poll_of kept) events
+    → HasBounds (record kept {
+      last = last_timestamp_from kept.last events;
+      unsent = kept.unsent ++ events;
+      complete = complete;
+    })
+offered_bounds kept events complete bounds offer =
+    let free = is_free kept events offer in
+    let none = free.unsent in
+    let count = free.reply.count in
+    let sent = bounds.sent in
+    let room = bounds.room in
+    let long = length-append kept.unsent events in
+    let further = rises_by kept.last events free.reply.rising in
+    record {
+      base = bounds.base;
+      last = last_fits kept.last events bounds.last free.reply.fits;
+      last_sent = bounds.last_sent;
+      unsent = All-append (λ event. event.timestamp ≤ TIMESTAMP) kept.unsent events bounds.unsent free.reply.fits;
+      before = bounds.before;
+      sent = omega arith;
+      connected = omega arith;
+      room = omega arith;
+      window = bounds.window;
+    }
+
+-- where a tag is taken out
+pub confirmed_bounds : (kept : Kept) (tag : ℕ) → HasBounds kept
+    → HasBounds (record kept { unconfirmed = without_tag tag kept.unconfirmed })
+confirmed_bounds kept tag bounds =
+    let few = length-without_tag tag kept.unconfirmed in
+    let room = bounds.room in
+    record {
+      base = bounds.base;
+      last = bounds.last;
+      last_sent = bounds.last_sent;
+      unsent = bounds.unsent;
+      before = All-filter (λ entry. not (entry.tag == tag)) (λ entry. entry.before ≤ TIMESTAMP) kept.unconfirmed
+          bounds.before;
+      sent = bounds.sent;
+      connected = bounds.connected;
+      room = omega arith;
+      window = bounds.window;
+    }
+
+-- where the oldest unsent event is sent
+pub published_bounds : (kept : Kept) (event : Event) (events : List Event) → HasBounds kept
+    → kept.unsent ≡ event ∷ events
+    → HasBounds (record (tagged kept) { unsent = events; last_sent = event.timestamp })
+published_bounds kept event events bounds is =
+    let long : length kept.unsent ≡ suc (length events) = ap length is in
+    let entry : Unconfirmed = record { tag = kept.sent; before = kept.last_sent } in
+    let all : All (λ event. event.timestamp ≤ TIMESTAMP) (event ∷ events) =
+    subst (λ (es : List Event). All (λ event. event.timestamp ≤ TIMESTAMP) es) is bounds.unsent in
+    let sent = bounds.sent in
+    let room = bounds.room in
+    let connected = bounds.connected in
+    record {
+      base = bounds.base;
+      last = bounds.last;
+      last_sent = all 0 event (omega arith);
+      unsent = λ k d lt. all (suc k) d (omega arith);
+      before = All-append (λ entry. entry.before ≤ TIMESTAMP) kept.unconfirmed
+          (record { tag = kept.sent; before = kept.last_sent } ∷ []) bounds.before (λ k d lt. one k d lt);
+      sent = omega arith;
+      connected = omega arith;
+      room = omega (arith, length-append kept.unconfirmed (entry ∷ []));
+      window = bounds.window;
+    }
+  where
+    one : (k : ℕ) (d : Unconfirmed) → k < 1
+        → (get_or (record { tag = kept.sent; before = kept.last_sent } ∷ []) k d).before ≤ TIMESTAMP
+    one zero d lt = bounds.last_sent
+    one (suc k) d lt = absurd (omega arith)
+
+-- what is offered fits
+pub offered_fits : (kept : Kept) (events : List Event) → HasBounds kept → IsOffered (poll_of kept) events
+    → length (kept.unsent ++ events) ≤ kept.window
+offered_fits kept events bounds offer =
+    let free = is_free kept events offer in
+    let none = free.unsent in
+    let count = free.reply.count in
+    omega (arith, length-append kept.unsent events)
+
+-- one more tag fits where an event is unsent
+pub tag_fits : (kept : Kept) (event : Event) (events : List Event) (entry : Unconfirmed) → HasBounds kept
+    → kept.unsent ≡ event ∷ events → length (kept.unconfirmed ++ entry ∷ []) ≤ kept.window
+tag_fits kept event events entry bounds is =
+    let long : length kept.unsent ≡ suc (length events) = ap length is in
+    let room = bounds.room in
+    omega (arith, length-append kept.unconfirmed (entry ∷ []))
+
+-- the first of a list, and the others
+pub first_of : (events : List Event) (event : Event) → slice_get events 0 ≡ Some event → events ≡ event ∷ drop 1 events
+first_of [] event is = cc
+first_of (first ∷ events) event is = cc

@@ -1,25 +1,48 @@
 -- What a session keeps of its course.
-use Rattle.std.specs.Prelude.{ℕ, Bool, Option, Some, None, is_none, not, ◌&&◌, if◌then◌else◌}
+use Rattle.std.specs.Prelude.{ℕ, ◌-◌, ◌==◌, Bool, Option, Some, None, List, [], ◌∷◌, filter, length, nat_lt, not, ◌&&◌, if◌then◌else◌}
+use Rattle.std.specs.List.{list_any}
 use Rattle.cdc_types.specs.declared.events.Event.{Event}
 use Rattle.cdc_publisher.specs.declared.session.Poll.{Poll}
+use Rattle.cdc_publisher.specs.declared.session.Unconfirmed.{Unconfirmed}
 
--- the session's number; the timestamp that it begins after; that of the event which it was offered last, and the one
--- up to which all are confirmed; how many packets it has sent; the event that is still to be sent; the tag that
--- was sent and isn't confirmed; whether no event follows, and whether the end mark was sent
+-- the session's number; the timestamp that it begins after; for how many events it waits at a time; the timestamps of
+-- the event which it was offered last, and of that which it sent last; how many packets it has sent; the events that
+-- are still to be sent; the tags that were sent and aren't confirmed, each with the timestamp of the event before its
+-- own; whether no event follows, and whether the end mark was sent
 pub record Kept : Type 0 where
   pub number : ℕ
   pub base : ℕ
+  pub window : ℕ
   pub last : ℕ
-  pub confirmed : ℕ
+  pub last_sent : ℕ
   pub sent : ℕ
-  pub unsent : Option Event
-  pub unconfirmed : Option ℕ
+  pub unsent : List Event
+  pub unconfirmed : List Unconfirmed
   pub complete : Bool
   pub ended : Bool
 
--- the events that are wanted: one after the last, where none is unsent or unconfirmed and the end isn't known
+-- a list has nothing in it
+abbrev pub is_nil : {X : Type 0} → List X → Bool
+is_nil xs = length xs == 0
+
+-- the events that are wanted: none while one is unsent, as many as may wait are unconfirmed, or the end is known; else
+-- those after the last one, up to the number that may wait besides
 abbrev pub poll_of : Kept → Option Poll
 poll_of kept =
-    if is_none kept.unsent && (is_none kept.unconfirmed && not kept.complete)
-    then Some (record { after = kept.last; limit = 1 })
+    if is_nil kept.unsent && nat_lt (length kept.unconfirmed) kept.window && not kept.complete
+    then Some (record { after = kept.last; limit = kept.window - length kept.unconfirmed })
     else None
+
+-- the timestamp up to which all are confirmed: of the event before the first tag that waits, and where none does, of
+-- the event that was sent last
+abbrev pub confirmed_of : ℕ → List Unconfirmed → ℕ
+confirmed_of last_sent [] = last_sent
+confirmed_of last_sent (first ∷ rest) = first.before
+
+-- this tag is among them
+abbrev pub holds_tag : ℕ → List Unconfirmed → Bool
+holds_tag tag unconfirmed = list_any (λ entry. entry.tag == tag) unconfirmed
+
+-- the others
+abbrev pub without_tag : ℕ → List Unconfirmed → List Unconfirmed
+without_tag tag unconfirmed = filter (λ entry. not (entry.tag == tag)) unconfirmed

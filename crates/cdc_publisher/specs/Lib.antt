@@ -2,6 +2,8 @@ pub mod Courses
 pub mod Errors
 pub mod Kept
 pub mod Offers
+pub mod Polls
 pub mod Stands
 pub mod Starts
 pub mod Turns
+pub mod Views

@@ -47,9 +47,9 @@ MayRefuseStart store SessionsExhausted =
     CountsNone store × ((begun store.after ≡ None) × (IsTrue store.honest → store.after ≡ store.before))
 MayRefuseStart store OutOfMemory = CountsNone store × (IsTrue store.honest → store.after ≡ store.before)
 
--- a start on a store of these risks may be refused like this: as its calls may be, or for want of a further number; of
--- its own it takes no memory
+-- a start on a store of these risks may be refused like this: as its calls may be, for want of a further number, or for
+-- want of memory, which it takes of its own
 abbrev pub IsStartRisked : Risks → StartError → Type 0
 IsStartRisked risks (Store why) = IsRisked risks why
 IsStartRisked risks SessionsExhausted = Unit {0}
-IsStartRisked risks OutOfMemory = IsTrue risks.memory
+IsStartRisked risks OutOfMemory = Unit {0}

@@ -1,35 +1,36 @@
 -- What a session keeps after each call. Cited by private contracts and proofs alone.
-use Rattle.std.specs.Prelude.{◌+◌, ◌==◌, Bool, ◌&&◌, ◌||◌, not, is_none, is_some, Option, Some, None, if◌then◌else◌}
+use Rattle.std.specs.Prelude.{◌+◌, ◌==◌, Bool, true, ◌&&◌, not, Option, Some, None, List, [], ◌∷◌, ◌++◌, if◌then◌else◌}
 use Rattle.cdc_types.specs.declared.events.Event.{Event}
 use Rattle.cdc_message.specs.declared.items.Item.TheVariants.{Event as OfEvent, EndMark}
 use Rattle.cdc_message.specs.declared.packets.Packet.{Packet}
 use Rattle.cdc_message.specs.declared.packets.Packet.TheVariants.{Connect, Publish}
-use Rattle.cdc_publisher.specs.Kept.{Kept}
+use Rattle.cdc_publisher.specs.Kept.{Kept, is_nil}
 
 -- the end mark comes next, where no event is unsent
 abbrev pub ends : Kept → Bool
-ends kept = kept.complete && (not kept.ended && is_none kept.unconfirmed)
+ends kept = kept.complete && (not kept.ended && is_nil kept.unconfirmed)
 
--- what is published next: the unsent event, or else the end mark
-abbrev pub publish_of : Kept → Option Event → Option Packet
-publish_of kept (Some event) = Some (Publish kept.number kept.sent (OfEvent event))
-publish_of kept None = if ends kept then Some (Publish kept.number kept.sent EndMark) else None
+-- what is published next: the oldest unsent event, or else the end mark
+abbrev pub publish_of : Kept → List Event → Option Packet
+publish_of kept (event ∷ events) = Some (Publish kept.number kept.sent (OfEvent event))
+publish_of kept [] = if ends kept then Some (Publish kept.number kept.sent EndMark) else None
 
 -- what is sent next
 abbrev pub packet_of : Kept → Option Packet
 packet_of kept = if kept.sent == 0 then Some (Connect kept.number) else publish_of kept kept.unsent
 
--- what is kept after one more tag was sent, which was the end mark's or not
-abbrev pub tagged : Bool → Kept → Kept
-tagged ended kept = record kept {
+-- what is kept after one more tag was sent
+abbrev pub tagged : Kept → Kept
+tagged kept = record kept {
   sent = kept.sent + 1;
-  unsent = None;
-  unconfirmed = Some kept.sent;
-  ended = kept.ended || ended;
+  unconfirmed = kept.unconfirmed ++ record { tag = kept.sent; before = kept.last_sent } ∷ [];
 }
+
+-- what is kept after the oldest unsent event was sent, or else the end mark, if it may be
+abbrev pub published : Kept → List Event → Kept
+published kept (event ∷ events) = record (tagged kept) { unsent = events; last_sent = event.timestamp }
+published kept [] = if ends kept then record (tagged kept) { ended = true } else kept
 
 -- what is kept after the next packet was sent, if there is one
 abbrev pub advanced : Kept → Kept
-advanced kept =
-    if kept.sent == 0 then record kept { sent = 1 }
-    else (if is_some kept.unsent || ends kept then tagged (is_none kept.unsent) kept else kept)
+advanced kept = if kept.sent == 0 then record kept { sent = 1 } else published kept kept.unsent

@@ -4,6 +4,7 @@ ghost use Rattle.std.specs.Prelude.{◌≡◌};
 ghost use Rattle.cdc_publisher.specs.Errors.{start_error_number, start_error_name};
 
 use cdc_progress::StoreError;
+use std::alloc::AllocError;
 use thiserror::Error;
 
 /// Why a session doesn't start.
@@ -31,6 +32,17 @@ impl From<StoreError> for StartError {
             StoreError::OutOfMemory => StartError::OutOfMemory,
             _ => StartError::Store(error),
         }
+    }
+}
+
+impl From<AllocError> for StartError {
+    ghost use Rattle.std.specs.Prelude.{◌≡◌};
+    ghost use Rattle.cdc_publisher.specs.declared.errors.StartError.TheVariants.{OutOfMemory};
+
+    ghost from_gives = { λ _ e. e ≡ OutOfMemory };
+
+    fn from(_error: AllocError) -> StartError {
+        StartError::OutOfMemory
     }
 }
 

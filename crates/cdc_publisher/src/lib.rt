@@ -3,7 +3,9 @@
 #![tactic(auto)]
 
 pub mod errors;
+mod laws;
 pub mod session;
 
 pub use errors::StartError;
+pub use laws::poll_laws;
 pub use session::{Poll, Session};

@@ -1,9 +1,12 @@
 //! The session itself.
 
 ghost use Rattle.std.specs.Prelude.{◌≡◌, ◌⊎◌, ◌≤◌, IsTrue, Some, Err, IfOk, IfErr, OnOk, OnErr, is_some, option_map};
+ghost use Rattle.circular_buffer.specs.Buffer.{buffer};
 ghost use Rattle.cdc_progress.specs.Stores.{IsRisked, MayRefuseSave};
+ghost use Rattle.cdc_types.specs.Timestamps.{last_timestamp_from};
+ghost use Rattle.cdc_types.specs.Windows.{IsWindow};
 ghost use Rattle.cdc_publisher.specs.Courses.{Course, begun, confirmed_timestamp, has_event, is_done, next_packet, next_poll, progress_of, takes_confirm, with_confirm, with_offer, with_sent};
-ghost use Rattle.cdc_publisher.specs.Kept.{poll_of};
+ghost use Rattle.cdc_publisher.specs.Kept.{holds_tag, poll_of, without_tag};
 ghost use Rattle.cdc_publisher.specs.Offers.{IsOffered};
 ghost use Rattle.cdc_publisher.specs.Stands.{StandsFor};
 ghost use Rattle.cdc_publisher.specs.Starts.{HasStarted, IsStartRisked, MayRefuseStart};
@@ -13,6 +16,7 @@ use crate::errors::StartError;
 use cdc_message::{Item, Message, Packet};
 use cdc_progress::{Progress, ProgressStore, StoreError};
 use cdc_types::{Event, Limits};
+use circular_buffer::HeapCircularBuffer;
 use std::alloc::{AllocError, Global};
 use std::marker::Model;
 
@@ -25,54 +29,93 @@ pub struct Poll {
     pub limit: usize,
 }
 
+/// A tag that was sent and isn't confirmed.
+#[derive(Clone, Copy)]
+struct Unconfirmed {
+    tag: u64,
+    /// The timestamp of the event before the tag's in the session, or the base: what all is confirmed up to while no
+    /// earlier tag waits.
+    before: u64,
+}
+
 /// A publisher's session. It sends a connect, then each event that it was offered under tags from 1 on, and the mark of
-/// the end once all are confirmed; it keeps how far all are confirmed, which is what it saves. One event waits for its
-/// confirm at a time.
+/// the end once all are confirmed; it keeps how far all are confirmed, which is what it saves. Up to as many events as
+/// its window says wait for their confirms at a time.
 ///
-/// A session forgets what it has sent, so a clause speaks of its course, of all that it was offered, sent and was
-/// confirmed: take any course that the session may stand for before a call, and the clause says which one it is then.
-#[derive(Drop)]
+/// A session forgets what it has sent and what was confirmed, so a clause speaks of its course, of all that it was
+/// offered, sent and was confirmed: take any course that the session may stand for before a call, and the clause says
+/// which one it is then.
 pub struct Session {
     number: u64,
     base: u64,
+    /// The timestamp of the event that it was offered last, or the base.
     last: u64,
-    confirmed: u64,
+    /// The timestamp of the event that it sent last, or the base.
+    last_sent: u64,
     sent: u64,
-    unsent: Option<Event>,
-    unconfirmed: Option<u64>,
+    /// The events that are still to be sent, in order.
+    unsent: HeapCircularBuffer<Event>,
+    /// In rising order. The window is its capacity.
+    unconfirmed: HeapCircularBuffer<Unconfirmed>,
     complete: bool,
     ended: bool,
 }
 
+// By hand, so that whoever lets go of a session calls this, and doesn't take it apart anew.
+impl Drop for Session {
+    fn drop(self) {
+        let Session {
+            number: _,
+            base: _,
+            last: _,
+            last_sent: _,
+            sent: _,
+            unsent: _,
+            unconfirmed: _,
+            complete: _,
+            ended: _,
+        } = self;
+    }
+}
+
 impl Model for Session {
     ghost use Rattle.cdc_publisher.specs.Kept.{Kept};
-    ghost use Rattle.cdc_publisher.specs.Stands.{HasBounds};
 
     ghost Value = { Kept };
 
-    ghost view = { λ session. record {
-      number = session.number;
-      base = session.base;
-      last = session.last;
-      confirmed = session.confirmed;
-      sent = session.sent;
-      unsent = session.unsent;
-      unconfirmed = session.unconfirmed;
-      complete = session.complete;
-      ended = session.ended;
-    } };
+    ghost use Rattle.cdc_publisher.specs.Views.{kept_of, IsBounded};
 
-    ghost invariant = { λ session. HasBounds (record {
-      number = session.number;
-      base = session.base;
-      last = session.last;
-      confirmed = session.confirmed;
-      sent = session.sent;
-      unsent = session.unsent;
-      unconfirmed = session.unconfirmed;
-      complete = session.complete;
-      ended = session.ended;
-    }) };
+    ghost view = { kept_of };
+
+    ghost invariant = { IsBounded };
+}
+
+/// The timestamp of the last event, or the one before them all.
+fn last_of(events: &[Event], before: u64) -> u64
+    ensures { result ≡ last_timestamp_from before events.now }
+{
+    match events.last() {
+        Some(event) => event.timestamp,
+        None => before,
+    }
+}
+
+/// Takes a tag out of a ring wherever it stands, and says whether it was there. The others stay in order.
+fn take_out(unconfirmed: &mut HeapCircularBuffer<Unconfirmed>, tag: u64) -> bool
+    ensures taken { result ≡ holds_tag tag unconfirmed.old.items }
+    ensures others { unconfirmed.new
+        ≡ buffer (without_tag tag unconfirmed.old.items) unconfirmed.old.capacity }
+{
+    let mut taken = false;
+    for _turn in 0..unconfirmed.len() {
+        let entry = unconfirmed.pop_front().unwrap();
+        if entry.tag == tag {
+            taken = true;
+        } else {
+            unconfirmed.push_back(entry);
+        }
+    }
+    taken
 }
 
 /// What is saved as a session begins: the next number, with the same timestamp; none where there is no further number.
@@ -89,13 +132,13 @@ fn begin(held: Option<Progress>) -> Option<Progress>
 impl Session {
     /// The session after the one whose progress a store holds. It begins after the timestamp that is held, once the
     /// store has saved its number; so no later session has the same one. `window` is for how many events it may wait at
-    /// a time. `OutOfMemory` is the store's alone.
+    /// a time; it makes room for these before it turns to the store.
     pub fn start<S: ProgressStore>(
-        _alloc: Global,
+        alloc: Global,
         store: &mut S,
         window: usize,
     ) -> Result<Session, StartError>
-        requires { window ≡ Limits.WINDOW_TODAY }
+        requires { IsWindow window }
         ensures ok { IfOk result (HasStarted (record {
           honest = S.is_honest store.old;
           before = S.held store.old;
@@ -114,16 +157,18 @@ impl Session {
         ensures honest { S.is_honest store.new ≡ S.is_honest store.old }
         ensures same_risks { S.risks store.new ≡ S.risks store.old }
     {
+        let unsent = HeapCircularBuffer::with_capacity(alloc, window)?;
+        let unconfirmed = HeapCircularBuffer::with_capacity(alloc, window)?;
         let saved = begin(store.load()?).ok_or(StartError::SessionsExhausted)?;
         store.save(saved)?;
         Ok(Session {
             number: saved.session(),
             base: saved.timestamp(),
             last: saved.timestamp(),
-            confirmed: saved.timestamp(),
+            last_sent: saved.timestamp(),
             sent: 0,
-            unsent: None,
-            unconfirmed: None,
+            unsent,
+            unconfirmed,
             complete: false,
             ended: false,
         })
@@ -149,12 +194,12 @@ impl Session {
         ensures kept { result ≡ poll_of self.now }
         ensures wanted { (course : Course) → StandsFor self.now course → result ≡ next_poll course }
     {
-        if self.unsent.is_some() || self.unconfirmed.is_some() || self.complete {
+        if !self.unsent.is_empty() || self.unconfirmed.is_full() || self.complete {
             return None;
         }
         Some(Poll {
             after: self.last,
-            limit: 1,
+            limit: self.unconfirmed.capacity() - self.unconfirmed.len(),
         })
     }
 
@@ -164,10 +209,8 @@ impl Session {
         ensures { (course : Course) → StandsFor self.old course
             → StandsFor self.new (with_offer events.now complete course) }
     {
-        if let Some(event) = events.first() {
-            self.last = event.timestamp;
-            self.unsent = Some(*event);
-        }
+        self.last = last_of(events, self.last);
+        self.unsent.extend_from_slice(events);
         self.complete = complete;
     }
 
@@ -179,9 +222,9 @@ impl Session {
         self.is_sending()
     }
 
-    /// What the session sends next: first the connect, then the oldest unsent event, and the end mark once every event is
-    /// confirmed and no other one follows. Nothing where nothing is to be sent. An event alone takes memory, and where
-    /// that runs out nothing changes.
+    /// What the session sends next: first the connect, then the oldest unsent event, and the end mark once every event
+    /// is confirmed and no other one follows. Nothing where nothing is to be sent. An event alone takes memory, and
+    /// where that runs out nothing changes.
     pub fn next_packet(&mut self, alloc: Global) -> Result<Option<Packet>, AllocError>
         ensures packet { (course : Course) → StandsFor self.old course
             → IfOk result (λ packet. packet ≡ next_packet course) }
@@ -204,12 +247,7 @@ impl Session {
         ensures stands { (course : Course) → StandsFor self.old course
             → StandsFor self.new (with_confirm session tag course) }
     {
-        if session != self.number || self.unconfirmed != Some(tag) {
-            return false;
-        }
-        self.unconfirmed = None;
-        self.confirmed = self.last;
-        true
+        session == self.number && take_out(&mut self.unconfirmed, tag)
     }
 
     /// The timestamp of the last event such that it and each earlier one is confirmed, or the base; in nanoseconds.
@@ -218,7 +256,10 @@ impl Session {
             → result ≡ confirmed_timestamp course }
         ensures fits { result ≤ Limits.TIMESTAMP }
     {
-        self.confirmed
+        match self.unconfirmed.front() {
+            Some(first) => first.before,
+            None => self.last_sent,
+        }
     }
 
     /// Saves the session's number, and how far its events are confirmed.
@@ -243,21 +284,21 @@ impl Session {
     pub fn done(&self) -> bool
         ensures { (course : Course) → StandsFor self.now course → result ≡ is_done course }
     {
-        self.ended && self.unconfirmed.is_none()
+        self.ended && self.unconfirmed.is_empty()
     }
 
     /// Whether the end mark comes next, where no event is unsent.
     fn ends(&self) -> bool
         ensures { result ≡ ends self.now }
     {
-        self.complete && !self.ended && self.unconfirmed.is_none()
+        self.complete && !self.ended && self.unconfirmed.is_empty()
     }
 
     /// Whether anything is sent next.
     fn is_sending(&self) -> bool
         ensures { result ≡ is_some (packet_of self.now) }
     {
-        self.sent == 0 || self.unsent.is_some() || self.ends()
+        self.sent == 0 || !self.unsent.is_empty() || self.ends()
     }
 
     /// What is sent next.
@@ -270,14 +311,15 @@ impl Session {
                 session: self.number,
             }));
         }
-        let item = match &self.unsent {
+        let item = match self.unsent.front() {
             Some(event) => Item::Event(Message::of(alloc, event)?),
             None if self.ends() => Item::EndMark,
             None => return Ok(None),
         };
+        let tag = self.sent;
         Ok(Some(Packet::Publish {
             session: self.number,
-            tag: self.sent,
+            tag,
             item,
         }))
     }
@@ -286,12 +328,22 @@ impl Session {
     fn advance(&mut self)
         ensures { self.new ≡ advanced self.old }
     {
+        let ends = self.ends();
         if self.sent == 0 {
             self.sent = 1;
-        } else if self.unsent.is_some() || self.ends() {
-            self.ended |= self.unsent.is_none();
-            self.unsent = None;
-            self.unconfirmed = Some(self.sent);
+        } else if let Some(event) = self.unsent.pop_front() {
+            self.unconfirmed.push_back(Unconfirmed {
+                tag: self.sent,
+                before: self.last_sent,
+            });
+            self.last_sent = event.timestamp;
+            self.sent += 1;
+        } else if ends {
+            self.unconfirmed.push_back(Unconfirmed {
+                tag: self.sent,
+                before: self.last_sent,
+            });
+            self.ended = true;
             self.sent += 1;
         }
     }

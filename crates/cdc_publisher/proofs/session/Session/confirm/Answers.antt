@@ -1,66 +1,40 @@
-use Rattle.std.proofs.Common.{◌≡◌, ℕ, ◌∙◌, ◌==◌, ◌++◌, ◌∷◌, [], sym, subst, Bool, true, false, ◌&&◌, not, ap, ap₂, eqb, Option, Some, None, arith}
-use Rattle.std.specs.Prelude.{if◌then◌else◌}
-use Rattle.std.specs.Option.{option_eq}
-use Rattle.std.proofs.lemmas.Bool.Decides.{nat_tests}
-use Rattle.std.proofs.Math.Bool.{and-false}
-use Rattle.cdc_publisher.specs.Kept.{Kept}
-use Rattle.cdc_publisher.specs.Stands.{StandsFor}
-use Rattle.cdc_publisher.proofs.Moves.{confirm_stands}
-use Rattle.cdc_publisher.proofs.Standing.{is_waiting, takes_is}
+use Rattle.std.proofs.Common.{◌==◌, ◌∙◌, ◌&&◌, sym, ap, subst}
+use Rattle.circular_buffer.specs.Buffer.{Buffer}
+use Rattle.cdc_publisher.specs.declared.session.Unconfirmed.{Unconfirmed}
+use Rattle.cdc_publisher.specs.Courses.{with_confirm}
+use Rattle.cdc_publisher.specs.Kept.{Kept, holds_tag}
+use Rattle.cdc_publisher.specs.Stands.{HasBounds, StandsFor}
+use Rattle.cdc_publisher.specs.Views.{kept_of}
+use Rattle.cdc_publisher.proofs.Bounds.{confirmed_bounds}
+use Rattle.cdc_publisher.proofs.Moves.{confirm_stands, own_number}
+use Rattle.cdc_publisher.proofs.Standing.{takes_is}
 use Rattle.cdc_publisher.proofs.session.Session.confirm.Goals as goal
-use Rattle.cdc_publisher.proofs.session.Session.confirm.Goals.{then-session-self-via-then-session-self, then-session-self-via-else-session-self+then-ne}
 
-other_way : (a b : Bool) → b ≡ not a → a ≡ not b
-other_way true b is = ap not (sym is)
-other_way false b is = ap not (sym is)
-
--- whether the tag that waits is this one
-waits_where_equal : (w : Option ℕ) (tag : ℕ) (differs : Bool) → differs ≡ not (option_eq eqb w (Some tag))
-    → is_waiting w tag ≡ not differs
-waits_where_equal None tag differs is = ap not (sym is)
-waits_where_equal (Some last) tag differs is = other_way (last == tag) differs is
-
-other_session : (session number : ℕ) (waits : Bool) → (session ≡ number → ⊥) → ((session == number) && waits) ≡ false
-other_session session number waits other = grind (arith, nat_tests)
-
-this_session : (session number : ℕ) → session ≡ number → (session == number) ≡ true
-this_session session number is = grind (arith, nat_tests)
+pub invariant_of-self : goal.invariant_of-self
+invariant_of-self c =
+    let inside = c.self.inside in
+    record {
+      room = c.self.invariant.room ∙ sym (ap (λ (b : Buffer Unconfirmed). b.capacity) c.take_out.ensures.others);
+      bounds = subst (λ (b : Buffer Unconfirmed).
+          HasBounds (record (kept_of inside) { window = b.capacity; unconfirmed = b.items }))
+          (sym c.take_out.ensures.others)
+          (confirmed_bounds (kept_of inside) c.args.tag c.self.invariant.bounds);
+    }
 
 pub returns-then-session-self-clause-answer : goal.returns-then-session-self-clause-answer
 returns-then-session-self-clause-answer c = λ course stands.
-    let inside = c.self.inside in
-    let refused : ((c.args.session == inside.number) && is_waiting inside.unconfirmed c.args.tag) ≡ false =
-    elim c.then-session-self.branch [
-      | then-session-self-via-then-session-self w ↦
-          other_session c.args.session inside.number (is_waiting inside.unconfirmed c.args.tag) w.if-session-self.true
-      | then-session-self-via-else-session-self+then-ne w ↦
-          ap (λ b. (c.args.session == inside.number) && b)
-          (waits_where_equal inside.unconfirmed c.args.tag w.ne.result w.ne.ensures ∙ ap not w.if-ne.true)
-          ∙ and-false (c.args.session == inside.number)
-    ] in
-    let test : Kept → Bool = λ kept. (c.args.session == kept.number) && is_waiting kept.unconfirmed c.args.tag in
-    sym (ap test (sym c.self.view_is) ∙ refused)
+    c.take_out.ensures.taken
+    ∙ sym (own_number c.args.session c.self.inside.number (holds_tag c.args.tag c.self.inside.unconfirmed.items)
+    c.if-session-self.true)
+    ∙ ap (λ (kept : Kept). (c.args.session == kept.number) && holds_tag c.args.tag kept.unconfirmed) c.self.view_is
     ∙ takes_is c.args.self.now course c.args.session c.args.tag stands
 
 pub returns-then-session-self-clause-stands : goal.returns-then-session-self-clause-stands
 returns-then-session-self-clause-stands c = λ course stands.
-    subst (λ (b : Bool). StandsFor c.args.self.now
-    (if b then record course { confirmed = course.confirmed ++ c.args.tag ∷ [] } else course))
-    (returns-then-session-self-clause-answer c course stands) stands
-
-pub returns-clause-answer : goal.returns-clause-answer
-returns-clause-answer c = λ course stands.
     let inside = c.self.inside in
-    let counts : ((c.args.session == inside.number) && is_waiting inside.unconfirmed c.args.tag) ≡ true =
-    ap₂ (λ a b. a && b) (this_session c.args.session inside.number c.if-session-self.false)
-    (waits_where_equal inside.unconfirmed c.args.tag c.ne.result c.ne.ensures ∙ ap not c.if-ne.false) in
-    let test : Kept → Bool = λ kept. (c.args.session == kept.number) && is_waiting kept.unconfirmed c.args.tag in
-    sym (ap test (sym c.self.view_is) ∙ counts)
-    ∙ takes_is c.args.self.now course c.args.session c.args.tag stands
-
-pub returns-clause-stands : goal.returns-clause-stands
-returns-clause-stands c = λ course stands.
-    confirm_stands _ course c.args.session c.args.tag
-    (subst (λ (kept : Kept). StandsFor kept course) (sym c.self.view_is) stands)
-    (waits_where_equal c.self.inside.unconfirmed c.args.tag c.ne.result c.ne.ensures ∙ ap not c.if-ne.false)
-    (returns-clause-answer c course stands)
+    subst (λ (b : Buffer Unconfirmed).
+    StandsFor (record (kept_of inside) { window = b.capacity; unconfirmed = b.items })
+    (with_confirm c.args.session c.args.tag course))
+    (sym c.take_out.ensures.others)
+    (confirm_stands (kept_of inside) course c.args.session c.args.tag
+    (subst (λ (kept : Kept). StandsFor kept course) (sym c.self.view_is) stands) c.if-session-self.true)
