@@ -7,7 +7,7 @@ use Rattle.cdc_broker.specs.Broker.{BrokerState, HasAccepted, after_packet, empt
 use Rattle.cdc_broker.specs.Packets.{current_session, expected_tag, is_taken, is_taken_at, items_of}
 use Rattle.cdc_broker.specs.Queues.{QueueState, acknowledged, empty_queue, rewound_queue, with_delivery}
 use Rattle.cdc_broker.proofs.Accepted.{HasAccepted-acknowledged, HasAccepted-published, HasAccepted-rewound, HasAccepted-with_delivery}
-use Rattle.cdc_laws.specs.Arrivals.{taken_after, taken_of}
+use Rattle.cdc_laws.specs.Arrivals.{AreOfTaken, taken_after, taken_of}
 use Rattle.cdc_laws.specs.Brokers.{HasArrived}
 use Rattle.cdc_laws.proofs.Places.{none_there}
 use Rattle.cdc_laws.proofs.Taking.{current_session-push, expected_tag-push, items_of-push, taken_after-false, taken_after-true}
@@ -30,9 +30,34 @@ HasArrived-nil bindings = record {
 }
 
 -- one more packet that arrived
-taken_of-push : (arrived : List Packet) (packet : Packet)
+pub taken_of-push : (arrived : List Packet) (packet : Packet)
     → taken_of (arrived ++ packet ∷ []) ≡ taken_after (taken_of arrived) packet
 taken_of-push arrived packet = fold-append taken_after [] arrived (packet ∷ [])
+
+-- what was confirmed was taken, also where more is taken
+pub AreOfTaken-taken : (confirms : List Confirm) (taken : List Packet) (packet : Packet) → AreOfTaken confirms taken
+    → AreOfTaken confirms (taken ++ packet ∷ [])
+AreOfTaken-taken confirms taken packet are session tag there =
+    let old = are session tag there in
+    (old.0, Contains-append_left taken (packet ∷ []) (Publish session tag old.0) old.1)
+
+-- and where one more publish that was taken is confirmed
+pub AreOfTaken-confirmed : (confirms : List Confirm) (taken : List Packet) (session tag : ℕ) (item : Item)
+    → AreOfTaken confirms taken → Contains taken (Publish session tag item)
+    → AreOfTaken (confirms ++ record { session = session; answer = Confirmed tag } ∷ []) taken
+AreOfTaken-confirmed confirms taken session tag item are took c t there =
+    elim (Contains-push_cases confirms (record { session = session; answer = Confirmed tag })
+    (record { session = c; answer = Confirmed t }) there) [
+      | inl old ↦ are c t old
+      | inr is ↦
+          let its : session ≡ c = ap (λ (x : Confirm). x.session) is in
+          let answers : Confirmed tag ≡ Confirmed t = ap (λ (x : Confirm). x.answer) is in
+          let tagged : tag ≡ t = cc in (
+            item,
+            subst (λ n. Contains taken (Publish n t item)) its
+                (subst (λ n. Contains taken (Publish session n item)) tagged took),
+          )
+    ]
 
 module _ (b : BrokerState) (arrived : List Packet) (confirms : List Confirm) (has : HasArrived b arrived confirms) where
   -- the broker takes what its packets say
@@ -78,12 +103,8 @@ module _ (b : BrokerState) (arrived : List Packet) (confirms : List Confirm) (ha
         connection = both.0;
         expected = both.1;
         queues = queues;
-        confirmed = λ session tag there.
-            let old = has.confirmed session tag there in (
-              old.0,
-              subst (λ ps. Contains ps (Publish session tag old.0)) (sym is)
-                  (Contains-append_left (taken_of arrived) (packet ∷ []) (Publish session tag old.0) old.1),
-            );
+        confirmed = subst (AreOfTaken confirms) (sym is)
+            (AreOfTaken-taken confirms (taken_of arrived) packet has.confirmed);
       }
 
   -- one that it passes over
@@ -97,8 +118,7 @@ module _ (b : BrokerState) (arrived : List Packet) (confirms : List Confirm) (ha
         connection = has.connection ∙ ap current_session (sym is);
         expected = has.expected ∙ ap expected_tag (sym is);
         queues = subst (λ ps. HasAccepted b (items_of ps)) (sym is) has.queues;
-        confirmed = λ session tag there. subst (λ ps. (item : Item) × Contains ps (Publish session tag item)) (sym is)
-            (has.confirmed session tag there);
+        confirmed = subst (AreOfTaken confirms) (sym is) has.confirmed;
       }
 
   -- a confirm of what it took
@@ -108,19 +128,7 @@ module _ (b : BrokerState) (arrived : List Packet) (confirms : List Confirm) (ha
     connection = has.connection;
     expected = has.expected;
     queues = has.queues;
-    confirmed = λ c t there.
-        elim (Contains-push_cases confirms (record { session = session; answer = Confirmed tag })
-        (record { session = c; answer = Confirmed t }) there) [
-          | inl old ↦ has.confirmed c t old
-          | inr is ↦
-              let its : session ≡ c = ap (λ (x : Confirm). x.session) is in
-              let answers : Confirmed tag ≡ Confirmed t = ap (λ (x : Confirm). x.answer) is in
-              let tagged : tag ≡ t = cc in (
-                item,
-                subst (λ n. Contains (taken_of arrived) (Publish n t item)) its
-                    (subst (λ n. Contains (taken_of arrived) (Publish session n item)) tagged taken),
-              )
-        ];
+    confirmed = AreOfTaken-confirmed confirms (taken_of arrived) session tag item has.confirmed taken;
   }
 
   -- what its queues do

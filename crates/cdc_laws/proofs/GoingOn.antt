@@ -1,6 +1,6 @@
 -- A batch only adds later events to a ledger that isn't closed.
 use Rattle.std.proofs.Common.{◌≡◌, ℕ, ◌+◌, ◌<◌, ◌≤◌, Bool, true, false, List, [], ◌∷◌, ◌++◌, refl, sym, ap, ap₂, ◌∙◌, subst, append_assoc, append-nil, arith}
-use Rattle.std.specs.Prelude.{◌==◌, Option, Some, None, Result, Ok, Err, if◌then◌else◌}
+use Rattle.std.specs.Prelude.{Option, Some, None, Result, Ok, Err}
 use Rattle.std.specs.List.{AllByRecursion}
 use Rattle.cdc_ledger.specs.declared.errors.BatchError.{BatchError}
 use Rattle.cdc_ledger.specs.Changes.{expiry}
@@ -8,8 +8,8 @@ use Rattle.cdc_ledger.specs.Due.{due}
 use Rattle.cdc_ledger.specs.Events.{event_of, events}
 use Rattle.cdc_ledger.specs.History.{History, Opened}
 use Rattle.cdc_ledger.specs.Sound.{HasAccounts, IsSound}
-use Rattle.cdc_ledger.specs.Submit.{accounts_from, after_account, after_transfer, answered, base, entry_of, expiries_from, opened_by, refusal_of, submit, submit_by, taken, transfers_from, Extends, after_batches, closed_if, history_or}
-use Rattle.cdc_ledger.specs.Verdict.{account_verdict, transfer_verdict}
+use Rattle.cdc_ledger.specs.Submit.{account_rules, accounts_from, answered, base, entry_of, expiries_from, opened_by, refusal_of, submit, submit_by, taken, transfer_rules, transfers_from, Extends, after_batches, closed_if, history_or}
+use Rattle.cdc_ledger.proofs.ChainLaws.{items_from-keeps}
 use Rattle.cdc_ledger.proofs.Changes.{pushed, with_account, timed}
 use Rattle.cdc_ledger.proofs.Elements.{AllByRecursion-weaker, AllByRecursion_push}
 use Rattle.cdc_ledger.proofs.EventLaws.{events-pushed, events-with_account}
@@ -22,13 +22,10 @@ use Rattle.cdc_types.specs.declared.batches.Batch.{Batch}
 use Rattle.cdc_types.specs.declared.batches.Batch.TheVariants as batch
 use Rattle.cdc_types.specs.declared.batches.BatchResults.{BatchResults}
 use Rattle.cdc_types.specs.declared.events.Entry.{Entry}
-use Rattle.cdc_types.specs.declared.results.AccountResult.{AccountResult}
-use Rattle.cdc_types.specs.declared.results.TransferResult.{TransferResult}
 use Rattle.cdc_types.specs.declared.transfers.NewTransfer.{NewTransfer}
 use Rattle.cdc_types.specs.declared.transfers.Transfer.{Transfer}
 use Rattle.cdc_types.specs.declared.events.Event.{Event}
 use Rattle.cdc_types.specs.Features.{features}
-use Rattle.cdc_types.specs.Results.{account_number, transfer_number}
 use Rattle.cdc_laws.specs.GoingOn.{GoesOn}
 use Rattle.cdc_laws.proofs.Places.{AllByRecursion-append}
 
@@ -110,67 +107,46 @@ past-pushed h e past later =
 
 -- ---- the requests of a batch
 
--- g comes of h by a request for an account at the moment t
-record IsNextAccount (h : History) (t : ℕ) (g : History) : Type 0 where
-  regular : IsRegular g
-  adds : Adds h g
-  at : g.last ≡ t
-
--- whether it is accepted or not
-next_account : (h : History) (a : NewAccount) (t : ℕ) → IsRegular h → h.last < t → (b : Bool)
-    → IsNextAccount h t (if b then with_account h (opened_by a t) else timed h t)
-next_account h a t is later true = record {
-  regular = IsRegular-with_account h (opened_by a t) is later;
-  adds = Adds-with_account h (opened_by a t) is later;
-  at = refl;
-}
-next_account h a t is later false =
-    record { regular = IsRegular-timed h t is later; adds = Adds-timed h t later; at = refl }
-
--- a batch of accounts keeps the events that were there, whichever of its requests are accepted
+-- a batch of accounts keeps the events that were there, whichever of its chains are accepted
 Adds-accounts_from : (h : History) (t : ℕ) (rs : List NewAccount) → IsRegular h → h.last < t
     → Adds h (accounts_from features h t rs).1
-Adds-accounts_from h t [] is later = Adds-none h h refl (omega arith)
-Adds-accounts_from h t (a ∷ rest) is later =
-    let verdict : AccountResult = account_verdict features h a in
-    let g : History = after_account h a t verdict in
-    let next : IsNextAccount h t g = next_account h a t is later (account_number verdict == 0) in
-    Adds-trans h g (accounts_from features g (t + 1) rest).1 next.adds
-    (Adds-accounts_from g (t + 1) rest next.regular (omega (arith, next.at)))
+Adds-accounts_from h t rs is later =
+    let found : IsRegular (accounts_from features h t rs).1 × Adds h (accounts_from features h t rs).1 =
+    items_from-keeps (account_rules features) (λ g. IsRegular g × Adds h g) (λ n. Unit {0})
+    (λ g a n so_far before fits none. (
+      IsRegular-with_account g (opened_by a n) so_far.0 before,
+      Adds-trans h g (with_account g (opened_by a n)) so_far.1 (Adds-with_account g (opened_by a n) so_far.0 before),
+    ))
+    (λ g n so_far before fits. (
+      IsRegular-timed g n so_far.0 before,
+      Adds-trans h g (timed g n) so_far.1 (Adds-timed g n before),
+    ))
+    (λ g a n. refl) h t rs (is, Adds-none h h refl (omega arith)) later (λ n from below. tt) in
+    found.1
 
--- the same of a request for a transfer, which opens no account
-record IsNextTransfer (h : History) (t : ℕ) (g : History) : Type 0 where
-  past : AllByRecursion (λ e. e.timestamp ≤ g.last) g.entries
-  adds : Adds h g
-  at : g.last ≡ t
+-- no entry is past the last timestamp
+abbrev IsPast : History → Type 0
+IsPast g = AllByRecursion (λ e. e.timestamp ≤ g.last) g.entries
 
--- an accepted request is an entry at its timestamp; a refused one takes the timestamp alone
-next_transfer : (h : History) (r : NewTransfer) (t : ℕ) → AllByRecursion (λ e. e.timestamp ≤ h.last) h.entries
-    → h.last < t → (b : Bool)
-    → IsNextTransfer h t (if b then pushed h (entry_of h r t) else timed h t)
-next_transfer h r t past later true = record {
-  past = past-pushed h (entry_of h r t) past later;
-  adds = Adds-pushed h (entry_of h r t) past later;
-  at = refl;
-}
-next_transfer h r t past later false = record {
-  past = AllByRecursion-weaker (λ e. e.timestamp ≤ h.last) (λ e. e.timestamp ≤ t)
-      (λ e early. omega (arith, early, later)) h.entries past;
-  adds = Adds-timed h t later;
-  at = refl;
-}
-
--- a batch of transfers keeps the events that were there, and what it adds is later
+-- a batch of transfers keeps the events that were there, and what it adds is later: an accepted request is an entry at
+-- its timestamp, a chain that fails takes its timestamps alone
 Adds-transfers_from : (h : History) (t : ℕ) (rs : List NewTransfer)
     → AllByRecursion (λ e. e.timestamp ≤ h.last) h.entries → h.last < t
     → Adds h (transfers_from features h t rs).1
-Adds-transfers_from h t [] past later = Adds-none h h refl (omega arith)
-Adds-transfers_from h t (r ∷ rest) past later =
-    let verdict : TransferResult = transfer_verdict features h r t in
-    let g : History = after_transfer h r t verdict in
-    let next : IsNextTransfer h t g = next_transfer h r t past later (transfer_number verdict == 0) in
-    Adds-trans h g (transfers_from features g (t + 1) rest).1 next.adds
-    (Adds-transfers_from g (t + 1) rest next.past (omega (arith, next.at)))
+Adds-transfers_from h t rs past later =
+    let found : IsPast (transfers_from features h t rs).1 × Adds h (transfers_from features h t rs).1 =
+    items_from-keeps (transfer_rules features) (λ g. IsPast g × Adds h g) (λ n. Unit {0})
+    (λ g r n so_far before fits none. (
+      past-pushed g (entry_of g r n) so_far.0 before,
+      Adds-trans h g (pushed g (entry_of g r n)) so_far.1 (Adds-pushed g (entry_of g r n) so_far.0 before),
+    ))
+    (λ g n so_far before fits. (
+      AllByRecursion-weaker (λ e. e.timestamp ≤ g.last) (λ e. e.timestamp ≤ n)
+          (λ e early. omega (arith, early, before)) g.entries so_far.0,
+      Adds-trans h g (timed g n) so_far.1 (Adds-timed g n before),
+    ))
+    (λ g r n. refl) h t rs (past, Adds-none h h refl (omega arith)) later (λ n from below. tt) in
+    found.1
 
 -- so does a pulse, with an expiry for each transfer that is due
 Adds-expiries_from : (h : History) (t : ℕ) (ps : List Transfer) → AllByRecursion (λ e. e.timestamp ≤ h.last) h.entries

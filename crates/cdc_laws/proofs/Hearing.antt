@@ -87,7 +87,7 @@ HasTaken-next heard taken d has =
 -- ---- a subscriber of a run
 
 -- a beginning of a replay is a replay
-IsReplay-front : {X : Type 0} (some w f : List X) → IsPrefix some w → IsReplay w f → IsReplay some f
+pub IsReplay-front : {X : Type 0} (some w f : List X) → IsPrefix some w → IsReplay w f → IsReplay some f
 IsReplay-front {X} some w f front replay =
     let all : IsReplay (some ++ front.rest) f = subst (λ (xs : List X). IsReplay xs f) (sym front.whole) replay in
     let is : take (length some) (some ++ front.rest) ≡ some =

@@ -20,3 +20,4 @@ pub mod Rising
 pub mod Sessions
 pub mod Splits
 pub mod Taking
+pub mod WholeReads

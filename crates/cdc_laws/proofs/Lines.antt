@@ -66,12 +66,6 @@ told_more es new false c shut =
           ∙ ap (λ items. items ++ (map OfEvent new ++ rest)) (sym (append-nil (map OfEvent es))),
     )
 
--- the line goes on
-pub line-goes_on : (h g : History) → GoesOn h g → (more : List Item) × (line g ≡ line h ++ more)
-line-goes_on h g on =
-    let more = told_more (events h) on.new h.closed g.closed on.shut in
-    (more.0, ap (λ es. told es g.closed) on.whole ∙ more.1)
-
 -- the later events are later than any moment up to the last one
 pub events_after-goes_on : (h g : History) (t : ℕ) (on : GoesOn h g) → t ≤ h.last
     → events_after t (events g) ≡ events_after t (events h) ++ on.new

@@ -29,23 +29,28 @@ HasHandedOut-nil binding = record {
   acked_handed = omega arith;
 }
 
--- an item that joins the queue stands behind all that was handed out
-HasHandedOut-item : (q : QueueState) (out : List Delivery) (item : Option Item) → HasHandedOut q out
-    → HasHandedOut (with_item item q) out
-HasHandedOut-item q out None has = has
-HasHandedOut-item q out (Some item) has =
-    let longer = deliveries-append q.items (item ∷ []) in
-    let rest : List Delivery = deliveries_from (1 + length q.items) (item ∷ []) in
+-- items that join the queue stand behind all that was handed out
+pub HasHandedOut-longer : (q : QueueState) (out : List Delivery) (more : List Item) → HasHandedOut q out
+    → HasHandedOut (record q { items = q.items ++ more }) out
+HasHandedOut-longer q out more has =
+    let longer = deliveries-append q.items more in
+    let rest : List Delivery = deliveries_from (1 + length q.items) more in
     let front : take q.handed (deliveries q.items ++ rest) ≡ take q.handed (deliveries q.items) =
     take-append-le q.handed (deliveries q.items) rest (omega (arith, length-deliveries q.items, has.there)) in
     record {
       replay = rw longer (IsReplay-longer out (deliveries q.items) rest has.replay);
       all = λ d there. has.all d (subst (λ ds. Contains ds d) (ap (take q.handed) longer ∙ front) there);
-      there = omega (arith, length-append q.items (item ∷ []), has.there);
+      there = omega (arith, length-append q.items more, has.there);
       from_one = has.from_one;
       next_at_most = has.next_at_most;
       acked_handed = has.acked_handed;
     }
+
+-- so does one item, if there is one
+HasHandedOut-item : (q : QueueState) (out : List Delivery) (item : Option Item) → HasHandedOut q out
+    → HasHandedOut (with_item item q) out
+HasHandedOut-item q out None has = has
+HasHandedOut-item q out (Some item) has = HasHandedOut-longer q out (item ∷ []) has
 
 -- so it is when the broker accepts one more item, whether or not it belongs to the queue
 pub HasHandedOut-queued : (q : QueueState) (out : List Delivery) (item : Item) → HasHandedOut q out

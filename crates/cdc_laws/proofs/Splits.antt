@@ -1,14 +1,13 @@
 -- A rising list of events, cut at a moment.
-use Rattle.std.proofs.Common.{◌≡◌, ℕ, ◌<◌, ◌≤◌, Bool, true, false, cond, List, [], ◌∷◌, ◌++◌, refl, sym, ap, ap₂, ◌∙◌, subst, inl, inr, append_assoc, append-nil, arith}
-use Rattle.std.specs.Prelude.{Contains, nat_lt}
+use Rattle.std.proofs.Common.{◌≡◌, ℕ, ◌<◌, ◌≤◌, Bool, true, false, cond, List, [], ◌∷◌, ◌++◌, refl, sym, ap, ap₂, ◌∙◌, subst, append_assoc, append-nil, arith}
+use Rattle.std.specs.Prelude.{nat_lt}
 use Rattle.std.specs.List.{AllByRecursion}
 use Rattle.std.proofs.lemmas.Bool.Decides.{nat_tests}
-use Rattle.std.proofs.lemmas.List.Elements.{Contains-append_cases, filter-append}
+use Rattle.std.proofs.lemmas.List.Elements.{filter-append}
 use Rattle.cdc_ledger.proofs.Elements.{AllByRecursion-weaker, AllByRecursion_push}
 use Rattle.cdc_log.specs.Log.{RiseFrom, events_after}
 use Rattle.cdc_types.specs.Timestamps.{last_timestamp_from}
 use Rattle.cdc_types.specs.declared.events.Event.{Event}
-use Rattle.cdc_laws.proofs.Places.{each_has}
 use Rattle.cdc_laws.proofs.Rising.{RiseFrom-earlier, all_later}
 
 -- the events of the front are up to the moment t, and those of the back are later and rise
@@ -106,14 +105,3 @@ SplitsAt-later es t front [] ys cut = rw (append-nil front) cut
 SplitsAt-later es t front (x ∷ xs) ys cut =
     subst (λ all. SplitsAt es (last_timestamp_from x.timestamp xs) all ys) (append_assoc front (x ∷ []) xs)
     (SplitsAt-later es x.timestamp (front ++ x ∷ []) xs ys (SplitsAt-next es t front x (xs ++ ys) cut))
-
--- an event up to the moment stands in the front
-pub front_has : (es : List Event) (t : ℕ) (front back : List Event) (e : Event) → SplitsAt es t front back
-    → Contains es e → e.timestamp ≤ t → Contains front e
-front_has es t front back e cut there low =
-    elim (Contains-append_cases front back e (rw cut.whole at there)) [
-      | inl early ↦ early
-      | inr late ↦
-          let later : t < e.timestamp = each_has (λ x. t < x.timestamp) back e (all_later t back cut.rise) late in
-          absurd (omega (arith, later))
-    ]

@@ -6,7 +6,12 @@ use Rattle.cdc_ledger.specs.Sound.{IsSound}
 use Rattle.cdc_laws.specs.Connectors.{ConnectorState, KeepsTo}
 use Rattle.cdc_laws.specs.GoingOn.{GoesOn}
 use Rattle.cdc_log.specs.Log.{events_after}
+use Rattle.cdc_publisher.specs.declared.session.Poll.{Poll}
 use Rattle.cdc_types.specs.declared.events.Event.{Event}
+
+-- none of the ledger's events follow those that are read after this moment, up to this number, and none will
+abbrev pub none_follow : History → Poll → Bool
+none_follow h poll = h.closed && nat_le (length (events_after poll.after (events h))) poll.limit
 
 -- an answer to a poll: the moment and the greatest number of events that were asked for, the events, and whether none
 -- can follow them
@@ -20,7 +25,7 @@ pub record Reading : Type 0 where
 -- closed and these are all
 pub record IsOf (h : History) (r : Reading) : Type 0 where
   pub events_are : r.events ≡ take r.limit (events_after r.after (events h))
-  pub complete_is : r.complete ≡ (h.closed && nat_le (length (events_after r.after (events h))) r.limit)
+  pub complete_is : r.complete ≡ none_follow h (record { after = r.after; limit = r.limit })
 
 -- a ledger that was read, and has come to this history: each of the readings, of which the latest stands first, is of
 -- a history that went on to that of the next one, and the last of them to this

@@ -1,4 +1,3 @@
 pub mod Continuing
 mod Ends
 pub mod Named
-mod WholeReads

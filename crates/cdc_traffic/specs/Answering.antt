@@ -1,9 +1,10 @@
 -- What the ledger replies to a request and to a poll, told by its history.
-use Rattle.std.specs.Prelude.{Bool, ◌&&◌, nat_le, Result, Ok, Err, length, take}
+use Rattle.std.specs.Prelude.{Result, Ok, Err, take}
 use Rattle.cdc_ledger.specs.declared.errors.BatchError.{BatchError}
 use Rattle.cdc_ledger.specs.Events.{events}
 use Rattle.cdc_ledger.specs.History.{History}
 use Rattle.cdc_ledger.specs.Submit.{submit}
+use Rattle.cdc_laws.specs.Readings.{none_follow}
 use Rattle.cdc_log.specs.Log.{events_after}
 use Rattle.cdc_traffic.specs.declared.polls.Poll.{Poll}
 use Rattle.cdc_traffic.specs.declared.polls.PollReply.{PollReply}
@@ -29,14 +30,10 @@ reply_to h request = record {
   answer = answer_to h request.batch;
 }
 
--- the ledger is closed, and has no more events after the poll's moment than the poll asks for
-abbrev pub none_follow : History → Poll → Bool
-none_follow h poll = h.closed && nat_le (length (events_after poll.after (events h))) poll.limit
-
 -- the reply to a poll
 abbrev pub read_by : History → Poll → PollReply
 read_by h poll = record {
   poll = poll;
   events = take poll.limit (events_after poll.after (events h));
-  complete = none_follow h poll;
+  complete = none_follow h (record { after = poll.after; limit = poll.limit });
 }

@@ -1,12 +1,12 @@
 //! What the connector asks the ledger for, and what it is answered.
 
-ghost use Rattle.std.specs.Prelude.{◌≡◌, IfOk, take};
-ghost use Rattle.cdc_ledger.specs.Events.{events as events_of};
+ghost use Rattle.std.specs.Prelude.{◌≡◌, IfOk};
 ghost use Rattle.cdc_ledger.specs.Submit.{IsLegal};
-ghost use Rattle.cdc_log.specs.Log.{events_after};
-ghost use Rattle.cdc_traffic.specs.Answering.{none_follow, read_by};
+ghost use Rattle.cdc_traffic.specs.Answering.{read_by};
 
+use cdc_laws::{Offer, read};
 use cdc_ledger::Ledger;
+use cdc_publisher::Poll as Wanted;
 use cdc_types::{Event, Items};
 use std::alloc::{AllocError, Global};
 
@@ -40,25 +40,15 @@ impl Poll {
         ensures reply { IfOk result (λ reply. reply ≡ read_by ledger.now self) }
         ensures legal { IsLegal ledger.now }
     {
-        let _legal = ledger.last();
-        let events = ledger.log().read_after(alloc, self.after, self.limit)?;
-        let complete = self.is_whole(ledger, &events);
+        let wanted = Wanted {
+            after: self.after,
+            limit: self.limit,
+        };
+        let Offer { events, complete } = read(alloc, ledger, wanted)?;
         Ok(PollReply {
             poll: self,
             events: Items::from_vec(events),
             complete,
         })
-    }
-
-    /// Whether no events follow these ones, which were read, and none will.
-    fn is_whole(self, ledger: &Ledger, events: &[Event]) -> bool
-        requires { events.now ≡ take self.limit (events_after self.after (events_of ledger.now)) }
-        ensures { result ≡ none_follow ledger.now self }
-    {
-        let last = match events.last() {
-            Some(event) => event.timestamp,
-            None => self.after,
-        };
-        ledger.closed() && ledger.log().last_timestamp() <= last
     }
 }

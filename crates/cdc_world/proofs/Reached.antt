@@ -6,12 +6,17 @@ use Rattle.cdc_message.specs.Replays.{IsReplay}
 use Rattle.cdc_subscriber.specs.Heard.{kept_of}
 use Rattle.cdc_world.specs.Next.{IsReached}
 use Rattle.cdc_world.specs.Worlds.{Subscription, WorldState, numbered, queue_in, taken_items}
-use Rattle.cdc_world.proofs.ConnReached.{IsReplay-reached, IsSound-reached}
-use Rattle.cdc_world.proofs.SubServed.{IsReplay-served}
-use Rattle.cdc_world.proofs.SubSteps.{AreQueued-reached}
+use Rattle.cdc_world.specs.Orderly.{IsOrderly}
+use Rattle.cdc_world.proofs.OrderlyWorlds.{IsOrderly-reached, IsReplay-orderly}
+use Rattle.cdc_world.proofs.ServedSubscribers.{IsReplay-served}
+use Rattle.cdc_world.proofs.ServedWorlds.{AreQueued-reached}
 
 module _ (w : WorldState) (i : ℕ) (s : Subscription) (reached : IsReached w)
     (found : numbered w.subscriptions i ≡ Some s) where
+  -- ledger, connector and broker are in order
+  orderly : IsOrderly w
+  orderly = IsOrderly-reached w reached
+
   -- what it heard is a replay of its queue
   hears : IsReplay s.heard.items (queue_in w s)
   hears = IsReplay-served (queue_in w s) s (AreQueued-reached w reached i s found)
@@ -19,11 +24,11 @@ module _ (w : WorldState) (i : ℕ) (s : Subscription) (reached : IsReached w)
   -- so each subscriber is faithful
   pub faithful-reached : IsFaithful w.history s.binding s.heard
   faithful-reached =
-      IsFaithful-queue w.history s.binding s.heard (IsSound-reached w reached) (taken_items w)
-      (IsReplay-reached w reached) hears
+      IsFaithful-queue w.history s.binding s.heard orderly.sound (taken_items w)
+      (IsReplay-orderly w orderly) hears
 
   -- and what it keeps, as its readers tell it, is told by what it has applied
   pub kept-reached : kept_of s.heard ≡ kept_from s.heard
   kept-reached =
-      kept_of-queue w.history s.binding s.heard (IsSound-reached w reached) (taken_items w)
-      (IsReplay-reached w reached) hears
+      kept_of-queue w.history s.binding s.heard orderly.sound (taken_items w)
+      (IsReplay-orderly w orderly) hears

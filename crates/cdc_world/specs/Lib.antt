@@ -9,8 +9,8 @@ pub mod Stands
 pub mod Tries
 pub mod Worlds
 -- private: what private contracts, proofs and worked runs alone cite
-pub mod Connector
-pub mod Queued
+pub mod Orderly
 pub mod Refusals
 pub mod Runs
+pub mod Served
 pub mod Turns

@@ -1,5 +1,5 @@
 -- What a step answers, and the world after it.
-use Rattle.std.specs.Prelude.{◌≡◌, ◌⊎◌, ℕ, ◌&&◌, nat_le, Bool, true, false, IsTrue, Option, Some, None, Result, Ok, Err, List, [], ◌∷◌, ◌++◌, length, take}
+use Rattle.std.specs.Prelude.{◌≡◌, ◌⊎◌, ℕ, Bool, true, false, IsTrue, Option, Some, None, Result, Ok, Err, List, [], ◌∷◌, ◌++◌, take}
 use Rattle.std.specs.Option.{option_map}
 use Rattle.cdc_broker.specs.Cursors.{after_ack, after_delivery, delivery_at, rewound}
 use Rattle.cdc_broker.specs.Packets.{is_taken}
@@ -7,6 +7,7 @@ use Rattle.cdc_ledger.specs.declared.errors.BatchError.{BatchError}
 use Rattle.cdc_ledger.specs.Events.{events}
 use Rattle.cdc_ledger.specs.History.{History}
 use Rattle.cdc_ledger.specs.Submit.{submit}
+use Rattle.cdc_laws.specs.Readings.{none_follow}
 use Rattle.cdc_log.specs.Log.{events_after}
 use Rattle.cdc_match.specs.Arguments.{Arguments}
 use Rattle.cdc_message.specs.declared.items.Delivery.{Delivery}
@@ -56,10 +57,6 @@ with_batch w (Err why) = Err (Refused why)
 -- the ledger closes
 abbrev pub with_ledger_closed : WorldState → WorldState
 with_ledger_closed w = record w { history = record w.history { closed = true } }
-
--- none of the ledger's events follow those that are read after this moment, up to this number, and none will
-abbrev pub none_follow : History → Poll → Bool
-none_follow h poll = h.closed && nat_le (length (events_after poll.after (events h))) poll.limit
 
 -- ---- the connector
 
@@ -258,20 +255,15 @@ Next w step (Err OutOfMemory) w' = IsTrue (takes_memory step) × (IsTried (next 
 Next w step (Err (Store why)) w' =
     IsTrue (uses_store step) × (IsTried (next w step) × AfterFailure w step why w')
 
--- the step would be done, where memory and the store allow it
-abbrev pub IsDone : Outcome → Type 0
-IsDone (Ok after) = Unit {0}
-IsDone (Err why) = ⊥
-
--- a step of this outcome may be answered so over a store of these risks: the store fails where it may; and memory runs
--- out where the step would be done, or where the store may lack it
+-- a step of this outcome may be answered so over a store of these risks: the store fails where it may. Memory may run out
+-- wherever the step is tried: a start makes its room before it turns to the store
 abbrev pub IsStepRisked : Risks → Outcome → Result Did StepError → Type 0
 IsStepRisked risks outcome (Ok did) = Unit {0}
 IsStepRisked risks outcome (Err NotEnabled) = Unit {0}
 IsStepRisked risks outcome (Err (Refused why)) = Unit {0}
 IsStepRisked risks outcome (Err (Store why)) = IsRisked risks why
 IsStepRisked risks outcome (Err SessionsExhausted) = Unit {0}
-IsStepRisked risks outcome (Err OutOfMemory) = IsDone outcome ⊎ IsTrue risks.memory
+IsStepRisked risks outcome (Err OutOfMemory) = Unit {0}
 
 -- so a step may be answered over a store of these risks, and leave this world
 abbrev pub NextOver : Risks → WorldState → Step → Result Did StepError → WorldState → Type 0

@@ -21,7 +21,8 @@ use Rattle.cdc_types.specs.declared.steps.Step.{Step}
 use Rattle.cdc_world.specs.declared.steps.Did.{Did}
 use Rattle.cdc_world.specs.declared.steps.StepError.{StepError}
 use Rattle.cdc_world.specs.declared.steps.StepError.TheVariants.{NotEnabled, Refused, Store, SessionsExhausted, OutOfMemory}
-use Rattle.cdc_world.specs.Next.{Next, confirms_of, none_follow}
+use Rattle.cdc_laws.specs.Readings.{none_follow}
+use Rattle.cdc_world.specs.Next.{Next, confirms_of}
 use Rattle.cdc_world.specs.Parts.{ActorParts, SubscriptionParts}
 use Rattle.cdc_world.specs.Stands.{ActorsStand}
 use Rattle.cdc_world.specs.Worlds.{WorldState}

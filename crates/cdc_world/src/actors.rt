@@ -1,6 +1,7 @@
 //! The actors of a world, and the steps that leave its store alone.
 
 ghost use Rattle.std.specs.Prelude.{◌≡◌, ◌-◌, ◌<◌, ◌≤◌, false, Some, IfOk, length, option_copied, slice_get};
+ghost use Rattle.cdc_types.specs.Windows.{IsWindow};
 ghost use Rattle.cdc_types.specs.declared.steps.Step.TheVariants.{Ack, Answer, Arrive, Break, Close, CloseLedger, Crash, Poll as PollStep, Publish as PublishStep, Rewind, Send, Submit, Take};
 ghost use Rattle.cdc_world.specs.Next.{uses_store};
 ghost use Rattle.cdc_world.specs.Parts.{subscription_parts};
@@ -15,7 +16,7 @@ use cdc_ledger::Ledger;
 use cdc_match::Binding;
 use cdc_message::{Confirm, Packet};
 use cdc_publisher::Session;
-use cdc_types::{Batch, Limits, Step};
+use cdc_types::{Batch, Step};
 use std::alloc::{AllocError, Global};
 use std::marker::Model;
 
@@ -34,7 +35,7 @@ pub(crate) struct Actors {
 
 impl Model for Actors {
     ghost use Rattle.std.specs.Prelude.{◌≡◌, length, map};
-    ghost use Rattle.cdc_types.specs.declared.bounds.TheConstants.Limits.{WINDOW_TODAY};
+    ghost use Rattle.cdc_types.specs.Windows.{IsWindow};
     ghost use Rattle.cdc_world.specs.Parts.{ActorParts, subscription_parts};
 
     ghost Value = { ActorParts };
@@ -49,7 +50,7 @@ impl Model for Actors {
       subscriptions = map subscription_parts actors.subscriptions.items;
     } };
 
-    ghost invariant = { λ actors. (actors.window ≡ WINDOW_TODAY)
+    ghost invariant = { λ actors. IsWindow actors.window
         × (length actors.subscriptions.items ≡ length actors.broker.queues) };
 }
 
@@ -60,7 +61,7 @@ impl Actors {
         bindings: Vec<Binding>,
         window: usize,
     ) -> Result<Actors, AllocError>
-        requires { window ≡ Limits.WINDOW_TODAY }
+        requires { IsWindow window }
         ensures { IfOk result (λ actors. actors ≡ empty_actors bindings.items window) }
     {
         let subscriptions = empty_subscriptions(alloc, bindings.len())?;
@@ -85,7 +86,7 @@ impl Actors {
     /// For how many events a session waits at a time.
     pub(crate) fn window(&self) -> usize
         ensures value { result ≡ self.now.window }
-        ensures one { result ≡ Limits.WINDOW_TODAY }
+        ensures fits { IsWindow result }
     {
         self.window
     }

@@ -4,6 +4,7 @@ ghost use Rattle.std.specs.Prelude.{◌≡◌, ◌<◌, ◌≤◌, ℕ, Some, If
 ghost use Rattle.cdc_laws.specs.Faithful.{IsFaithful, kept_from};
 ghost use Rattle.cdc_progress.specs.Stores.{IsRisked, MayRefuseLoad};
 ghost use Rattle.cdc_subscriber.specs.Heard.{kept_of};
+ghost use Rattle.cdc_types.specs.Windows.{IsWindow};
 ghost use Rattle.cdc_types.specs.declared.steps.Step.TheVariants.{Save, Start};
 ghost use Rattle.cdc_world.specs.Moves.{IsStoreCounted, Moves, PlayFixesClosed, PlayFixesClosedBy, Plays, PlaysBy, StepFixesClosed};
 ghost use Rattle.cdc_world.specs.Next.{IsReached};
@@ -18,7 +19,7 @@ use cdc_match::Binding;
 use cdc_progress::{Progress, ProgressStore, StoreError};
 use cdc_publisher::Session;
 use cdc_subscriber::Subscriber;
-use cdc_types::{Limits, Step};
+use cdc_types::Step;
 use std::alloc::{AllocError, Global};
 use std::marker::Model;
 
@@ -73,7 +74,7 @@ impl<S: ProgressStore + Drop> World<S> {
         window: usize,
         store: S,
     ) -> Result<World<S>, AllocError>
-        requires { window ≡ Limits.WINDOW_TODAY }
+        requires { IsWindow window }
         ensures stands { IfOk result
             (λ world. Stands world (new_world bindings.items window (S.held store))) }
         ensures honest { IfOk result (λ world. world.honest ≡ S.is_honest store) }

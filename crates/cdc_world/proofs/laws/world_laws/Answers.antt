@@ -1,6 +1,6 @@
-use Rattle.cdc_world.proofs.Leading.{IsReached-new, IsReached-next, IsReached-played, IsReached-played-past}
+use Rattle.cdc_world.proofs.ReachedWorlds.{IsReached-new, IsReached-next, IsReached-played, IsReached-played-past}
 use Rattle.cdc_world.proofs.Reached.{faithful-reached}
-use Rattle.cdc_world.proofs.SubClosed.{AllStay-next}
+use Rattle.cdc_world.proofs.ClosedSubscribers.{AllStay-next}
 use Rattle.cdc_world.proofs.laws.world_laws.Goals as goal
 
 pub returns-clause-faithful : goal.returns-clause-faithful

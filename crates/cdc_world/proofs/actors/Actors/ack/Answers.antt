@@ -1,9 +1,9 @@
 use Rattle.std.proofs.Common.{Ok, refl, sym, ◌∙◌}
 use Rattle.cdc_types.specs.declared.steps.Step.TheVariants.{Ack}
 use Rattle.cdc_world.specs.declared.steps.Did.TheVariants.{Counted}
-use Rattle.cdc_world.proofs.Places.{numbered_none, numbered_some}
-use Rattle.cdc_world.proofs.Stepping.{at_entry, at_entry_unchanged}
-use Rattle.cdc_world.proofs.Subscribing.{ack_at, ack_at_none}
+use Rattle.cdc_world.proofs.NumberedElements.{numbered_none, numbered_some}
+use Rattle.cdc_world.proofs.ActorMoves.{at_entry, at_entry_unchanged}
+use Rattle.cdc_world.proofs.SubscriberMoves.{ack_at, ack_at_none}
 use Rattle.cdc_world.proofs.actors.Actors.ack.Goals as goal
 
 pub returns-in_err-ack : goal.returns-in_err-ack

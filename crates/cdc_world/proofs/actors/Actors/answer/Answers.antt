@@ -1,9 +1,9 @@
 use Rattle.std.proofs.Common.{Ok, sym, ◌∙◌}
 use Rattle.cdc_types.specs.declared.steps.Step.TheVariants.{Answer}
 use Rattle.cdc_world.specs.declared.steps.Did.TheVariants.{Counted}
-use Rattle.cdc_world.proofs.Connecting.{answer_done}
-use Rattle.cdc_world.proofs.Places.{numbered_some}
-use Rattle.cdc_world.proofs.Stepping.{at_entry}
+use Rattle.cdc_world.proofs.ConnectorMoves.{answer_done}
+use Rattle.cdc_world.proofs.NumberedElements.{numbered_some}
+use Rattle.cdc_world.proofs.ActorMoves.{at_entry}
 use Rattle.cdc_world.proofs.actors.Actors.answer.Goals as goal
 
 pub returns : goal.returns

@@ -1,9 +1,9 @@
 use Rattle.std.proofs.Common.{Ok, sym, ◌∙◌}
 use Rattle.cdc_types.specs.declared.steps.Step.TheVariants.{Arrive}
 use Rattle.cdc_world.specs.declared.steps.Did.TheVariants.{Arrived}
-use Rattle.cdc_world.proofs.Arriving.{arrive_done}
-use Rattle.cdc_world.proofs.Places.{numbered_some}
-use Rattle.cdc_world.proofs.Stepping.{at_entry}
+use Rattle.cdc_world.proofs.BrokerMoves.{arrive_done}
+use Rattle.cdc_world.proofs.NumberedElements.{numbered_some}
+use Rattle.cdc_world.proofs.ActorMoves.{at_entry}
 use Rattle.cdc_world.proofs.actors.Actors.arrive.Goals as goal
 
 pub returns : goal.returns

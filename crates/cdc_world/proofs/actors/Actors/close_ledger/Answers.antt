@@ -1,7 +1,7 @@
 use Rattle.std.proofs.Common.{Ok}
 use Rattle.cdc_types.specs.declared.steps.Step.TheVariants.{CloseLedger}
 use Rattle.cdc_world.specs.declared.steps.Did.TheVariants.{Done}
-use Rattle.cdc_world.proofs.Stepping.{at_entry, close_done}
+use Rattle.cdc_world.proofs.ActorMoves.{at_entry, close_done}
 use Rattle.cdc_world.proofs.actors.Actors.close_ledger.Goals as goal
 
 pub returns : goal.returns

@@ -1,5 +1,5 @@
 use Rattle.std.proofs.Common.{◌∙◌}
-use Rattle.cdc_world.proofs.Stepping.{new_counts}
+use Rattle.cdc_world.proofs.ActorMoves.{new_counts}
 use Rattle.cdc_world.proofs.actors.Actors.new.Goals as goal
 
 pub invariant_of-result : goal.invariant_of-result

@@ -1,8 +1,8 @@
 use Rattle.std.proofs.Common.{Ok, refl, sym, ◌∙◌}
 use Rattle.cdc_types.specs.declared.steps.Step.TheVariants.{Send}
 use Rattle.cdc_world.specs.declared.steps.Did.TheVariants.{Done}
-use Rattle.cdc_world.proofs.Stepping.{at_entry, at_entry_err}
-use Rattle.cdc_world.proofs.Subscribing.{send_at, send_at_refused}
+use Rattle.cdc_world.proofs.ActorMoves.{at_entry, at_entry_err}
+use Rattle.cdc_world.proofs.SubscriberMoves.{send_at, send_at_refused}
 use Rattle.cdc_world.proofs.actors.Actors.send.Goals as goal
 
 pub returns-in_err-hand_out : goal.returns-in_err-hand_out

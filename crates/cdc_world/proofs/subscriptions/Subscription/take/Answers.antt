@@ -1,6 +1,6 @@
 use Rattle.std.proofs.Common.{refl, subst, ◌∙◌, ap, ◌++◌, ◌∷◌, [], List, ℕ, Ok, Result, OnOk, arith, ◌<◌, length, ◌≡◌}
 use Rattle.cdc_world.specs.Parts.{subscription_parts}
-use Rattle.cdc_world.proofs.Subscribing.{answered_is, mapped_ok, taken_is}
+use Rattle.cdc_world.proofs.SubscriberMoves.{answered_is, mapped_ok, taken_is}
 use Rattle.cdc_subscriber.specs.declared.subscriber.Taking.{Taking}
 use Rattle.cdc_subscriber.specs.declared.errors.TakeError.{TakeError}
 use Rattle.cdc_subscriber.specs.Heard.{kept_of, next}

@@ -1,5 +1,5 @@
 use Rattle.std.proofs.Common.{refl}
-use Rattle.cdc_world.proofs.Stepping.{new_stands}
+use Rattle.cdc_world.proofs.ActorMoves.{new_stands}
 use Rattle.cdc_world.proofs.world.World.new.Goals as goal
 
 pub returns-clause-stands : goal.returns-clause-stands

@@ -1,7 +1,6 @@
 use Rattle.cdc_world.specs.Next.{NextOver}
-use Rattle.cdc_world.proofs.Fixed.{PlayFixesClosed-plays}
-use Rattle.cdc_world.proofs.Playing.{Plays-once}
-use Rattle.cdc_world.proofs.SubClosed.{AllStay-over}
+use Rattle.cdc_world.proofs.PlayMoves.{Plays-once}
+use Rattle.cdc_world.proofs.ClosedSubscribers.{AllStay-over, PlayFixesClosed-plays}
 use Rattle.cdc_world.proofs.world.World.play.Goals as goal
 
 pub returns-clause-plays : goal.returns-clause-plays

@@ -1,8 +1,7 @@
 use Rattle.std.proofs.Common.{Ok, Err, Some, None, length}
 use Rattle.cdc_world.specs.Tries.{NextPast}
-use Rattle.cdc_world.proofs.Fixed.{PlayFixesClosed-plays}
-use Rattle.cdc_world.proofs.Playing.{HasDone-more, MovesBy-past, Plays-ended, Plays-stopped}
-use Rattle.cdc_world.proofs.SubClosed.{AllStay-past}
+use Rattle.cdc_world.proofs.PlayMoves.{HasDone-more, MovesBy-past, Plays-ended, Plays-stopped}
+use Rattle.cdc_world.proofs.ClosedSubscribers.{AllStay-past, PlayFixesClosed-plays}
 use Rattle.cdc_world.proofs.world.World.play_past.Goals as goal
 
 pub loop-done-preserved : goal.loop-done-preserved

@@ -1,5 +1,5 @@
 use Rattle.cdc_world.specs.Tries.{NextPast}
-use Rattle.cdc_world.proofs.Playing.{HasDone}
+use Rattle.cdc_world.proofs.PlayMoves.{HasDone}
 use Rattle.cdc_world.proofs.world.World.play_past.Given as goal
 
 abbrev pub invariant-loop-done : goal.invariant-loop-done

@@ -3,8 +3,8 @@ use Rattle.std.specs.Prelude.{option_copied}
 use Rattle.cdc_types.specs.declared.steps.Step.TheVariants.{Save}
 use Rattle.cdc_world.specs.declared.steps.Did.TheVariants.{Done}
 use Rattle.cdc_world.specs.Refusals.{store_refusal}
-use Rattle.cdc_world.proofs.Connecting.{save_done, save_failed, save_refused}
-use Rattle.cdc_world.proofs.Stepping.{Moves-risked, moves_entry, moves_entry_err}
+use Rattle.cdc_world.proofs.ConnectorMoves.{save_done, save_failed, save_refused}
+use Rattle.cdc_world.proofs.ActorMoves.{Moves-risked, moves_entry, moves_entry_err}
 use Rattle.cdc_world.proofs.world.World.save.Goals as goal
 
 pub returns-in_err-save-clause-next : goal.returns-in_err-save-clause-next

@@ -3,8 +3,8 @@ use Rattle.std.specs.Prelude.{option_copied}
 use Rattle.cdc_types.specs.declared.steps.Step.TheVariants.{Start}
 use Rattle.cdc_world.specs.declared.steps.Did.TheVariants.{Done}
 use Rattle.cdc_world.specs.Refusals.{start_refusal}
-use Rattle.cdc_world.proofs.Connecting.{none_of, start_done, start_failed, start_refused}
-use Rattle.cdc_world.proofs.Stepping.{Moves-risked, moves_entry, moves_entry_err}
+use Rattle.cdc_world.proofs.ConnectorMoves.{none_of, start_done, start_failed, start_refused}
+use Rattle.cdc_world.proofs.ActorMoves.{Moves-risked, moves_entry, moves_entry_err}
 use Rattle.cdc_world.proofs.world.World.start.Goals as goal
 
 pub returns-in_err-session-clause-next : goal.returns-in_err-session-clause-next

@@ -3,8 +3,8 @@ use Rattle.cdc_types.specs.declared.steps.Step.{Step}
 use Rattle.cdc_types.specs.declared.steps.Step.TheVariants.{Save}
 use Rattle.cdc_world.specs.Moves.{StepFixesClosed}
 use Rattle.cdc_world.specs.Parts.{Parts}
-use Rattle.cdc_world.proofs.Fixed.{StepFixesClosed-moves}
-use Rattle.cdc_world.proofs.Stepping.{Moves-actors, counted_entry, leaves_store, moves_entry}
+use Rattle.cdc_world.proofs.ClosedSubscribers.{StepFixesClosed-moves}
+use Rattle.cdc_world.proofs.ActorMoves.{Moves-actors, counted_entry, leaves_store, moves_entry}
 use Rattle.cdc_world.proofs.world.World.step.Goals as goal
 
 pub returns-in-Save-clause-fixed : goal.returns-in-Save-clause-fixed

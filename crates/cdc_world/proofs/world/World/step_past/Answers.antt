@@ -1,5 +1,5 @@
 use Rattle.std.proofs.Common.{◌∙◌, sym, arith}
-use Rattle.cdc_world.proofs.Trying.{HasFailed-more, HasFailed-none, MovesPast-last, isnt_passing}
+use Rattle.cdc_world.proofs.TriedSteps.{HasFailed-more, HasFailed-none, MovesPast-last, isnt_passing}
 use Rattle.cdc_world.proofs.world.World.step_past.Goals as goal
 
 pub loop-init : goal.loop-init

@@ -1,5 +1,5 @@
 use Rattle.std.proofs.Common.{◌≤◌}
-use Rattle.cdc_world.proofs.Trying.{HasFailed}
+use Rattle.cdc_world.proofs.TriedSteps.{HasFailed}
 use Rattle.cdc_world.proofs.world.World.step_past.Given as goal
 
 abbrev pub invariant-loop : goal.invariant-loop

@@ -2,7 +2,7 @@ use Rattle.std.proofs.Common.{sym, ap, ◌∙◌, subst}
 use Rattle.cdc_world.specs.Parts.{Parts, SubscriptionParts, subscription_parts}
 use Rattle.cdc_world.specs.Stands.{ActorsStand}
 use Rattle.cdc_world.proofs.Reached.{faithful-reached, kept-reached}
-use Rattle.cdc_world.proofs.Subscribing.{parts_read}
+use Rattle.cdc_world.proofs.SubscriberMoves.{parts_read}
 use Rattle.cdc_world.proofs.world.World.subscriber.Goals as goal
 
 pub returns-clause-applied : goal.returns-clause-applied

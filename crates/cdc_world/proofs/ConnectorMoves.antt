@@ -22,13 +22,14 @@ use Rattle.cdc_types.specs.declared.steps.Step.TheVariants.{Start, Crash, Poll a
 use Rattle.cdc_world.specs.declared.steps.Did.TheVariants.{Counted, Done}
 use Rattle.cdc_world.specs.declared.steps.StepError.TheVariants.{NotEnabled}
 use Rattle.cdc_world.specs.Moves.{Moves, MovesBy}
-use Rattle.cdc_world.specs.Next.{IsStepRisked, IsTried, Next, Outcome, ◌>>=◌, counts, next, none_follow, success, with_answer, with_crash, with_packet, with_poll, with_progress, with_session, with_start}
+use Rattle.cdc_laws.specs.Readings.{none_follow}
+use Rattle.cdc_world.specs.Next.{IsStepRisked, IsTried, Next, Outcome, ◌>>=◌, counts, next, success, with_answer, with_crash, with_packet, with_poll, with_progress, with_session, with_start}
 use Rattle.cdc_world.specs.Parts.{ActorParts, Parts}
 use Rattle.cdc_world.specs.Refusals.{start_refusal, store_refusal}
 use Rattle.cdc_world.specs.Stands.{ActorsStand, SessionStands, Stands}
 use Rattle.cdc_world.specs.Turns.{ActorsMove, Offers, OffersAt, Sends, SendsAt}
 use Rattle.cdc_world.specs.Worlds.{WorldState, numbered}
-use Rattle.cdc_world.proofs.Stepping.{Moves-risked, unable}
+use Rattle.cdc_world.proofs.ActorMoves.{Moves-risked, unable}
 
 -- the course of a session that is there
 pub record IsCourse (kept : Kept) (session : Option Course) : Type 0 where
@@ -213,13 +214,6 @@ answer_done a kept kept' k confirm counted is there answer stands = (
       ),
 )
 
--- there is no confirm of this number
-pub answer_none : (a : ActorParts) (kept : Kept) (k : ℕ) → a.session ≡ Some kept → numbered a.confirms k ≡ None
-    → ActorsMove a (Answer k) (Err NotEnabled) a
-answer_none a kept k is none =
-    unable a (Answer k)
-    (λ w st. let at = course_of a w kept st is in answers_next a w k at.course None st at.is none)
-
 -- a step of a session isn't enabled where the connector is down
 pub down : (a : ActorParts) (step : Step) (rest : WorldState → Course → Outcome)
     → ((w : WorldState) → next w step ≡ (w.session >>= rest w)) → a.session ≡ None
@@ -241,10 +235,6 @@ with_held : (p : Parts) (w : WorldState) (held : Option Saved) (honest : Bool) (
     → Stands (record p { held = held; honest = honest; failed = failed'; risks = risks }) (record w { held = held' })
 with_held p w held honest risks failed' held' st same =
     record { actors = actors_held p.actors w held' st.actors; held = same }
-
--- so a store that failed once more, or didn't, changes nothing of it
-pub Stands-counted : (p : Parts) (w : WorldState) (failed' : ℕ) → Stands p w → Stands (record p { failed = failed' }) w
-Stands-counted p w failed' st = record { actors = st.actors; held = st.held }
 
 -- a save is done where there is a session, and its progress is held then
 saves_next : (w : WorldState) (course : Course) → w.session ≡ Some course
@@ -437,14 +427,14 @@ save_risked : (risks : Risks) (outcome : Outcome) (why : StoreError) → IsRiske
 save_risked risks outcome store.ReadFault may = may
 save_risked risks outcome store.WriteFault may = may
 save_risked risks outcome store.BadRecord may = may
-save_risked risks outcome store.OutOfMemory may = inr may
+save_risked risks outcome store.OutOfMemory may = tt
 
 -- and so is a start
 start_risked : (risks : Risks) (outcome : Outcome) (why : StartError) → IsStartRisked risks why
     → IsStepRisked risks outcome (Err (start_refusal why))
 start_risked risks outcome (start.Store why) may = may
 start_risked risks outcome start.SessionsExhausted may = tt
-start_risked risks outcome start.OutOfMemory may = inr may
+start_risked risks outcome start.OutOfMemory may = tt
 
 -- so a save that fails
 pub save_refused : (p : Parts) (why : StoreError) (p' : Parts) → IsRisked p.risks why

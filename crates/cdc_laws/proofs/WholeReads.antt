@@ -1,14 +1,24 @@
--- A read of the log has all that is later than its moment where its last event is the log's last.
-use Rattle.std.proofs.Common.{◌≡◌, ℕ, ◌-◌, ◌<◌, ◌≤◌, Bool, true, false, Some, None, List, [], ◌∷◌, ◌++◌, zero, suc, refl, sym, ap, ap₂, ◌∙◌, append-nil, length, take, arith}
-use Rattle.std.specs.Prelude.{nat_le, ◌&&◌}
+-- What is read of a ledger's log may be offered to a session, and it is all that is wanted where its last event is the
+-- log's last.
+use Rattle.std.proofs.Common.{◌≡◌, ℕ, ◌-◌, ◌<◌, ◌≤◌, Bool, true, false, Some, None, List, [], ◌∷◌, ◌++◌, zero, suc, refl, sym, ap, ap₂, ◌∙◌, append-nil, length, take, get_or, length-take, subst, arith}
+use Rattle.std.specs.Prelude.{Contains, nat_le, ◌&&◌}
 use Rattle.std.specs.List.{AllByRecursion, slice_get}
 use Rattle.std.proofs.lemmas.Bool.Decides.{nat_tests}
+use Rattle.std.proofs.lemmas.List.Elements.{Contains-append_right, Contains-get_or}
+use Rattle.cdc_laws.specs.Readings.{none_follow}
+use Rattle.cdc_laws.proofs.Lines.{events_past, split_events}
+use Rattle.cdc_laws.proofs.Places.{each_has}
 use Rattle.cdc_laws.proofs.Splits.{split_at}
 use Rattle.cdc_ledger.specs.Events.{events}
 use Rattle.cdc_ledger.specs.History.{History}
+use Rattle.cdc_ledger.specs.Sound.{IsSound}
+use Rattle.cdc_ledger.specs.Submit.{IsLegal}
+use Rattle.cdc_ledger.specs.Verdict.{max_timestamp}
+use Rattle.cdc_ledger.proofs.KeptLaws.{IsSound-from_legal}
 use Rattle.cdc_log.specs.Log.{RiseFrom, events_after}
-use Rattle.cdc_traffic.specs.Answering.{none_follow}
-use Rattle.cdc_traffic.specs.declared.polls.Poll.{Poll}
+use Rattle.cdc_publisher.specs.Offers.{IsReply}
+use Rattle.cdc_publisher.specs.declared.session.Poll.{Poll}
+use Rattle.cdc_message.proofs.ReplayLaws.{Contains-take_all}
 use Rattle.cdc_types.specs.declared.events.Event.{Event}
 use Rattle.cdc_types.proofs.Rising.{last_timestamp_from-slice_get}
 use Rattle.cdc_types.specs.Timestamps.{last_timestamp, last_timestamp_from}
@@ -62,6 +72,35 @@ take_rise : (t n : ℕ) (es : List Event) → RiseFrom t es → RiseFrom t (take
 take_rise t zero es rise = tt
 take_rise t (suc n) [] rise = tt
 take_rise t (suc n) (e ∷ es) rise = (rise.0, take_rise e.timestamp n es rise.1)
+
+-- what is read is of the history's events
+pub Contains-read : (h : History) (after limit : ℕ) (e : Event) → IsSound h
+    → Contains (take limit (events_after after (events h))) e → Contains (events h) e
+Contains-read h after limit e sound there =
+    let later : List Event = events_after after (events h) in
+    let cut = split_events h after sound in
+    subst (λ es. Contains es e) (sym cut.1.whole)
+    (Contains-append_right cut.0 later e (Contains-take_all limit later e there))
+
+-- so it may be offered: no timestamp is past the last one that the ledger gave out
+pub IsReply-read : (h : History) (poll : Poll) → IsLegal h
+    → IsReply poll (take poll.limit (events_after poll.after (events h)))
+IsReply-read h poll legal =
+    let sound : IsSound h = IsSound-from_legal h legal in
+    let later : List Event = events_after poll.after (events h) in
+    let cut = split_events h poll.after sound in
+    record {
+      count = omega (arith, length-take poll.limit later);
+      rising = take_rise poll.after poll.limit later cut.1.rise;
+      fits = λ k d below.
+          let e : Event = get_or (take poll.limit later) k d in
+          let there : Contains (events h) e =
+          Contains-read h poll.after poll.limit e sound (Contains-get_or (take poll.limit later) k d below) in
+          let past : e.timestamp ≤ h.last =
+          each_has (λ x. x.timestamp ≤ h.last) (events h) e (events_past h sound) there in
+          let within : h.last ≤ max_timestamp = sound.within in
+          omega (arith, past, within);
+    }
 
 -- so a read of a closed ledger's log is whole where its last event is the log's last, and where it has none and the log
 -- has none later than the moment

@@ -1,10 +1,10 @@
 -- Elements by their numbers, and what stands at them.
-use Rattle.std.proofs.Common.{◌≡◌, ℕ, ◌-◌, ◌<◌, ◌≤◌, ◌==◌, Bool, true, false, List, [], ◌∷◌, ◌++◌, Some, None, zero, suc, refl, sym, ap, ◌∙◌, subst, length, map, get_or, inl, inr, arith}
+use Rattle.std.proofs.Common.{◌≡◌, ℕ, ◌-◌, ◌<◌, ◌≤◌, ◌==◌, Bool, true, false, List, [], ◌∷◌, Some, None, zero, suc, refl, sym, ap, ◌∙◌, subst, length, map, get_or, inl, inr, arith}
 use Rattle.std.specs.Prelude.{Contains, nat_lt, option_map, if◌then◌else◌}
 use Rattle.std.specs.List.{slice_get}
 use Rattle.std.proofs.lemmas.Bool.{cases_Bool, eqb-true, eqb-false}
 use Rattle.std.proofs.lemmas.Option.{none-some, slice_get-map, slice_get_read}
-use Rattle.cdc_laws.proofs.Places.{Contains_slice_get, slice_get-append}
+use Rattle.cdc_laws.proofs.Places.{Contains_slice_get}
 use Rattle.cdc_world.specs.declared.subscriptions.Subscription.{Subscription}
 use Rattle.cdc_world.specs.Parts.{subscription_parts}
 use Rattle.cdc_world.specs.Turns.{place_in}
@@ -38,13 +38,6 @@ numbered_from xs k x above h =
       | inl is ↦ absurd (omega (arith, eqb-true k 0 is))
       | inr not ↦ rw not h
     ]
-
--- an element keeps its number where its list grows at the back, as the line of a ledger does
-pub numbered-append : {X : Type 0} (xs ys : List X) (k : ℕ) (x : X) → numbered xs k ≡ Some x
-    → numbered (xs ++ ys) k ≡ Some x
-numbered-append xs ys k x h =
-    let parts = numbered_parts xs k x h in
-    numbered_from (xs ++ ys) k x parts.0 (slice_get-append xs ys (k - 1) x parts.1)
 
 -- a packet that a step names by its number is one that was sent, and so is a confirm
 pub Contains_numbered : {X : Type 0} (xs : List X) (k : ℕ) (x : X) → numbered xs k ≡ Some x → Contains xs x

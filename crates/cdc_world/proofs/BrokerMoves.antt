@@ -1,5 +1,5 @@
 -- What is kept of the actors after a packet came to the broker.
-use Rattle.std.proofs.Common.{◌≡◌, ℕ, Bool, true, false, List, [], ◌∷◌, ◌++◌, Option, Some, None, Ok, Err, refl, sym, ap, ap₂, ◌∙◌, subst, map}
+use Rattle.std.proofs.Common.{◌≡◌, ℕ, Bool, true, false, List, [], ◌∷◌, ◌++◌, Option, Some, Ok, refl, sym, ap, ap₂, ◌∙◌, subst, map}
 use Rattle.cdc_broker.specs.Broker.{BrokerState, after_packet, takes_packet}
 use Rattle.cdc_broker.specs.Packets.{expected_after, is_taken, is_taken_at, items_of, session_after}
 use Rattle.cdc_message.specs.declared.items.Item.{Item}
@@ -8,15 +8,13 @@ use Rattle.cdc_message.specs.declared.packets.Packet.{Packet}
 use Rattle.cdc_message.specs.declared.packets.Packet.TheVariants.{Connect, Publish}
 use Rattle.cdc_types.specs.declared.steps.Step.TheVariants.{Arrive}
 use Rattle.cdc_world.specs.declared.steps.Did.TheVariants.{Arrived}
-use Rattle.cdc_world.specs.declared.steps.StepError.TheVariants.{NotEnabled, OutOfMemory}
 use Rattle.cdc_world.specs.Next.{◌>>=◌, arrival, confirms_of, next, with_arrival}
 use Rattle.cdc_world.specs.Parts.{ActorParts}
 use Rattle.cdc_world.specs.Stands.{ActorsStand, BrokerSide, SubscribersStand, broker_of, broker_parts, queue_for}
 use Rattle.cdc_world.specs.Turns.{ActorsMove, ComesTo}
 use Rattle.cdc_world.specs.Worlds.{Subscription, WorldState, numbered}
 use Rattle.cdc_laws.proofs.Taking.{current_session-push, expected_tag-push}
-use Rattle.cdc_world.proofs.Queueing.{handed_after, items_of-connected, items_of-published, queues_after}
-use Rattle.cdc_world.proofs.Stepping.{lacking, tried, unable}
+use Rattle.cdc_world.proofs.QueueViews.{handed_after, items_of-connected, items_of-published, queues_after}
 
 -- whether the broker takes a packet
 takes_is : (a : ActorParts) (w : WorldState) (packet : Packet) → ActorsStand a w
@@ -145,22 +143,3 @@ arrive_done a packet k false b' confirms' there comes =
     (subst (λ (cs : List Confirm). ActorsMove a (Arrive k) (Ok (Arrived false)) (record a { confirms = cs }))
     (sym comes.1.1)
     (arrive_passed a packet k there comes.0))
-
--- where memory ran out
-pub arrive_lacking : (a : ActorParts) (packet : Packet) (k : ℕ) (b' : BrokerState) (confirms' : List Confirm)
-    → numbered a.packets k ≡ Some packet → (b' ≡ a.broker) × (confirms' ≡ a.confirms)
-    → ActorsMove a (Arrive k) (Err OutOfMemory) (record a { broker = b'; confirms = confirms' })
-arrive_lacking a packet k b' confirms' there same =
-    subst (λ (b : BrokerState). ActorsMove a (Arrive k) (Err OutOfMemory) (record a {
-      broker = b;
-      confirms = confirms';
-    })) (sym same.0)
-    (subst (λ (cs : List Confirm). ActorsMove a (Arrive k) (Err OutOfMemory) (record a { confirms = cs })) (sym same.1)
-    (lacking a (Arrive k) refl (λ w st. tried w _ (Arrive k) _
-    (arrives w k packet (is_taken w.accepted packet) (packet_is a w k (Some packet) st there) refl))))
-
--- there is no packet of this number
-pub arrive_none : (a : ActorParts) (k : ℕ) → numbered a.packets k ≡ None → ActorsMove a (Arrive k) (Err NotEnabled) a
-arrive_none a k none =
-    unable a (Arrive k)
-    (λ w st. ap (λ (found : Option Packet). found >>= arrival w) (packet_is a w k None st none))

@@ -28,9 +28,9 @@ use Rattle.cdc_world.specs.Parts.{ActorParts, SubscriptionParts, subscription_pa
 use Rattle.cdc_world.specs.Stands.{ActorsStand, HasHandedOut, IsHandedOut, QueueView, parts_of, queue_for, view_of}
 use Rattle.cdc_world.specs.Turns.{ActorsMove, HandsAt, HasClosed, HasTaken, TakesAt, place_in}
 use Rattle.cdc_world.specs.Worlds.{Subscription, WorldState, numbered, taken_items}
-use Rattle.cdc_world.proofs.Places.{Contains_numbered, IsPlace, numbered_place, place_is, slice_get_made, subscription_here}
-use Rattle.cdc_world.proofs.Queueing.{handed_here, handed_set, set_found, set_same}
-use Rattle.cdc_world.proofs.Stepping.{lacking, tried, unable}
+use Rattle.cdc_world.proofs.NumberedElements.{Contains_numbered, IsPlace, numbered_place, place_is, slice_get_made, subscription_here}
+use Rattle.cdc_world.proofs.QueueViews.{handed_here, handed_set, set_found, set_same}
+use Rattle.cdc_world.proofs.ActorMoves.{lacking, tried, unable}
 
 -- ---- one subscription and its queue
 

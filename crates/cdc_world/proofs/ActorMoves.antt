@@ -1,12 +1,10 @@
 -- What is kept of the actors after a step that leaves the store alone, and the state that it stands for.
-use Rattle.std.proofs.Common.{◌≡◌, ℕ, true, false, IsTrue, List, [], ◌∷◌, Option, Some, None, Result, Ok, Err, inl, refl, sym, ap, ◌∙◌, subst, map, length, replicate, arith}
+use Rattle.std.proofs.Common.{◌≡◌, ℕ, true, false, IsTrue, List, [], ◌∷◌, Option, Result, Ok, Err, refl, sym, ap, ◌∙◌, subst, map, length, replicate, arith}
 use Rattle.std.specs.Result.{IsErrAnd}
 use Rattle.std.proofs.lemmas.List.{length-map, length-replicate}
 use Rattle.cdc_broker.specs.Broker.{BrokerState, empty_broker}
 use Rattle.cdc_broker.specs.Queues.{empty_queue}
-use Rattle.cdc_ledger.specs.declared.errors.BatchError.{BatchError}
 use Rattle.cdc_ledger.specs.History.{History}
-use Rattle.cdc_publisher.specs.Courses.{next_packet, next_poll}
 use Rattle.cdc_ledger.specs.Submit.{submit}
 use Rattle.cdc_match.specs.Arguments.{Arguments}
 use Rattle.cdc_progress.specs.Records.{Saved}
@@ -21,12 +19,12 @@ use Rattle.cdc_world.specs.declared.steps.Did.TheVariants.{Submitted, Done}
 use Rattle.cdc_world.specs.declared.steps.StepError.{StepError}
 use Rattle.cdc_world.specs.declared.steps.StepError.TheVariants.{NotEnabled, Refused, Store, SessionsExhausted, OutOfMemory}
 use Rattle.cdc_world.specs.Moves.{IsStoreCounted, Moves, MovesBy}
-use Rattle.cdc_world.specs.Next.{IsDone, IsStepRisked, IsTried, Next, Outcome, ◌>>=◌, acknowledgement, arrival, next, next_delivery, first_flight, success, taking, takes_memory, uses_store, with_answer, with_batch, with_break, with_close, with_crash, with_delivery, with_ledger_closed, with_packet, with_poll, with_rewind, with_subscription}
+use Rattle.cdc_world.specs.Next.{IsStepRisked, IsTried, Next, next, takes_memory, uses_store, with_batch, with_ledger_closed}
 use Rattle.cdc_world.specs.declared.subscriptions.Subscription.{Subscription as Kept_subscription}
 use Rattle.cdc_world.specs.Parts.{ActorParts, Parts, subscription_parts}
 use Rattle.cdc_world.specs.Stands.{ActorsStand, HaveHandedOut, Stands, parts_of, queue_for, view_of}
 use Rattle.cdc_world.specs.Turns.{ActorsMove, IsNotOfStore, IsOfActors, empty_actors, empty_subscription}
-use Rattle.cdc_world.specs.Worlds.{WorldState, new_subscription, new_world, numbered}
+use Rattle.cdc_world.specs.Worlds.{WorldState, new_subscription, new_world}
 
 -- ---- of every step
 
@@ -89,54 +87,7 @@ pub Moves-risked : (p : Parts) (step : Step) (answer : Result Did StepError) (p'
 Moves-risked p step answer p' moves risked honest w st =
     let after = moves honest w st in (after.0, (after.1.0, (after.1.1, risked w st)))
 
--- where something is there, what is done with it is done where it is tried
-done_with : {A : Type 0} (found : Option A) (rest : A → Outcome) → ((x : A) → IsTried (rest x) → IsDone (rest x))
-    → IsTried (found >>= rest) → IsDone (found >>= rest)
-done_with None rest done tried = tried
-done_with (Some x) rest done tried = done x tried
-
--- a batch that is tried is taken
-batch_done : (w : WorldState) (answer : Result (BatchResults × History) BatchError) → IsTried (with_batch w answer)
-    → IsDone (with_batch w answer)
-batch_done w (Ok taken) tried = tt
-batch_done w (Err why) tried = tried
-
--- a step that leaves the store alone is done where it is tried: it wants no number for a session
-tried_done : (w : WorldState) (step : Step) → uses_store step ≡ false → IsTried (next w step) → IsDone (next w step)
-tried_done w (Submit batch) own tried = batch_done w (submit w.history batch) tried
-tried_done w CloseLedger own tried = tt
-tried_done w Start own tried = cc
-tried_done w Crash own tried = done_with w.session (λ course. success (with_crash w)) (λ course t. tt) tried
-tried_done w PollStep own tried =
-    done_with w.session (λ course. next_poll course >>= (λ poll. success (with_poll w course poll)))
-    (λ course. done_with (next_poll course) (λ poll. success (with_poll w course poll)) (λ poll t. tt)) tried
-tried_done w PublishStep own tried =
-    done_with w.session (λ course. next_packet course >>= (λ packet. success (with_packet w course packet)))
-    (λ course. done_with (next_packet course) (λ packet. success (with_packet w course packet)) (λ packet t. tt)) tried
-tried_done w (Arrive k) own tried = done_with (numbered w.packets k) (arrival w) (λ packet t. tt) tried
-tried_done w (Answer k) own tried =
-    done_with w.session (λ course. numbered w.confirms k >>= with_answer w course)
-    (λ course. done_with (numbered w.confirms k) (with_answer w course) (λ confirm t. tt)) tried
-tried_done w Save own tried = cc
-tried_done w (Send i) own tried =
-    done_with (numbered w.subscriptions i)
-    (λ s. next_delivery w s >>= (λ delivery. success (with_subscription i (with_delivery delivery s) w)))
-    (λ s. done_with (next_delivery w s) (λ delivery. success (with_subscription i (with_delivery delivery s) w))
-    (λ delivery t. tt)) tried
-tried_done w (Rewind i) own tried =
-    done_with (numbered w.subscriptions i) (λ s. success (with_subscription i (with_rewind s) w)) (λ s t. tt) tried
-tried_done w (Break i) own tried =
-    done_with (numbered w.subscriptions i) (λ s. success (with_subscription i (with_break s) w)) (λ s t. tt) tried
-tried_done w (Take i) own tried =
-    done_with (numbered w.subscriptions i) (λ s. first_flight s.flight >>= taking w i s)
-    (λ s. done_with (first_flight s.flight) (taking w i s) (λ first t. tt)) tried
-tried_done w (Ack i k) own tried =
-    done_with (numbered w.subscriptions i) (λ s. numbered s.acks k >>= acknowledgement w i s)
-    (λ s. done_with (numbered s.acks k) (acknowledgement w i s) (λ position t. tt)) tried
-tried_done w (Close i) own tried =
-    done_with (numbered w.subscriptions i) (λ s. success (with_subscription i (with_close s) w)) (λ s t. tt) tried
-
--- which each step but two does
+-- each step but two leaves the store alone
 pub leaves_store : (step : Step) → (step ≡ Start → ⊥) → (step ≡ Save → ⊥) → uses_store step ≡ false
 leaves_store (Submit batch) not-start not-save = refl
 leaves_store CloseLedger not-start not-save = refl
@@ -162,7 +113,7 @@ own_risked risks w w' step (Err NotEnabled) own of next = tt
 own_risked risks w w' step (Err (Refused why)) own of next = tt
 own_risked risks w w' step (Err (Store why)) own of next = absurd of
 own_risked risks w w' step (Err SessionsExhausted) own of next = tt
-own_risked risks w w' step (Err OutOfMemory) own of next = inl (tried_done w step own next.1.0)
+own_risked risks w w' step (Err OutOfMemory) own of next = tt
 
 -- a step of the actors is one of the world
 pub Moves-actors : (p : Parts) (actors' : ActorParts) (step : Step) (answer : Result Did StepError)

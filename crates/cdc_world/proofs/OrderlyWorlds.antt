@@ -1,0 +1,344 @@
+-- Whatever steps are taken, ledger, connector and broker keep what holds of them, so that what the broker took is a
+-- replay of the ledger's line.
+use Rattle.std.proofs.Common.{◌≡◌, ℕ, ◌-◌, true, List, [], ◌∷◌, ◌++◌, length, take, refl, sym, ap, ◌∙◌, subst, inl, inr, append-nil}
+use Rattle.std.specs.Prelude.{◌&&◌, not, nat_lt, Option, Some, None, Result, Ok, Err, Contains}
+use Rattle.std.specs.Option.{option_map}
+use Rattle.std.proofs.lemmas.Bool.{cases_Bool}
+use Rattle.std.proofs.lemmas.List.Elements.{Contains-append_left, Contains-push, Contains-push_cases}
+use Rattle.std.proofs.lemmas.Option.{cond_some, none-some, same_Some}
+use Rattle.cdc_broker.specs.Packets.{is_taken, items_of}
+use Rattle.cdc_ledger.specs.declared.errors.BatchError.{BatchError}
+use Rattle.cdc_ledger.specs.Events.{events}
+use Rattle.cdc_ledger.specs.History.{History, empty_history}
+use Rattle.cdc_ledger.specs.Sound.{IsSound}
+use Rattle.cdc_ledger.specs.Submit.{submit}
+use Rattle.cdc_ledger.proofs.KeptLaws.{IsSound-submit}
+use Rattle.cdc_ledger.proofs.SoundLaws.{IsSound-closed, IsSound-empty}
+use Rattle.cdc_laws.specs.Arrivals.{AreOfTaken, taken_of}
+use Rattle.cdc_laws.specs.Connectors.{KeepsTo, held_timestamp}
+use Rattle.cdc_laws.specs.GoingOn.{GoesOn}
+use Rattle.cdc_laws.specs.Line.{line}
+use Rattle.cdc_laws.proofs.Arrivals.{IsReplay-taken}
+use Rattle.cdc_laws.proofs.Brokers.{AreOfTaken-confirmed, AreOfTaken-taken, taken_of-push}
+use Rattle.cdc_laws.proofs.Connectors.{IsConnectorRun-keeps, KeepsTo-begin, KeepsTo-confirm, KeepsTo-end, KeepsTo-goes_on, KeepsTo-half_started, KeepsTo-save, KeepsTo-sent, KeepsTo-start}
+use Rattle.cdc_laws.proofs.GoingOn.{GoesOn-closed, GoesOn-submit}
+use Rattle.cdc_laws.proofs.Offers.{KeepsTo-offer}
+use Rattle.cdc_laws.proofs.Places.{none_there}
+use Rattle.cdc_laws.proofs.Taking.{taken_after-true}
+use Rattle.cdc_log.specs.Log.{events_after}
+use Rattle.cdc_match.specs.Arguments.{Arguments}
+use Rattle.cdc_message.specs.declared.packets.Confirm.{Confirm}
+use Rattle.cdc_message.specs.declared.packets.Packet.{Packet}
+use Rattle.cdc_message.specs.declared.packets.Packet.TheVariants.{Connect, Publish}
+use Rattle.cdc_message.specs.Replays.{IsReplay}
+use Rattle.cdc_progress.specs.Records.{Saved}
+use Rattle.cdc_publisher.specs.Courses.{Course, after_answer, all_sent, begun, new_course, next_packet, next_poll, progress_of, unconfirmed, with_offer, with_sent}
+use Rattle.cdc_publisher.specs.declared.session.Poll.{Poll}
+use Rattle.cdc_types.specs.Timestamps.{last_timestamp_from}
+use Rattle.cdc_types.specs.declared.batches.BatchResults.{BatchResults}
+use Rattle.cdc_types.specs.declared.steps.Step.{Step}
+use Rattle.cdc_types.specs.declared.steps.Step.TheVariants.{Submit, CloseLedger, Start, Crash, Poll as PollStep, Publish as PublishStep, Arrive, Answer, Save, Send, Rewind, Break, Take, Ack, Close}
+use Rattle.cdc_world.specs.Orderly.{IsOrderly, connector_in}
+use Rattle.cdc_laws.specs.Readings.{Reading, none_follow}
+use Rattle.cdc_world.specs.Next.{IsAtStart, IsReached, IsTried, Next, confirms_of, first_flight, next, next_delivery, saves, with_arrival, with_batch, with_poll, with_session, with_start}
+use Rattle.cdc_world.specs.Worlds.{Subscription, WorldState, new_world, numbered, taken_items}
+use Rattle.cdc_world.proofs.NumberedElements.{Contains_numbered}
+use Rattle.cdc_world.proofs.RelatedWorlds.{Keeps, Leaves, Leaves_on, Relates, next_leaves, reached_has}
+
+-- a store at the start holds no moment, or 0
+none_yet : (held : Option Saved) → IsAtStart held → held_timestamp held ≡ 0
+none_yet None start = refl
+none_yet (Some saved) start = start
+
+-- before the first step
+IsOrderly-new : (bindings : List Arguments) (window : ℕ) (held : Option Saved) → IsAtStart held
+    → IsOrderly (new_world bindings window held)
+IsOrderly-new bindings window held start = record {
+  sound = IsSound-empty;
+  received = [];
+  answers = λ confirm there. there;
+  connector = KeepsTo-begin empty_history held (none_yet held start);
+  arrived = [];
+  packets = λ packet there. there;
+  accepted = refl;
+  confirmed = λ session tag there. absurd (none_there _ there);
+}
+
+-- ---- where parts of the world change
+
+-- the subscribers
+IsOrderly-subscriptions : (w : WorldState) (subscriptions : List Subscription) → IsOrderly w
+    → IsOrderly (record w { subscriptions = subscriptions })
+IsOrderly-subscriptions w subscriptions is = record {
+  sound = is.sound;
+  received = is.received;
+  answers = is.answers;
+  connector = is.connector;
+  arrived = is.arrived;
+  packets = is.packets;
+  accepted = is.accepted;
+  confirmed = is.confirmed;
+}
+
+-- the ledger, which goes on
+IsOrderly-history : (w : WorldState) (g : History) → IsOrderly w → GoesOn w.history g → IsSound g
+    → IsOrderly (record w { history = g })
+IsOrderly-history w g is on sound = record {
+  sound = sound;
+  received = is.received;
+  answers = is.answers;
+  connector = KeepsTo-goes_on w.history g (connector_in w is.received) is.sound on is.connector;
+  arrived = is.arrived;
+  packets = is.packets;
+  accepted = is.accepted;
+  confirmed = is.confirmed;
+}
+
+-- the session, and what the store holds
+IsOrderly-session : (w : WorldState) (held : Option Saved) (session : Option Course) (is : IsOrderly w)
+    → KeepsTo w.history (record (connector_in w is.received) { held = held; session = session })
+    → IsOrderly (record w { held = held; session = session })
+IsOrderly-session w held session is keeps = record {
+  sound = is.sound;
+  received = is.received;
+  answers = is.answers;
+  connector = keeps;
+  arrived = is.arrived;
+  packets = is.packets;
+  accepted = is.accepted;
+  confirmed = is.confirmed;
+}
+
+-- ---- the connector
+
+-- a session that starts
+IsOrderly-started : (w : WorldState) (saved : Option Saved) → IsOrderly w → begun w.held ≡ saved
+    → Leaves IsOrderly (with_session w saved)
+IsOrderly-started w (Some saved) is new =
+    IsOrderly-session w (Some saved) (Some (new_course saved w.window)) is
+    (KeepsTo-start w.history (connector_in w is.received) saved w.window is.connector new)
+IsOrderly-started w None is new = tt
+
+-- where the connector is down
+IsOrderly-starting : (w : WorldState) (session : Option Course) → IsOrderly w → Leaves IsOrderly (with_start w session)
+IsOrderly-starting w None is = IsOrderly-started w (begun w.held) is refl
+IsOrderly-starting w (Some course) is = tt
+
+-- it is offered the events that it wants
+IsOrderly-polled : (w : WorldState) (course : Course) (poll : Poll) → IsOrderly w → w.session ≡ Some course
+    → next_poll course ≡ Some poll → IsOrderly (with_poll w course poll)
+IsOrderly-polled w course poll is there wants =
+    let asked =
+    cond_some (all_sent course && nat_lt (length (unconfirmed course)) course.window && not course.complete)
+    (record {
+      after = last_timestamp_from course.base course.offered;
+      limit = course.window - length (unconfirmed course);
+    }) poll wants in
+    let reading : Reading = record {
+      after = poll.after;
+      limit = poll.limit;
+      events = take poll.limit (events_after poll.after (events w.history));
+      complete = none_follow w.history poll;
+    } in
+    IsOrderly-session w w.held (Some (with_offer reading.events reading.complete course)) is
+    (KeepsTo-offer w.history (connector_in w is.received) course reading is.sound is.connector there
+    (record { events_are = refl; complete_is = refl }) (sym (ap (λ (p : Poll). p.after) asked.1)))
+
+-- it sends its next packet
+IsOrderly-sent : (w : WorldState) (course : Course) (packet : Packet) → IsOrderly w → w.session ≡ Some course
+    → next_packet course ≡ Some packet
+    → IsOrderly (record w { packets = w.packets ++ packet ∷ []; session = Some (with_sent (Some packet) course) })
+IsOrderly-sent w course packet is there sends = record {
+  sound = is.sound;
+  received = is.received;
+  answers = is.answers;
+  connector = KeepsTo-sent w.history (connector_in w is.received) is.connector course there packet sends;
+  arrived = is.arrived;
+  packets = λ p came. Contains-append_left w.packets (packet ∷ []) p (is.packets p came);
+  accepted = is.accepted;
+  confirmed = is.confirmed;
+}
+
+-- a confirm comes to it
+IsOrderly-answered : (w : WorldState) (course : Course) (confirm : Confirm) → IsOrderly w → w.session ≡ Some course
+    → Contains w.confirms confirm
+    → IsOrderly (record w { session = Some (after_answer course confirm.session confirm.answer) })
+IsOrderly-answered w course confirm is there sent = record {
+  sound = is.sound;
+  received = is.received ++ confirm ∷ [];
+  answers = λ c came.
+      elim (Contains-push_cases is.received confirm c came) [
+        | inl old ↦ is.answers c old
+        | inr new ↦ subst (Contains w.confirms) new sent
+      ];
+  connector = subst (λ session. KeepsTo w.history
+      (record (connector_in w (is.received ++ confirm ∷ [])) { session = session }))
+      (ap (option_map (λ x. after_answer x confirm.session confirm.answer)) there)
+      (KeepsTo-confirm w.history (connector_in w is.received) confirm is.connector);
+  arrived = is.arrived;
+  packets = is.packets;
+  accepted = is.accepted;
+  confirmed = is.confirmed;
+}
+
+-- ---- the broker
+
+-- it confirms a publish that it takes
+confirms_taken : (confirms : List Confirm) (accepted : List Packet) (packet : Packet) → AreOfTaken confirms accepted
+    → AreOfTaken (confirms ++ confirms_of packet) (accepted ++ packet ∷ [])
+confirms_taken confirms accepted (Connect session) are =
+    subst (λ cs. AreOfTaken cs (accepted ++ Connect session ∷ [])) (sym (append-nil confirms))
+    (AreOfTaken-taken confirms accepted (Connect session) are)
+confirms_taken confirms accepted (Publish session tag item) are =
+    AreOfTaken-confirmed confirms (accepted ++ Publish session tag item ∷ []) session tag item
+    (AreOfTaken-taken confirms accepted (Publish session tag item) are)
+    (Contains-push accepted (Publish session tag item))
+
+-- a packet that was sent comes to it, and it takes that
+IsOrderly-taken : (w : WorldState) (packet : Packet) → IsOrderly w → Contains w.packets packet
+    → is_taken w.accepted packet ≡ true → IsOrderly (with_arrival w packet true)
+IsOrderly-taken w packet is sent takes = record {
+  sound = is.sound;
+  received = is.received;
+  answers = λ c came. Contains-append_left w.confirms (confirms_of packet) c (is.answers c came);
+  connector = is.connector;
+  arrived = is.arrived ++ packet ∷ [];
+  packets = λ p came.
+      elim (Contains-push_cases is.arrived packet p came) [
+        | inl old ↦ is.packets p old
+        | inr new ↦ subst (Contains w.packets) new sent
+      ];
+  accepted = ap (λ ps. ps ++ packet ∷ []) is.accepted
+      ∙ sym (taken_of-push is.arrived packet
+      ∙ taken_after-true (taken_of is.arrived) packet
+      (ap (λ ps. is_taken ps packet) (sym is.accepted) ∙ takes));
+  confirmed = confirms_taken w.confirms w.accepted packet is.confirmed;
+}
+
+-- or passes over it
+IsOrderly-arrived : (w : WorldState) (packet : Packet) → IsOrderly w → Contains w.packets packet
+    → IsOrderly (with_arrival w packet (is_taken w.accepted packet))
+IsOrderly-arrived w packet is sent =
+    elim (cases_Bool (is_taken w.accepted packet)) [
+      | inl takes ↦ rw takes (IsOrderly-taken w packet is sent takes)
+      | inr passes ↦ rw passes is
+    ]
+
+-- ---- each step
+
+-- a batch, taken or refused
+IsOrderly-submitted : (w : WorldState) (answer : Result (BatchResults × History) BatchError)
+    → ((found : BatchResults × History) → answer ≡ Ok found → GoesOn w.history found.1 × IsSound found.1)
+    → IsOrderly w → Leaves IsOrderly (with_batch w answer)
+IsOrderly-submitted w (Ok found) on is =
+    let goes = on found refl in IsOrderly-history w found.1 is goes.0 goes.1
+IsOrderly-submitted w (Err why) on is = tt
+
+-- one that is done
+IsOrderly-step : (w : WorldState) (s : Step) → IsOrderly w → Leaves IsOrderly (next w s)
+IsOrderly-step w (Submit batch) is =
+    IsOrderly-submitted w (submit w.history batch)
+    (λ found answers. (
+      GoesOn-submit w.history batch found is.sound answers,
+      IsSound-submit w.history batch found is.sound answers,
+    )) is
+IsOrderly-step w CloseLedger is =
+    IsOrderly-history w (record w.history { closed = true }) is (GoesOn-closed w.history)
+    (IsSound-closed w.history is.sound)
+IsOrderly-step w Start is = IsOrderly-starting w w.session is
+IsOrderly-step w Crash is =
+    Leaves_on IsOrderly w.session _ (λ course there.
+    IsOrderly-session w w.held None is (KeepsTo-end w.history (connector_in w is.received) is.connector))
+IsOrderly-step w PollStep is =
+    Leaves_on IsOrderly w.session _ (λ course there.
+    Leaves_on IsOrderly (next_poll course) _ (λ poll wants. IsOrderly-polled w course poll is there wants))
+IsOrderly-step w PublishStep is =
+    Leaves_on IsOrderly w.session _ (λ course there.
+    Leaves_on IsOrderly (next_packet course) _ (λ packet sends. IsOrderly-sent w course packet is there sends))
+IsOrderly-step w (Arrive k) is =
+    Leaves_on IsOrderly (numbered w.packets k) _ (λ packet found.
+    IsOrderly-arrived w packet is (Contains_numbered w.packets k packet found))
+IsOrderly-step w (Answer k) is =
+    Leaves_on IsOrderly w.session _ (λ course there.
+    Leaves_on IsOrderly (numbered w.confirms k) _ (λ confirm found.
+    IsOrderly-answered w course confirm is there (Contains_numbered w.confirms k confirm found)))
+IsOrderly-step w Save is =
+    Leaves_on IsOrderly w.session _ (λ course there.
+    IsOrderly-session w (Some (progress_of course)) w.session is
+    (KeepsTo-save w.history (connector_in w is.received) course is.connector there))
+IsOrderly-step w (Send i) is =
+    Leaves_on IsOrderly (numbered w.subscriptions i) _ (λ s found.
+    Leaves_on IsOrderly (next_delivery w s) _ (λ d there. IsOrderly-subscriptions w _ is))
+IsOrderly-step w (Rewind i) is =
+    Leaves_on IsOrderly (numbered w.subscriptions i) _ (λ s found. IsOrderly-subscriptions w _ is)
+IsOrderly-step w (Break i) is =
+    Leaves_on IsOrderly (numbered w.subscriptions i) _ (λ s found. IsOrderly-subscriptions w _ is)
+IsOrderly-step w (Take i) is =
+    Leaves_on IsOrderly (numbered w.subscriptions i) _ (λ s found.
+    Leaves_on IsOrderly (first_flight s.flight) _ (λ first there. IsOrderly-subscriptions w _ is))
+IsOrderly-step w (Ack i k) is =
+    Leaves_on IsOrderly (numbered w.subscriptions i) _ (λ s found.
+    Leaves_on IsOrderly (numbered s.acks k) _ (λ position acked. IsOrderly-subscriptions w _ is))
+IsOrderly-step w (Close i) is =
+    Leaves_on IsOrderly (numbered w.subscriptions i) _ (λ s found. IsOrderly-subscriptions w _ is)
+
+-- ---- a store that fails
+
+-- a start that is tried comes where the connector is down
+tried_down : (w : WorldState) (session : Option Course) → IsTried (with_start w session) → session ≡ None
+tried_down w None tried = refl
+tried_down w (Some course) tried = absurd tried
+
+-- what a session saves
+saved_of : (session : Option Course) (saved : Saved) → option_map progress_of session ≡ Some saved
+    → (course : Course) × (session ≡ Some course) × (progress_of course ≡ saved)
+saved_of None saved is = absurd (none-some saved is)
+saved_of (Some course) saved is = (course, refl, same_Some (progress_of course) saved is)
+
+-- the record was written all the same
+IsOrderly-written : (w : WorldState) (s : Step) → IsOrderly w → (saved : Saved) → IsTried (next w s)
+    → saves w s ≡ Some saved → IsOrderly (record w { held = Some saved })
+IsOrderly-written w Start is saved tried saves =
+    IsOrderly-session w (Some saved) w.session is
+    (subst (λ session. KeepsTo w.history
+    (record (connector_in w is.received) { held = Some saved; session = session }))
+    (sym (tried_down w w.session tried))
+    (KeepsTo-half_started w.history (connector_in w is.received) saved is.connector saves))
+IsOrderly-written w Save is saved tried saves =
+    let of = saved_of w.session saved saves in
+    IsOrderly-session w (Some saved) w.session is
+    (subst (λ (s : Saved). KeepsTo w.history (record (connector_in w is.received) { held = Some s })) of.2
+    (KeepsTo-save w.history (connector_in w is.received) of.0 is.connector of.1))
+IsOrderly-written w (Submit batch) is saved tried saves = absurd (none-some saved saves)
+IsOrderly-written w CloseLedger is saved tried saves = absurd (none-some saved saves)
+IsOrderly-written w Crash is saved tried saves = absurd (none-some saved saves)
+IsOrderly-written w PollStep is saved tried saves = absurd (none-some saved saves)
+IsOrderly-written w PublishStep is saved tried saves = absurd (none-some saved saves)
+IsOrderly-written w (Arrive k) is saved tried saves = absurd (none-some saved saves)
+IsOrderly-written w (Answer k) is saved tried saves = absurd (none-some saved saves)
+IsOrderly-written w (Send i) is saved tried saves = absurd (none-some saved saves)
+IsOrderly-written w (Rewind i) is saved tried saves = absurd (none-some saved saves)
+IsOrderly-written w (Break i) is saved tried saves = absurd (none-some saved saves)
+IsOrderly-written w (Take i) is saved tried saves = absurd (none-some saved saves)
+IsOrderly-written w (Ack i k) is saved tried saves = absurd (none-some saved saves)
+IsOrderly-written w (Close i) is saved tried saves = absurd (none-some saved saves)
+
+-- ---- every world that steps lead to
+
+-- whatever is answered
+IsOrderly-next : Relates (Keeps IsOrderly) Next
+IsOrderly-next w s answer w' next is =
+    next_leaves IsOrderly w s answer w' next is (IsOrderly-written w s is) (IsOrderly-step w s is)
+
+-- so it is in each of them
+pub IsOrderly-reached : (w : WorldState) → IsReached w → IsOrderly w
+IsOrderly-reached = reached_has IsOrderly IsOrderly-next IsOrderly-new
+
+-- what the broker took is a replay of the ledger's line
+pub IsReplay-orderly : (w : WorldState) → IsOrderly w → IsReplay (taken_items w) (line w.history)
+IsReplay-orderly w is =
+    let confirmed : AreOfTaken is.received (taken_of is.arrived) =
+    subst (AreOfTaken is.received) is.accepted (λ session tag came. is.confirmed session tag (is.answers _ came)) in
+    subst (λ ps. IsReplay (items_of ps) (line w.history)) (sym is.accepted)
+    (IsReplay-taken w.history w.packets is.arrived is.received is.sound
+    (IsConnectorRun-keeps w.history (connector_in w is.received) is.connector) is.packets confirmed)
