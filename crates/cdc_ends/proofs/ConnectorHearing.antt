@@ -1,23 +1,23 @@
 -- What stays so of a connector as it receives a message.
-use Rattle.std.proofs.Common.{◌≡◌, ℕ, zero, suc, ◌+◌, ◌-◌, ◌<◌, Bool, true, false, List, [], ◌∷◌, ◌++◌, inl, inr, refl, sym, ap, ap₂, ◌∙◌, subst, length, take, drop, arith}
-use Rattle.std.specs.Prelude.{nat_lt, Contains, Option, Some, None, cond, if◌then◌else◌, filter}
+use Rattle.std.proofs.Common.{◌≡◌, ℕ, zero, suc, ◌+◌, ◌-◌, ◌<◌, Bool, true, false, List, [], ◌∷◌, ◌++◌, inl, inr, refl, sym, ap, ap₂, ◌∙◌, subst, length, take, arith}
+use Rattle.std.specs.Prelude.{Contains, Option, Some, None, if◌then◌else◌}
 use Rattle.std.specs.Option.{option_map}
-use Rattle.std.proofs.lemmas.List.{length-append, take-append-drop}
-use Rattle.std.proofs.lemmas.List.Elements.{Contains-append_cases, Contains-append_left, Contains-append_right}
+use Rattle.std.proofs.lemmas.List.{length-append}
+use Rattle.std.proofs.lemmas.List.Elements.{Contains-append_cases}
 use Rattle.std.proofs.lemmas.List.Sums.{fold-append}
 use Rattle.std.proofs.lemmas.Option.{none-some, same_Some}
-use Rattle.cdc_ends.specs.ConnectorEnds.{AreUnanswered, IsPublishing, Publishing, SessionStands, confirms_in, connector_of, packets_in, poll_for, start_of}
+use Rattle.cdc_ends.specs.ConnectorEnds.{AreUnanswered, IsPollOf, IsPublishing, Publishing, SessionStands, confirms_in, connector_of, packets_in, start_of}
 use Rattle.cdc_ends.specs.ConnectorMoves.{wanted_by}
 use Rattle.cdc_ends.proofs.ConnectorMessages.{confirms-more}
-use Rattle.cdc_ends.proofs.ConnectorSteps.{kept_of, takes_none}
-use Rattle.cdc_ends.proofs.Offering.{IsReply-read}
+use Rattle.cdc_ends.proofs.ConnectorSteps.{kept_of}
+use Rattle.cdc_laws.proofs.WholeReads.{Contains-read, IsReply-read}
 use Rattle.cdc_laws.specs.Connectors.{ConnectorState, KeepsTo}
 use Rattle.cdc_laws.specs.Readings.{AreReadings, Reading}
 use Rattle.cdc_laws.proofs.Connectors.{KeepsTo-confirm, KeepsTo-save}
 use Rattle.cdc_laws.proofs.Offers.{KeepsToReadings-offer, KeepsToReadings-unused}
-use Rattle.cdc_laws.proofs.Places.{Contains-cons_cases}
 use Rattle.cdc_ledger.specs.Events.{events}
 use Rattle.cdc_ledger.specs.History.{History}
+use Rattle.cdc_ledger.proofs.KeptLaws.{IsSound-from_legal}
 use Rattle.cdc_links.specs.Links.{Incoming, Takes, of_sender, with_received}
 use Rattle.cdc_links.proofs.Entries.{of_sender-snoc_other, of_sender-snoc_own}
 use Rattle.cdc_log.specs.Log.{events_after}
@@ -30,6 +30,7 @@ use Rattle.cdc_publisher.specs.Kept.{Kept}
 use Rattle.cdc_publisher.specs.Offers.{IsOffered, IsReply}
 use Rattle.cdc_publisher.specs.declared.session.Poll.{Poll as Wanted}
 use Rattle.cdc_publisher.proofs.Standing.{poll_of_is}
+use Rattle.cdc_publisher.proofs.Wanted.{IsReply-wanted, confirms_widen}
 use Rattle.cdc_traffic.specs.Following.{FollowsToConnector, IsReadOf, IsTold}
 use Rattle.cdc_traffic.specs.Laws.{reading_of, readings_of, with_reading}
 use Rattle.cdc_traffic.specs.Pasts.{history_of}
@@ -117,21 +118,6 @@ confirm_came old new confirm (j, name, below, follows, after) = confirm_of old n
 
 -- ---- the reply to a poll
 
--- the session wants what its open poll asks for
-asked_for : (course : Course) (number : ℕ) (poll : Poll) → poll_for (Some course) number ≡ Some poll
-    → (w : Wanted) × (next_poll course ≡ Some w) × (poll.after ≡ w.after) × (poll.limit ≡ w.limit)
-asked_for course number poll is = there (next_poll course) refl is
-  where
-    as_poll : Wanted → Poll
-    as_poll w = record { session = course.number; number = number; after = w.after; limit = w.limit }
-
-    there : (o : Option Wanted) → next_poll course ≡ o → option_map as_poll o ≡ Some poll
-        → (w : Wanted) × (next_poll course ≡ Some w) × (poll.after ≡ w.after) × (poll.limit ≡ w.limit)
-    there None here is = absurd (none-some poll is)
-    there (Some w) here is =
-        let same : as_poll w ≡ poll = same_Some (as_poll w) poll is in
-        (w, here, ap (λ (p : Poll). p.after) (sym same), ap (λ (p : Poll). p.limit) (sym same))
-
 -- it wants what follows the last event that it was offered
 wants_after : (course : Course) (w : Wanted) → next_poll course ≡ Some w
     → w.after ≡ last_timestamp_from course.base course.offered
@@ -148,24 +134,6 @@ wants_after course w is = there _ is
     there true is = ap (λ (p : Wanted). p.after) (sym (same_Some asked w is))
     there false is = absurd (none-some w is)
 
--- what was read is of the history
-from_take : {X : Type 0} (n : ℕ) (xs : List X) (x : X) → Contains (take n xs) x → Contains xs x
-from_take n xs x there =
-    subst (λ l. Contains l x) (take-append-drop n xs) (Contains-append_left (take n xs) (drop n xs) x there)
-
-first_or_later : {X : Type 0} (b : Bool) (y : X) (kept xs : List X) (x : X)
-    → (Contains kept x → Contains xs x) → Contains (cond b (y ∷ kept) kept) x → Contains (y ∷ xs) x
-first_or_later false y kept xs x later there = Contains-append_right (y ∷ []) xs x (later there)
-first_or_later true y kept xs x later there =
-    elim (Contains-cons_cases y kept x there) [
-      | inl is ↦ (0, omega arith, is)
-      | inr rest ↦ Contains-append_right (y ∷ []) xs x (later rest)
-    ]
-
-from_filter : {X : Type 0} (p : X → Bool) (xs : List X) (x : X) → Contains (filter p xs) x → Contains xs x
-from_filter p [] x there = there
-from_filter p (y ∷ xs) x there = first_or_later (p y) y (filter p xs) xs x (from_filter p xs x) there
-
 module _ (c : Publishing) (course : Course) (is : IsPublishing c (Some course))
     (inbox : Incoming ToConnector (Option Past)) (reply : PollReply) (came : IsReplyOf c.inbox inbox reply) where
   -- each event of the reply is one of a history that batches and a close make
@@ -176,9 +144,8 @@ module _ (c : Publishing) (course : Course) (is : IsPublishing c (Some course))
       ap (λ (r : PollReply). r.events) came.read.read in (
         h,
         came.read.legal,
-        from_filter (λ e. nat_lt reply.poll.after e.timestamp) (events h) event
-            (from_take reply.poll.limit (events_after reply.poll.after (events h)) event
-            (subst (λ (es : List Event). Contains es event) read there)),
+        Contains-read h reply.poll.after reply.poll.limit event (IsSound-from_legal h came.read.legal)
+            (subst (λ (es : List Event). Contains es event) read there),
       )
 
   -- one that isn't used
@@ -188,7 +155,7 @@ module _ (c : Publishing) (course : Course) (is : IsPublishing c (Some course))
       two = came.senders ∙ is.wired.two;
       polls = is.wired.polls;
       packets = is.wired.packets;
-      one = is.wired.one;
+      fits = is.wired.fits;
     };
     said = is.said;
     answers = subst (λ cs. AreUnanswered (length (packets_in c.packets.sent)) (length cs) c.unanswered c.window)
@@ -206,22 +173,23 @@ module _ (c : Publishing) (course : Course) (is : IsPublishing c (Some course))
   }
 
   module _ (asked : c.poll ≡ Some reply.poll) where
-    wanted : (w : Wanted) × (next_poll course ≡ Some w) × (reply.poll.after ≡ w.after) × (reply.poll.limit ≡ w.limit)
-    wanted = asked_for course c.asked reply.poll (is.poll reply.poll asked)
+    poll_of : IsPollOf course c.asked reply.poll
+    poll_of = is.poll reply.poll asked
 
     -- to the open poll: it may be offered
     pub offered_lawful : IsOffered (wanted_by c.session) reply.events
     offered_lawful =
         let there = kept_of c.session course is.stands in
-        let w = wanted.0 in
         let h : History = history_of came.past in
-        let read : take w.limit (events_after w.after (events h)) ≡ reply.events =
-        ap₂ (λ limit after. take limit (events_after after (events h))) (sym wanted.3) (sym wanted.2)
-        ∙ ap (λ (r : PollReply). r.events) (sym came.read.read) in
-        let wants : wanted_by c.session ≡ Some w =
-        ap wanted_by there.1 ∙ poll_of_is there.0 course there.2 ∙ wanted.1 in
+        let read : take reply.poll.limit (events_after reply.poll.after (events h)) ≡ reply.events =
+        ap (λ (r : PollReply). r.events) (sym came.read.read) in
+        let wants : wanted_by c.session ≡ next_poll course =
+        ap wanted_by there.1 ∙ poll_of_is there.0 course there.2 in
         subst (λ o. IsOffered o reply.events) (sym wants)
-        (subst (IsReply w) read (IsReply-read h w came.read.legal))
+        (IsReply-wanted course (record { after = reply.poll.after; limit = reply.poll.limit }) reply.events
+        poll_of.wanted
+        (subst (IsReply (record { after = reply.poll.after; limit = reply.poll.limit })) read
+        (IsReply-read h (record { after = reply.poll.after; limit = reply.poll.limit }) came.read.legal)))
 
     -- and is offered
     pub IsPublishing-offered : (session : Option Kept)
@@ -235,7 +203,7 @@ module _ (c : Publishing) (course : Course) (is : IsPublishing c (Some course))
             two = came.senders ∙ is.wired.two;
             polls = is.wired.polls;
             packets = is.wired.packets;
-            one = is.wired.one;
+            fits = is.wired.fits;
           };
           said = is.said;
           answers = subst (λ cs. AreUnanswered (length (packets_in c.packets.sent)) (length cs) c.unanswered c.window)
@@ -256,7 +224,8 @@ module _ (c : Publishing) (course : Course) (is : IsPublishing c (Some course))
               let state : ConnectorState = connector_of c (Some course) in
               subst (λ cs. KeepsTo h (record state { session = Some next; confirms = cs })) (sym came.confirms)
               (KeepsToReadings-offer (readings_of (of_sender 0 c.inbox.received)) state course (reading_of reply)
-              (is.keeps gives zero) refl (wanted.2 ∙ wants_after course wanted.0 wanted.1) h
+              (is.keeps gives zero) refl
+              (poll_of.wanted.after ∙ wants_after course poll_of.wanted.now poll_of.wanted.wants) h
               (subst (λ rs. AreReadings rs h) came.readings are));
         }
 
@@ -287,21 +256,17 @@ offered_kept course session Connected = refl
 offered_kept course session Ignored = refl
 offered_kept course session Broken = refl
 
--- while a poll is open no confirm counts
-poll_stays : (course : Course) (o : Option Kept) (number : ℕ) (poll : Poll) (session : ℕ) (answer : Answer)
-    → SessionStands o (Some course) → poll_for (Some course) number ≡ Some poll
-    → poll_for (Some (after_answer course session answer)) number ≡ Some poll
-poll_stays course o number poll session (Confirmed tag) stands is =
-    let there = kept_of o course stands in
-    let w = asked_for course number poll is in
-    let none : takes_confirm course session tag ≡ false =
-    takes_none there.0 w.0 (poll_of_is there.0 course there.2 ∙ w.1) course session tag there.2 in
-    ap (λ b. poll_for (Some (if b then record course { confirmed = course.confirmed ++ tag ∷ [] } else course)) number)
-    none
-    ∙ is
-poll_stays course o number poll session Connected stands is = is
-poll_stays course o number poll session Ignored stands is = is
-poll_stays course o number poll session Broken stands is = is
+-- an open poll stays one of the session: a confirm makes room for more at most
+poll_stays : (course : Course) (asked : ℕ) (poll : Poll) (session : ℕ) (answer : Answer)
+    → IsPollOf course asked poll → IsPollOf (after_answer course session answer) asked poll
+poll_stays course asked poll session (Confirmed tag) is = record {
+  session = is.session ∙ sym (number_kept course session (Confirmed tag));
+  number = is.number;
+  wanted = confirms_widen course (record { after = poll.after; limit = poll.limit }) session tag is.wanted;
+}
+poll_stays course asked poll session Connected is = is
+poll_stays course asked poll session Ignored is = is
+poll_stays course asked poll session Broken is = is
 
 module _ (c : Publishing) (course : Course) (is : IsPublishing c (Some course))
     (inbox : Incoming ToConnector (Option Past)) (confirm : Confirm) (came : IsConfirmOf c.inbox inbox confirm)
@@ -323,7 +288,7 @@ module _ (c : Publishing) (course : Course) (is : IsPublishing c (Some course))
           two = came.senders ∙ is.wired.two;
           polls = is.wired.polls;
           packets = is.wired.packets;
-          one = is.wired.one;
+          fits = is.wired.fits;
         };
         said = is.said;
         answers = record {
@@ -340,7 +305,7 @@ module _ (c : Publishing) (course : Course) (is : IsPublishing c (Some course))
         };
         first = is.first;
         poll = λ poll there.
-            poll_stays course c.session c.asked poll confirm.session confirm.answer is.stands (is.poll poll there);
+            poll_stays course c.asked poll confirm.session confirm.answer (is.poll poll there);
         keeps = λ gives zero h are.
             let state : ConnectorState = connector_of c (Some course) in
             subst (λ cs. KeepsTo h (record state { session = Some answered; confirms = cs })) (sym came.confirms)

@@ -3,7 +3,7 @@ use Rattle.std.proofs.Common.{◌≡◌, ◌==◌, ℕ, ◌+◌, ◌≤◌, Bool
 use Rattle.std.specs.Prelude.{◌&&◌, Option, Some, None, is_some, if◌then◌else◌}
 use Rattle.std.proofs.lemmas.Bool.{and_parts, eqb-true}
 use Rattle.std.proofs.lemmas.Option.{none-some}
-use Rattle.cdc_ends.specs.ConnectorEnds.{FinishedConnectorsAreDone, HasFollowed, HasSent, IsAtRest, IsConnectorEnd, IsDone, IsOfSame, IsPublishing, IsTurnIf, IsWorkingTurn, Publishing, RisesBy, SessionStands, broken_by, confirms_in, ended_by, finish_if, first_work, packets_in, planned_up_to, poll_for, polls_in, start_of}
+use Rattle.cdc_ends.specs.ConnectorEnds.{FinishedConnectorsAreDone, HasFollowed, HasSent, IsAtRest, IsConnectorEnd, IsDone, IsOfSame, IsPublishing, IsTurnIf, IsWorkingTurn, Publishing, RisesBy, SessionStands, broken_by, confirms_in, ended_by, finish_if, first_work, packets_in, planned_up_to, polls_in, start_of}
 use Rattle.cdc_ends.specs.ConnectorMoves.{IsAdvanced, IsAnswerTaken, IsBegun, IsBegunOrReceived, IsBrokenOff, IsConfirmTaken, IsFollowed, IsHeard, IsReplyTaken, IsSending}
 use Rattle.cdc_ends.proofs.ConnectorHearing.{IsPublishing-answered, IsPublishing-offered, IsPublishing-saved, IsPublishing-unused, confirm_came, number_kept, reply_came}
 use Rattle.cdc_ends.proofs.ConnectorSteps.{GoesOn-begun, IsPublishing-begun, finished-begun}
@@ -27,7 +27,7 @@ use Rattle.cdc_traffic.specs.declared.messages.ToLedger.{ToLedger}
 use Rattle.cdc_traffic.specs.declared.messages.ToLedger.TheVariants as to_ledger
 use Rattle.cdc_traffic.specs.declared.pasts.Past.{Past}
 use Rattle.cdc_traffic.specs.declared.polls.PollReply.{PollReply}
-use Rattle.cdc_types.specs.declared.bounds.TheConstants.Limits.{WINDOW_TODAY}
+use Rattle.cdc_types.specs.Windows.{IsWindow}
 
 -- what a connector's store, plan and count of publish packets say of its sessions
 rises_as : (n : ℕ) (old new : Publishing) (held : Option Saved) → new.held ≡ held
@@ -290,9 +290,7 @@ module _ (old : Publishing) (end : IsConnectorEnd old) (working : old.finished �
     stays new next same after =
         subst (λ c. HasFollowed new c) (sym same)
         (record {
-          asked = ap (λ (c : Publishing). c.poll) after
-              ∙ followed.asked
-              ∙ ap (λ n. poll_for (Some running.course) n) (sym (ap (λ (c : Publishing). c.asked) after));
+          asked = ap (λ (c : Publishing). is_some c.poll) after ∙ followed.asked;
           sent = elim followed.sent [
             | inl none ↦ inl none
             | inr full ↦ inr
@@ -398,9 +396,9 @@ took inside now new message other same is takes =
 pub begins : (inbox : Incoming ToConnector (Option Past)) (polls : Outgoing ToLedger (Unit {0}))
     (packets : Outgoing ToBroker (Unit {0})) (held : Option Saved) (honest : Bool) (window : ℕ) (restarts : List ℕ)
     → inbox.received ≡ [] → inbox.senders ≡ 2 → polls.number ≡ 0 → polls.sent ≡ [] → packets.number ≡ 0
-    → packets.sent ≡ [] → window ≡ WINDOW_TODAY
+    → packets.sent ≡ [] → IsWindow window
     → IsConnectorEnd (first_work inbox polls packets held honest window restarts)
-begins inbox polls packets held honest window restarts fresh two to_ledger asked to_broker published one =
+begins inbox polls packets held honest window restarts fresh two to_ledger asked to_broker published fits =
     let no_packets : packets_in packets.sent ≡ [] =
     ap (λ (l : List (ToBroker × Unit {0})). packets_in l) published in
     let no_confirms : confirms_in (of_sender 1 inbox.received) ≡ [] =
@@ -408,7 +406,7 @@ begins inbox polls packets held honest window restarts fresh two to_ledger asked
     record {
       course = None;
       publishing = record {
-        wired = record { two = two; polls = to_ledger; packets = to_broker; one = one };
+        wired = record { two = two; polls = to_ledger; packets = to_broker; fits = fits };
         said = subst (λ (l : List (ToLedger × Unit {0})). HasSent l packets.sent 0 false) (sym asked)
             (subst (λ (l : List (ToBroker × Unit {0})). HasSent [] l 0 false) (sym published)
             (record { asked = refl; sent = refl; counted = refl }));

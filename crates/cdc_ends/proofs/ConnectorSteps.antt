@@ -1,12 +1,10 @@
 -- What stays so of a connector at each step: as it starts a session, sends, asks, finishes, and receives.
-use Rattle.std.proofs.Common.{◌≡◌, ◌==◌, ℕ, ◌+◌, ◌-◌, ◌≤◌, Bool, true, false, List, [], ◌∷◌, ◌++◌, inl, inr, refl, sym, ap, ◌∙◌, subst, length, arith}
-use Rattle.std.specs.Prelude.{◌&&◌, not, nat_le, nat_lt, Option, Some, None, if◌then◌else◌, filter, is_none, unwrap_or}
+use Rattle.std.proofs.Common.{◌≡◌, ℕ, ◌+◌, ◌≤◌, Bool, true, false, List, [], ◌∷◌, ◌++◌, refl, sym, ap, ◌∙◌, subst, length, arith}
+use Rattle.std.specs.Prelude.{Option, Some, None, unwrap_or}
 use Rattle.std.specs.Option.{option_map}
-use Rattle.std.proofs.lemmas.Bool.{and_parts, cases_Bool, eqb-true}
 use Rattle.std.proofs.lemmas.List.{length-append}
-use Rattle.std.proofs.lemmas.Option.{cond_some, none-some}
-use Rattle.std.proofs.Math.Bool.{and-false}
-use Rattle.cdc_ends.specs.ConnectorEnds.{AreUnanswered, HasSent, IsPublishing, Publishing, SessionStands, confirms_in, connector_of, packets_in, poll_for, start_of}
+use Rattle.std.proofs.lemmas.Option.{none-some, same_Some}
+use Rattle.cdc_ends.specs.ConnectorEnds.{AreUnanswered, HasSent, IsPollOf, IsPublishing, Publishing, SessionStands, confirms_in, connector_of, packets_in, poll_for, start_of}
 use Rattle.cdc_ends.specs.ConnectorMoves.{GoesOn, IsBegun, finished_if, publish_count, with_poll}
 use Rattle.cdc_ends.proofs.ConnectorMessages.{HasSent-finished, HasSent-packet, HasSent-poll, IsPacket-next, packets-finished, packets-more, to_broker_goes_on, to_ledger_goes_on}
 use Rattle.cdc_laws.specs.Connectors.{ConnectorState, KeepsTo}
@@ -14,20 +12,16 @@ use Rattle.cdc_laws.proofs.Connectors.{KeepsTo-sent, KeepsTo-start, begun_parts}
 use Rattle.cdc_laws.proofs.Places.{none_there}
 use Rattle.cdc_links.specs.Links.{of_sender, with_sent as with_message}
 use Rattle.cdc_message.specs.declared.packets.Packet.{Packet}
-use Rattle.cdc_message.specs.declared.packets.Packet.TheVariants.{Publish}
-use Rattle.cdc_message.specs.declared.items.Item.TheVariants.{EndMark}
 use Rattle.cdc_progress.specs.Records.{Saved}
-use Rattle.cdc_publisher.specs.Courses.{Course, begun, is_confirmed, new_course, next_packet, next_poll, numbers_from, takes_confirm, with_sent}
-use Rattle.cdc_publisher.specs.Kept.{Kept, poll_of}
+use Rattle.cdc_publisher.specs.Courses.{Course, begun, new_course, next_packet, next_poll, with_sent}
+use Rattle.cdc_publisher.specs.Kept.{Kept}
 use Rattle.cdc_publisher.specs.Stands.{StandsFor}
-use Rattle.cdc_publisher.specs.Turns.{packet_of, publish_of}
 use Rattle.cdc_publisher.specs.declared.session.Poll.{Poll as Wanted}
-use Rattle.cdc_publisher.proofs.Standing.{is_waiting, packet_is, poll_of_is, takes_is}
+use Rattle.cdc_publisher.proofs.Wanted.{IsWanted-now, packets_keep}
 use Rattle.cdc_traffic.specs.Following.{FollowsToBroker, FollowsToLedger}
 use Rattle.cdc_traffic.specs.declared.messages.ToBroker.TheVariants as to_broker
 use Rattle.cdc_traffic.specs.declared.messages.ToLedger.TheVariants as to_ledger
 use Rattle.cdc_traffic.specs.declared.polls.Poll.{Poll}
-use Rattle.cdc_types.specs.Timestamps.{last_timestamp_from}
 
 -- the session that runs stands for the course
 pub stands_of : (o : Option Kept) (kept : Kept) (course : Course) → o ≡ Some kept → SessionStands o (Some course)
@@ -93,87 +87,29 @@ finished-begun old new on = ap (λ (c : Publishing). c.finished) on.after
 
 -- ---- what it wants
 
--- what a session wants, where so many tags were sent
-abbrev wants_at : Course → ℕ → Option Wanted
-wants_at course n =
-    if nat_le (length course.offered) n
-    && nat_lt (length (filter (λ tag. not (is_confirmed course tag)) (numbers_from 1 n))) course.window
-    && not course.complete
-    then Some (record {
-      after = last_timestamp_from course.base course.offered;
-      limit = course.window - length (filter (λ tag. not (is_confirmed course tag)) (numbers_from 1 n));
-    })
-    else None
-
--- what such tests say
-none_so : {X : Type 0} (o : Option X) → is_none o ≡ true → o ≡ None
-none_so None is = refl
-none_so (Some x) is = cc
-
-not_so : (b : Bool) → not b ≡ true → b ≡ false
-not_so true is = sym is
-not_so false is = refl
-
--- a session that wants events has nothing to publish, and no tag of it waits
-module _ (kept : Kept) (wanted : Wanted) (wants : poll_of kept ≡ Some wanted) where
-  wanting : (is_none kept.unsent ≡ true) × (is_none kept.unconfirmed ≡ true) × (not kept.complete ≡ true)
-  wanting =
-      let test = cond_some (is_none kept.unsent && (is_none kept.unconfirmed && not kept.complete))
-      (record { after = kept.last; limit = 1 }) wanted wants in
-      let parts = and_parts (is_none kept.unsent) (is_none kept.unconfirmed && not kept.complete) test.0 in
-      let more = and_parts (is_none kept.unconfirmed) (not kept.complete) parts.1 in
-      (parts.0, more.0, more.1)
-
-  publishes_none : publish_of kept kept.unsent ≡ None
-  publishes_none =
-      ap (publish_of kept) (none_so kept.unsent wanting.0)
-      ∙ ap (λ b. if b && (not kept.ended && is_none kept.unconfirmed) then Some (Publish kept.number kept.sent EndMark)
-      else None) (not_so kept.complete wanting.2)
-
-  connects_only : (packet : Packet) → packet_of kept ≡ Some packet → kept.sent ≡ 0
-  connects_only packet sends =
-      elim (cases_Bool (kept.sent == 0)) [
-        | inl first ↦ eqb-true kept.sent 0 first
-        | inr later ↦
-            let there : publish_of kept kept.unsent ≡ Some packet = rw later at sends in
-            absurd (none-some packet (sym publishes_none ∙ there))
-      ]
-
-  -- so no confirm counts
-  pub takes_none : (course : Course) (session tag : ℕ) → StandsFor kept course
-      → takes_confirm course session tag ≡ false
-  takes_none course session tag stands =
-      sym (takes_is kept course session tag stands)
-      ∙ ap (λ w. (session == kept.number) && is_waiting w tag) (none_so kept.unconfirmed wanting.1)
-      ∙ and-false (session == kept.number)
-
--- and its poll stays what it wants, whatever it sends
-poll_kept : (course : Course) (o : Option Kept) (asked : ℕ) (poll : Poll) (packet : Packet)
-    → SessionStands o (Some course) → next_packet course ≡ Some packet → poll_for (Some course) asked ≡ Some poll
-    → poll_for (Some (with_sent (Some packet) course)) asked ≡ Some poll
-poll_kept course o asked poll packet stands sends wants =
-    let there = kept_of o course stands in
-    let kept = there.0 in
-    let wanted = asked_for (next_poll course) wants in
-    let none : course.sent ≡ 0 =
-    sym there.2.sent
-    ∙ connects_only kept wanted.0 (poll_of_is kept course there.2 ∙ wanted.1) packet
-    (packet_is kept course there.2 ∙ sends) in
-    let same : course.sent + 1 - 1 ≡ course.sent - 1 = omega (arith, none) in
-    ap (λ n. option_map (λ (w : Wanted). record {
-      session = course.number;
-      number = asked;
-      after = w.after;
-      limit = w.limit;
-    }) (wants_at course n)) same
-    ∙ wants
+-- a poll for what a session wants is one of it
+poll_of_for : (course : Course) (asked : ℕ) (poll : Poll) → poll_for (Some course) asked ≡ Some poll
+    → IsPollOf course asked poll
+poll_of_for course asked poll is = there (next_poll course) refl is
   where
     as_poll : Wanted → Poll
     as_poll w = record { session = course.number; number = asked; after = w.after; limit = w.limit }
 
-    asked_for : (o : Option Wanted) → option_map as_poll o ≡ Some poll → (w : Wanted) × (o ≡ Some w)
-    asked_for None is = absurd (none-some poll is)
-    asked_for (Some w) is = (w, refl)
+    of_wanted : (w : Wanted) → next_poll course ≡ Some w → IsPollOf course asked (as_poll w)
+    of_wanted w here = record { session = refl; number = refl; wanted = IsWanted-now course w here }
+
+    there : (o : Option Wanted) → next_poll course ≡ o → option_map as_poll o ≡ Some poll → IsPollOf course asked poll
+    there None here is = absurd (none-some poll is)
+    there (Some w) here is = subst (IsPollOf course asked) (same_Some (as_poll w) poll is) (of_wanted w here)
+
+-- it stays one, whatever the session sends
+poll_kept : (course : Course) (asked : ℕ) (poll : Poll) (packet : Packet) → next_packet course ≡ Some packet
+    → IsPollOf course asked poll → IsPollOf (with_sent (Some packet) course) asked poll
+poll_kept course asked poll packet sends is = record {
+  session = is.session;
+  number = is.number;
+  wanted = packets_keep course (record { after = poll.after; limit = poll.limit }) packet is.wanted sends;
+}
 
 -- ---- it sends
 
@@ -249,7 +185,7 @@ module _ (c : Publishing) (course : Course) (is : IsPublishing c (Some course)) 
           stands = stands;
           runs = record { number = is.runs.number; held = is.runs.held; told = is.runs.told };
           first = is.first;
-          poll = λ poll there. poll_kept course c.session c.asked poll packet is.stands next (is.poll poll there);
+          poll = λ poll there. poll_kept course c.asked poll packet next (is.poll poll there);
           keeps = λ gives zero h are.
               let state : ConnectorState = connector_of c (Some course) in
               subst (λ ps. KeepsTo h (record state { session = Some next_course; sent = ps })) (sym more)
@@ -269,7 +205,7 @@ module _ (c : Publishing) (course : Course) (is : IsPublishing c (Some course)) 
       stands = is.stands;
       runs = is.runs;
       first = is.first;
-      poll = λ other there. is_for ∙ there;
+      poll = λ other there. poll_of_for course (c.asked + 1) other (is_for ∙ there);
       keeps = is.keeps;
     }
 

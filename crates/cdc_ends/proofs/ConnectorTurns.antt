@@ -1,6 +1,6 @@
 -- What the parts of a connector's turn come to.
 use Rattle.std.proofs.Common.{◌≡◌, ◌==◌, ℕ, zero, suc, ◌+◌, ◌≤◌, Bool, true, false, List, inl, inr, refl, sym, ap, ap₂, ◌∙◌, subst, arith}
-use Rattle.std.specs.Prelude.{◌&&◌, ◌⊎◌, not, IfOk, Option, Some, None, Result, Ok, Err, if◌then◌else◌}
+use Rattle.std.specs.Prelude.{◌&&◌, ◌⊎◌, is_some, not, IfOk, Option, Some, None, Result, Ok, Err, if◌then◌else◌}
 use Rattle.std.specs.Option.{option_map}
 use Rattle.std.proofs.lemmas.Bool.Decides.{nat_tests}
 use Rattle.std.specs.List.{list_any}
@@ -267,23 +267,22 @@ all_sent old here new on rise is = record {
 
 -- ---- what is asked
 
--- whatever is wanted is asked for under the latest number
-none_for : (course : Course) (n m : ℕ) → poll_for (Some course) n ≡ None → poll_for (Some course) m ≡ None
-none_for course n m is = ask (next_poll course) is
+-- whatever is wanted is asked for
+asked_where : (course : Course) (asked : ℕ) → is_some (poll_for (Some course) asked) ≡ is_some (next_poll course)
+asked_where course asked = there (next_poll course)
   where
-    poll_of : ℕ → Wanted → Poll
-    poll_of number w = record { session = course.number; number = number; after = w.after; limit = w.limit }
+    as_poll : Wanted → Poll
+    as_poll w = record { session = course.number; number = asked; after = w.after; limit = w.limit }
 
-    ask : (o : Option Wanted)
-        → option_map (poll_of n) o ≡ None → option_map (poll_of m) o ≡ None
-    ask None is = refl
-    ask (Some w) is = cc
+    there : (o : Option Wanted) → is_some (option_map as_poll o) ≡ is_some o
+    there None = refl
+    there (Some w) = refl
 
 -- what an ask leaves
 pub record IsAskedFor (old : Publishing) (course : Course) (new : Publishing) : Type 0 where
   pub publishing : IsPublishing new (Some course)
   pub working : new.finished ≡ false
-  pub poll : new.poll ≡ poll_for (Some course) new.asked
+  pub poll : is_some new.poll ≡ is_some (next_poll course)
   pub unanswered : new.unanswered ≡ old.unanswered
   pub goes_on : GoesOn old new
   pub sessions : RisesBy 0 old new
@@ -295,7 +294,7 @@ module _ (c : Publishing) (sends : IsSending c) where
   asked_with None none is = record {
     publishing = sends.publishing;
     working = sends.working;
-    poll = none ∙ sym (none_for sends.course (c.asked + 1) c.asked is);
+    poll = ap is_some none ∙ sym (ap is_some is) ∙ asked_where sends.course (c.asked + 1);
     unanswered = refl;
     goes_on = GoesOn-same c;
     sessions = RisesBy-same c c refl refl refl;
@@ -305,7 +304,7 @@ module _ (c : Publishing) (sends : IsSending c) where
       record {
         publishing = IsPublishing-asked c sends.course sends.publishing sends.working (Some poll) is;
         working = sends.working;
-        poll = sym is;
+        poll = sym (ap is_some is) ∙ asked_where sends.course (c.asked + 1);
         unanswered = refl;
         goes_on = record {
           inbox = refl;
@@ -324,7 +323,7 @@ module _ (c : Publishing) (sends : IsSending c) where
   asked_over (Some poll) is = record {
     publishing = sends.publishing;
     working = sends.working;
-    poll = is ∙ sym (sends.publishing.poll poll is);
+    poll = ap is_some is ∙ sym (ap is_some (sends.publishing.poll poll is).wanted.wants);
     unanswered = refl;
     goes_on = GoesOn-same c;
     sessions = RisesBy-same c c refl refl refl;

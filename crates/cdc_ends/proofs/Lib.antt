@@ -13,7 +13,6 @@ mod ConnectorRounds
 mod ConnectorSessions
 mod ConnectorSteps
 mod ConnectorTurns
-mod Offering
 mod Said
 mod Taking
 mod Serving

@@ -1,5 +1,5 @@
 -- What a connector's end has sent to the ledger and to the broker, and what it has received of them.
-use Rattle.std.specs.Prelude.{◌≡◌, ◌==◌, ◌⊎◌, ℕ, zero, suc, ◌+◌, ◌<◌, ◌≤◌, ◌&&◌, Bool, is_none, true, false, Option, Some, None, List, [], ◌∷◌, ◌++◌, Contains, length, map, unwrap_or, if◌then◌else◌}
+use Rattle.std.specs.Prelude.{◌≡◌, ◌==◌, ◌⊎◌, ℕ, zero, suc, ◌+◌, ◌<◌, ◌≤◌, ◌&&◌, Bool, is_none, is_some, true, false, Option, Some, None, List, [], ◌∷◌, ◌++◌, Contains, length, map, unwrap_or, if◌then◌else◌}
 use Rattle.std.specs.List.{filter, filter_map, list_any}
 use Rattle.std.specs.Option.{option_map}
 use Rattle.cdc_ends.specs.declared.faults.RunFault.{RunFault}
@@ -17,6 +17,7 @@ use Rattle.cdc_message.specs.declared.packets.Packet.TheVariants.{Connect, Publi
 use Rattle.cdc_progress.specs.Records.{Saved}
 use Rattle.cdc_publisher.specs.Courses.{Course, is_done, next_packet, next_poll}
 use Rattle.cdc_publisher.specs.Kept.{Kept}
+use Rattle.cdc_publisher.specs.Polls.{IsWanted}
 use Rattle.cdc_publisher.specs.Stands.{StandsFor}
 use Rattle.cdc_traffic.specs.Following.{FollowsToConnector, IsTold}
 use Rattle.cdc_traffic.specs.Laws.{readings_of}
@@ -28,7 +29,7 @@ use Rattle.cdc_traffic.specs.declared.messages.ToLedger.{ToLedger}
 use Rattle.cdc_traffic.specs.declared.messages.ToLedger.TheVariants as to_ledger
 use Rattle.cdc_traffic.specs.declared.pasts.Past.{Past}
 use Rattle.cdc_traffic.specs.declared.polls.Poll.{Poll}
-use Rattle.cdc_types.specs.declared.bounds.TheConstants.Limits.{WINDOW_TODAY}
+use Rattle.cdc_types.specs.Windows.{IsWindow}
 use Rattle.cdc_types.specs.declared.events.Event.{Event}
 
 -- what a connector works with: its inbox; its ends of the links to the ledger and to the broker; the timestamp that its
@@ -163,6 +164,18 @@ poll_for (Some course) number = option_map
     (λ wanted. record { session = course.number; number = number; after = wanted.after; limit = wanted.limit })
     (next_poll course)
 
+-- a poll is this session's of this number, and asks for what it wants: for no more than that, since a confirm makes
+-- room for more while the poll is open
+pub record IsPollOf (course : Course) (asked : ℕ) (poll : Poll) : Type 0 where
+  pub session : poll.session ≡ course.number
+  pub number : poll.number ≡ asked
+  pub wanted : IsWanted course (record { after = poll.after; limit = poll.limit })
+
+-- the same of a session that runs, if one does
+abbrev pub IsPollIn : Option Course → ℕ → Poll → Type 0
+IsPollIn None asked poll = ⊥
+IsPollIn (Some course) asked poll = IsPollOf course asked poll
+
 -- ---- what a connector's end keeps
 
 -- the numbers of its ends and of those who send to it, and its window
@@ -170,7 +183,7 @@ pub record IsWired (senders to_ledger to_broker window : ℕ) : Type 0 where
   pub two : senders ≡ 2
   pub polls : to_ledger ≡ 0
   pub packets : to_broker ≡ 0
-  pub one : window ≡ WINDOW_TODAY
+  pub fits : IsWindow window
 
 -- it has sent polls to the ledger and packets to the broker, so many publish packets among them, and then, once it has
 -- finished, that it is done
@@ -205,15 +218,15 @@ pub record IsPublishing (c : Publishing) (course : Option Course) : Type 0 where
   pub stands : SessionStands c.session course
   pub runs : IsRunningIn c.held course
   pub first : IsFirstIn c.first course
-  pub poll : (poll : Poll) → c.poll ≡ Some poll → poll_for course c.asked ≡ Some poll
+  pub poll : (poll : Poll) → c.poll ≡ Some poll → IsPollIn course c.asked poll
   pub keeps : c.honest ≡ true → start_of c.first c.held ≡ 0
       → KeepsToReadings (readings_of (of_sender 0 c.inbox.received)) (connector_of c course)
 
 -- between two turns nothing is left to send. Before the first one nothing was sent or received. After it a session
--- runs: what it wants was asked for; it has no packet to send, or there is no room for one; and the connector has
--- finished just where the end mark of its session was confirmed and every packet has its confirm
+-- runs: a poll is open just where it wants events; it has no packet to send, or there is no room for one; and the
+-- connector has finished just where the end mark of its session was confirmed and every packet has its confirm
 pub record HasFollowed (c : Publishing) (course : Course) : Type 0 where
-  pub asked : c.poll ≡ poll_for (Some course) c.asked
+  pub asked : is_some c.poll ≡ is_some (next_poll course)
   pub sent : (next_packet course ≡ None) ⊎ (c.unanswered ≡ c.window + 1)
   pub finished : c.finished ≡ (is_done course && (c.unanswered == 0))
 

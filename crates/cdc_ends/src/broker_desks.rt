@@ -10,7 +10,7 @@ ghost use Rattle.cdc_message.specs.declared.packets.Packet.TheVariants.{Connect 
 ghost use Rattle.cdc_traffic.specs.Following.{FollowsToBroker, IsConfirm, IsPacket};
 
 use crate::broker_plans::BrokerPlan;
-use crate::consumers::{Consumer, hand_out};
+use crate::consumers::{Consumer, give_up_all, hand_out};
 use crate::faults::RunFault;
 use crate::turns::Turn;
 use cdc_broker::{Broker, Taken};
@@ -365,6 +365,14 @@ impl BrokerDesk {
         stop_all(self.consumers.as_mut_slice(), rt)?;
         self.finished = true;
         Ok(())
+    }
+
+    /// Tells all to whom it sends that nothing more comes.
+    pub(crate) fn give_up<R: Wait>(&mut self, rt: &R)
+        ensures { desk_of self.new ≡ desk_of self.old }
+    {
+        self.confirms.give_up(rt);
+        give_up_all(self.consumers.as_mut_slice(), rt);
     }
 
     /// Its ends of its links, and its broker.

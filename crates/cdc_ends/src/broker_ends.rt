@@ -117,10 +117,21 @@ impl BrokerEnd {
                 Ok(turn) => Ok(turn),
                 Err(fault) => {
                     self.fault = Some(fault);
+                    self.desk.give_up(rt);
                     Err(fault)
                 }
             },
         }
+    }
+
+    /// Lets go of the end before it has worked, and tells all to whom it sends that nothing more comes.
+    pub fn give_up<R: Wait>(self, rt: &R) {
+        let Self {
+            system: _,
+            mut desk,
+            fault: _,
+        } = self;
+        desk.give_up(rt);
     }
 
     /// What the end leaves behind: its ends of its links, and the broker; nothing, where it hasn't finished or has met

@@ -91,6 +91,7 @@ impl ClientEnd {
                 Ok(reply) => Ok(reply),
                 Err(fault) => {
                     self.fault = Some(fault);
+                    self.talk.give_up(rt);
                     Err(fault)
                 }
             },
@@ -112,6 +113,7 @@ impl ClientEnd {
                 Ok(()) => Ok(()),
                 Err(fault) => {
                     self.fault = Some(fault);
+                    self.talk.give_up(rt);
                     Err(fault)
                 }
             },
@@ -130,6 +132,16 @@ impl ClientEnd {
         ensures { result ≡ self.now.talk.number }
     {
         self.talk.number()
+    }
+
+    /// Lets go of the end before it has worked, and tells all to whom it sends that nothing more comes.
+    pub fn give_up<R: Wait>(self, rt: &R) {
+        let Self {
+            system: _,
+            mut talk,
+            fault: _,
+        } = self;
+        talk.give_up(rt);
     }
 
     /// What the end leaves behind: its ends of its links, and the replies; nothing, where it isn't finished or has met

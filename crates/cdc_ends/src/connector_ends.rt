@@ -2,7 +2,7 @@
 
 ghost use Rattle.std.specs.Prelude.{◌≡◌, Err, IfErr, IfOk, IfSome, None, Some, [], is_some, true};
 ghost use Rattle.cdc_ends.specs.ConnectorEnds.{ArePartsOf, FinishedConnectorsAreDone, IsConnectorEnd, IsTurn, first_work, has_finished, turn_if};
-ghost use Rattle.cdc_types.specs.declared.bounds.TheConstants.Limits as limits;
+ghost use Rattle.cdc_types.specs.Windows.{IsWindow};
 
 use crate::faults::RunFault;
 use crate::publishing::{ConnectorParts, Publishing};
@@ -64,7 +64,7 @@ impl<S: ProgressStore> ConnectorEnd<S> {
         requires asked { polls.sent ≡ [] }
         requires to_broker { packets.number ≡ 0 }
         requires published { packets.sent ≡ [] }
-        requires window { window ≡ limits.WINDOW_TODAY }
+        requires window { IsWindow window }
         ensures { result ≡ record {
           system = system;
           work = first_work inbox polls packets (S.held store) (S.is_honest store) window
@@ -96,6 +96,7 @@ impl<S: ProgressStore> ConnectorEnd<S> {
                 Ok(turn) => Ok(turn),
                 Err(fault) => {
                     self.fault = Some(fault);
+                    self.work.give_up(rt);
                     Err(fault)
                 }
             },
@@ -111,6 +112,16 @@ impl<S: ProgressStore> ConnectorEnd<S> {
 }
 
 impl<S: ProgressStore + Drop> ConnectorEnd<S> {
+    /// Lets go of the end before it has worked, and tells all to whom it sends that nothing more comes.
+    pub fn give_up<R: Wait>(self, rt: &R) {
+        let Self {
+            system: _,
+            mut work,
+            fault: _,
+        } = self;
+        work.give_up(rt);
+    }
+
     /// What the end leaves behind: its ends of its links, and its store; nothing, where it hasn't finished or has met a
     /// fault.
     pub fn into_parts(self) -> Option<ConnectorParts<S>>

@@ -132,3 +132,13 @@ pub(crate) fn hand_out<R: Wait>(
     }
     Ok(())
 }
+
+/// Tells each subscriber that nothing more comes.
+pub(crate) fn give_up_all<R: Wait>(consumers: &mut [Consumer], rt: &R)
+    ensures { consumers.new ≡ consumers.old }
+{
+    for i in 0..consumers.len() {
+        let consumer = &mut consumers[i];
+        consumer.link.give_up(rt);
+    }
+}

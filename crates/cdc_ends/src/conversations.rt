@@ -174,6 +174,13 @@ impl Conversation {
         self.finished
     }
 
+    /// Tells the ledger that nothing more comes.
+    pub(crate) fn give_up<R: Wait>(&mut self, rt: &R)
+        ensures { self.new ≡ self.old }
+    {
+        self.requests.give_up(rt);
+    }
+
     /// Takes the links and the replies apart.
     pub(crate) fn into_parts(self) -> ClientParts
         ensures { ArePartsOf self result.requests result.answers result.replies.items }

@@ -197,6 +197,16 @@ fn look<K: Heard, R: Wait>(
     Ok(None)
 }
 
+// Tells each client that nothing more comes.
+fn give_up_all<R: Wait>(clients: &mut [LinkOut<Reply>], rt: &R)
+    ensures { clients.new ≡ clients.old }
+{
+    for i in 0..clients.len() {
+        let client = &mut clients[i];
+        client.give_up(rt);
+    }
+}
+
 impl Desk {
     /// Nothing was received yet, and the ledger has taken nothing.
     pub(crate) fn new(
@@ -237,6 +247,14 @@ impl Desk {
             connector,
             ledger,
         }
+    }
+
+    /// Tells all to whom it sends that nothing more comes.
+    pub(crate) fn give_up<R: Wait>(&mut self, rt: &R)
+        ensures { self.new ≡ self.old }
+    {
+        give_up_all(self.clients.as_mut_slice(), rt);
+        self.connector.give_up(rt);
     }
 
     /// Whether all clients and the connector are done.

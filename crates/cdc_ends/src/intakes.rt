@@ -173,6 +173,13 @@ impl Intake {
         self.finished
     }
 
+    /// Tells the broker that nothing more comes.
+    pub(crate) fn give_up<R: Wait>(&mut self, rt: &R)
+        ensures { self.new ≡ self.old }
+    {
+        self.acks.give_up(rt);
+    }
+
     /// What it holds.
     pub(crate) fn into_parts(self) -> SubscriberParts
         ensures { result ≡ parts_of self }

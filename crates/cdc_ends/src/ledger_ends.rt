@@ -93,6 +93,7 @@ impl LedgerEnd {
                 Ok(turn) => Ok(turn),
                 Err(fault) => {
                     self.fault = Some(fault);
+                    self.desk.give_up(rt);
                     Err(fault)
                 }
             },
@@ -104,6 +105,16 @@ impl LedgerEnd {
         ensures { result ≡ self.now.system }
     {
         self.system
+    }
+
+    /// Lets go of the end before it has worked, and tells all to whom it sends that nothing more comes.
+    pub fn give_up<R: Wait>(self, rt: &R) {
+        let Self {
+            system: _,
+            mut desk,
+            fault: _,
+        } = self;
+        desk.give_up(rt);
     }
 
     /// What the end leaves behind: its ends of its links, and the closed ledger; nothing, where it isn't finished or

@@ -9,7 +9,7 @@ ghost use Rattle.cdc_message.specs.declared.packets.Answer.TheVariants.{Confirme
 ghost use Rattle.cdc_publisher.specs.Courses.{Course, is_done, next_packet};
 ghost use Rattle.cdc_publisher.specs.Offers.{IsOffered};
 ghost use Rattle.cdc_traffic.specs.Following.{FollowsToBroker, FollowsToConnector, FollowsToLedger};
-ghost use Rattle.cdc_types.specs.declared.bounds.TheConstants.Limits as limits;
+ghost use Rattle.cdc_types.specs.Windows.{IsWindow};
 
 use crate::faults::RunFault;
 use crate::turns::Turn;
@@ -228,6 +228,14 @@ impl<S: ProgressStore> Publishing<S> {
         }
     }
 
+    /// Tells the ledger and the broker that nothing more comes.
+    pub(crate) fn give_up<R: Wait>(&mut self, rt: &R)
+        ensures { self.new ≡ self.old }
+    {
+        self.polls.give_up(rt);
+        self.packets.give_up(rt);
+    }
+
     /// Takes the links and the store apart.
     pub(crate) fn into_parts(self) -> ConnectorParts<S>
         ensures { ArePartsOf self result.inbox result.polls result.packets (S.held result.store) }
@@ -264,7 +272,7 @@ impl<S: ProgressStore> Publishing<S> {
 
     /// Starts the next session in the place of the one that runs, if one does.
     fn begin(&mut self, alloc: Global) -> Result<(), RunFault>
-        requires { self.old.window ≡ limits.WINDOW_TODAY }
+        requires { IsWindow self.old.window }
         ensures { IfOk result (λ _. IsBegun self.old self.new) }
     {
         let session = Session::start(alloc, &mut self.store, self.window)?;
@@ -419,7 +427,7 @@ impl<S: ProgressStore> Publishing<S> {
 
     /// A packet of a session was lost: where it is the one that runs, the next one starts.
     fn break_off(&mut self, alloc: Global, session: u64) -> Result<(), RunFault>
-        requires { self.old.window ≡ limits.WINDOW_TODAY }
+        requires { IsWindow self.old.window }
         ensures { (course : Course) → SessionStands self.old.session (Some course)
             → IfOk result (λ _. IsAnswerTaken self.old course session Broken self.new) }
     {
@@ -431,7 +439,7 @@ impl<S: ProgressStore> Publishing<S> {
 
     /// Takes a confirm. One that answers no packet is none that was asked for.
     fn take_confirm(&mut self, alloc: Global, confirm: Confirm) -> Result<(), RunFault>
-        requires { self.old.window ≡ limits.WINDOW_TODAY }
+        requires { IsWindow self.old.window }
         ensures { (course : Course) → SessionStands self.old.session (Some course)
             → IfOk result (λ _. IsConfirmTaken self.old course confirm self.new) }
     {

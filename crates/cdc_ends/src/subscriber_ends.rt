@@ -91,6 +91,7 @@ impl SubscriberEnd {
                 Ok(turn) => Ok(turn),
                 Err(fault) => {
                     self.fault = Some(fault);
+                    self.intake.give_up(rt);
                     Err(fault)
                 }
             },
@@ -110,6 +111,16 @@ impl SubscriberEnd {
             ↔ ((self.now.fault ≡ None) × (self.now.intake.finished ≡ true)) }
     {
         self.fault.is_none() && self.intake.finished()
+    }
+
+    /// Lets go of the end before it has worked, and tells all to whom it sends that nothing more comes.
+    pub fn give_up<R: Wait>(self, rt: &R) {
+        let Self {
+            system: _,
+            mut intake,
+            fault: _,
+        } = self;
+        intake.give_up(rt);
     }
 
     /// Takes an end apart that has met no fault.

@@ -2,6 +2,7 @@
 
 ghost use Rattle.std.specs.Prelude.{◌≡◌, [], vec_len};
 
+use crate::hearing::hears_of_a_loss;
 use crate::names::Nothing;
 use cdc_ends::{BrokerEnd, BrokerPlan, RunFault, Turn};
 use cdc_links::{LinkIn, LinkOut, SendRefused, link};
@@ -48,8 +49,10 @@ fn a_broker_without_peers(rt: HostRuntime) {
     let bindings = all_events(&rt, rt.alloc());
     let plan = no_plan(rt.alloc());
     let (senders, inbox) = link::<ToBroker>(rt.alloc(), 8, 2).expect(&rt, "memory");
-    let (mut confirmers, _confirmed) = link::<ToConnector>(rt.alloc(), 5, 2).expect(&rt, "memory");
-    let (links, _deliveries) = link::<ToSubscriber>(rt.alloc(), 9, 1).expect(&rt, "memory");
+    let (mut confirmers, mut confirmed) = link::<ToConnector>(rt.alloc(), 5, 2).expect(
+        &rt, "memory",
+    );
+    let (links, mut deliveries) = link::<ToSubscriber>(rt.alloc(), 9, 1).expect(&rt, "memory");
     let confirms = confirmers.pop().expect(&rt, "two senders");
     drop(senders);
     let mut end = BrokerEnd::new(rt.alloc(), 1, inbox, confirms, links, bindings, 8, plan).expect(
@@ -57,6 +60,8 @@ fn a_broker_without_peers(rt: HostRuntime) {
     );
     let gone = Err(RunFault::PeerGone);
     turn_so(&rt, rt.alloc(), &mut end, &[gone, gone]);
+    assert!(rt; hears_of_a_loss(&rt, &mut confirmed) && hears_of_a_loss(&rt, &mut deliveries));
+    assert_eq!(rt; confirmers.len(), 1);
 }
 
 // The connector publishes the end mark alone, and says that it is done.

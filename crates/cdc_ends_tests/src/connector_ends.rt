@@ -1,5 +1,6 @@
 //! That an end whose peer is gone says so, and says the same from then on.
 
+use crate::hearing::hears_of_a_loss;
 use cdc_ends::{ConnectorEnd, RunFault, Turn};
 use cdc_links::{LinkIn, link};
 use cdc_message::Packet;
@@ -24,15 +25,17 @@ fn turn_so<R: Wait + Abort>(
 #[test]
 fn a_connector_without_a_broker(rt: HostRuntime) {
     let plan = Vec::new(rt.alloc());
-    let (mut asking, _ledger) = link::<ToLedger>(rt.alloc(), 4, 1).expect(&rt, "memory");
+    let (mut asking, mut ledger) = link::<ToLedger>(rt.alloc(), 4, 2).expect(&rt, "memory");
     let (mut sending, broker) = link::<ToBroker>(rt.alloc(), 4, 1).expect(&rt, "memory");
     let (_answers, inbox) = link::<ToConnector>(rt.alloc(), 5, 2).expect(&rt, "memory");
-    let polls = asking.pop().expect(&rt, "one sender");
+    let _client = asking.pop().expect(&rt, "two senders");
+    let polls = asking.pop().expect(&rt, "two senders");
     let packets = sending.pop().expect(&rt, "one sender");
     drop(broker);
     let mut connector = ConnectorEnd::new(1, inbox, polls, packets, MemoryStore::new(), 1, plan);
     let gone = Err(RunFault::PeerGone);
     turn_so(&rt, rt.alloc(), &mut connector, &[gone, gone]);
+    assert!(rt; hears_of_a_loss(&rt, &mut ledger));
 }
 
 // Whether the ledger's next message is the first poll.

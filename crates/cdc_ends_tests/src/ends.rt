@@ -3,6 +3,7 @@
 
 ghost use Rattle.std.specs.Prelude.{◌≡◌, [], false};
 
+use crate::hearing::hears_of_a_loss;
 use crate::names::Nothing;
 use cdc_ends::{ClientEnd, RunFault, SubscriberEnd, Turn};
 use cdc_links::{LinkIn, LinkOut, SendRefused, link};
@@ -33,6 +34,28 @@ fn a_client_without_a_ledger(rt: HostRuntime) {
     assert!(rt; finds_no_ledger(&rt, rt.alloc(), &mut client, 6));
 }
 
+#[test]
+fn a_client_that_met_a_fault_says_so(rt: HostRuntime) {
+    let (mut outs, mut into) = link::<ToLedger>(rt.alloc(), 4, 2).expect(&rt, "memory");
+    let (replies, answers) = link::<Reply>(rt.alloc(), 1, 1).expect(&rt, "memory");
+    let requests = outs.pop().expect(&rt, "two senders");
+    drop(replies);
+    let mut client = ClientEnd::new(rt.alloc(), 1, 1, requests, answers);
+    assert!(rt; finds_no_ledger(&rt, rt.alloc(), &mut client, 5));
+    assert!(rt; hears_of_a_loss(&rt, &mut into));
+    assert_eq!(rt; (outs.len(), into.received_count()), (1, 1));
+}
+
+#[test]
+fn a_client_that_never_worked_says_so(rt: HostRuntime) {
+    let (mut outs, mut into) = link::<ToLedger>(rt.alloc(), 4, 2).expect(&rt, "memory");
+    let (_replies, answers) = link::<Reply>(rt.alloc(), 1, 1).expect(&rt, "memory");
+    let requests = outs.pop().expect(&rt, "two senders");
+    ClientEnd::new(rt.alloc(), 1, 1, requests, answers).give_up(&rt);
+    assert!(rt; hears_of_a_loss(&rt, &mut into));
+    assert_eq!(rt; outs.len(), 1);
+}
+
 // The next turns of an end have these answers.
 fn turn_so<R: Wait + Abort>(
     rt: &R,
@@ -47,13 +70,15 @@ fn turn_so<R: Wait + Abort>(
 
 #[test]
 fn a_subscriber_without_a_broker(rt: HostRuntime) {
-    let (mut outs, _into) = link::<ToBroker>(rt.alloc(), 4, 2).expect(&rt, "memory");
+    let (mut outs, mut into) = link::<ToBroker>(rt.alloc(), 4, 2).expect(&rt, "memory");
     let (broker, inbox) = link::<ToSubscriber>(rt.alloc(), 1, 1).expect(&rt, "memory");
     let acks = outs.pop().expect(&rt, "two senders");
     drop(broker);
     let mut end = SubscriberEnd::new(rt.alloc(), 1, 1, inbox, acks, None);
     let gone = Err(RunFault::PeerGone);
     turn_so(&rt, rt.alloc(), &mut end, &[gone, gone]);
+    assert!(rt; hears_of_a_loss(&rt, &mut into));
+    assert_eq!(rt; outs.len(), 1);
 }
 
 // The broker hands out the end mark, and says that this is all.

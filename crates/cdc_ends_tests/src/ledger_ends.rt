@@ -2,6 +2,7 @@
 
 ghost use Rattle.std.specs.Prelude.{◌≡◌, []};
 
+use crate::hearing::hears_of_a_loss;
 use crate::names::Nothing;
 use cdc_ends::{ClientEnd, LedgerEnd, RunFault, Turn};
 use cdc_links::{LinkIn, LinkOut, SendRefused, link};
@@ -25,13 +26,15 @@ fn turn_so<R: Wait + Abort>(
 #[test]
 fn a_ledger_without_peers(rt: HostRuntime) {
     let (senders, inbox) = link::<ToLedger>(rt.alloc(), 5, 2).expect(&rt, "memory");
-    let (clients, _answers) = link::<Reply>(rt.alloc(), 1, 1).expect(&rt, "memory");
-    let (mut tellers, _replies) = link::<ToConnector>(rt.alloc(), 5, 1).expect(&rt, "memory");
-    let connector = tellers.pop().expect(&rt, "one sender");
+    let (clients, mut answers) = link::<Reply>(rt.alloc(), 1, 1).expect(&rt, "memory");
+    let (mut tellers, mut replies) = link::<ToConnector>(rt.alloc(), 5, 2).expect(&rt, "memory");
+    let _broker = tellers.pop().expect(&rt, "two senders");
+    let connector = tellers.pop().expect(&rt, "two senders");
     drop(senders);
     let mut end = LedgerEnd::new(rt.alloc(), 1, inbox, clients, connector);
     let gone = Err(RunFault::PeerGone);
     turn_so(&rt, rt.alloc(), &mut end, &[gone, gone]);
+    assert!(rt; hears_of_a_loss(&rt, &mut answers) && hears_of_a_loss(&rt, &mut replies));
 }
 
 // The connector asks for an event, and says that it is done.

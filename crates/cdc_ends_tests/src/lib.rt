@@ -8,6 +8,8 @@ mod connector_ends;
 #[cfg(test)]
 mod ends;
 #[cfg(test)]
+mod hearing;
+#[cfg(test)]
 mod ledger_ends;
 #[cfg(test)]
 mod links;

@@ -136,6 +136,59 @@ fn a_receive_answers_that_the_senders_are_gone(rt: HostRuntime) {
     assert_eq!(rt; into.received_count(), 1);
 }
 
+#[test]
+fn a_receive_answers_that_one_of_two_senders_gave_up(rt: HostRuntime) {
+    let (mut outs, mut into) = link::<Note>(rt.alloc(), 1, 2).expect(&rt, "memory");
+    let second = outs.pop().expect(&rt, "two senders");
+    let mut first = outs.pop().expect(&rt, "two senders");
+    let (sender, place) = (0, first.sent_count());
+    let handed = send_notes(&rt, second, 1, 1);
+    assert!(rt;
+        first
+            .send::<Nothing, HostRuntime>(&rt, Note { sender, place })
+            .is_ok()
+    );
+    let gone = first.hang_up(&rt);
+    for sender in [1u64, 0] {
+        match into.receive(&rt) {
+            Ok(note) => assert_eq!(rt; note, Note { sender, place: 0 }),
+            Err(_) => assert!(rt; false, "what was sent before is lost"),
+        }
+    }
+    match into.receive(&rt) {
+        Ok(_) => assert!(rt; false, "it was received twice"),
+        Err(fault) => assert_eq!(rt; fault, LinkFault::PeerGone),
+    }
+    let mut all = Vec::with_capacity(rt.alloc(), 2).expect(&rt, "memory");
+    all.push_reserved(gone);
+    all.push_reserved(handed);
+    assert_eq!(rt;
+        settle(into, all),
+        Tally {
+            sent: 2,
+            received: 2
+        }
+    );
+}
+
+#[test]
+fn an_end_that_was_given_up_sends_nothing(rt: HostRuntime) {
+    let (mut outs, mut into) = link::<Letter>(rt.alloc(), 1, 1).expect(&rt, "memory");
+    let mut out = outs.pop().expect(&rt, "one sender");
+    let text = String::from_str(rt.alloc(), "before").expect(&rt, "memory");
+    assert!(rt; out.send::<Seven, HostRuntime>(&rt, Letter { text }).is_ok());
+    out.give_up(&rt);
+    out.give_up(&rt);
+    let text = String::from_str(rt.alloc(), "after").expect(&rt, "memory");
+    assert!(rt;
+        out.send::<Seven, HostRuntime>(&rt, Letter { text })
+            .is_err()
+    );
+    assert!(rt; into.receive(&rt).is_ok());
+    assert!(rt; into.receive(&rt).is_err());
+    assert_eq!(rt; (out.sent_count(), into.received_count()), (1, 1));
+}
+
 // Two senders in threads of their own, and the receiver in a third: what a link of so many places comes to.
 fn two_senders<R: Threads + Wait + Abort + Sync>(
     rt: &R,

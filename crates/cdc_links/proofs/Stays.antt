@@ -6,9 +6,10 @@ use Rattle.crossbeam_channel.specs.declared.flavors.array.Key.{Key}
 use Rattle.atomic_table.specs.declared.badge.Badge.{Badge}
 use Rattle.atomic_table.specs.Seated.{TableId}
 use Rattle.cdc_links.specs.declared.rule.Parcel.{Parcel}
+use Rattle.cdc_links.specs.declared.rule.Parcel.TheVariants.{Message}
 use Rattle.cdc_links.specs.declared.rule.Knowledge.{Knowledge}
 use Rattle.cdc_links.specs.Links.{LinkId, Incoming, of_sender, fresh_ends, with_received, CanSend}
-use Rattle.cdc_links.specs.Rule.{sending, receiving, IsRuled, Received}
+use Rattle.cdc_links.specs.Rule.{sending, receiving, IsRuled, Sent, Took}
 use Rattle.cdc_links.proofs.Entries.{follow-snoc}
 use Rattle.cdc_links.proofs.Steps.{lawful-sent, sends}
 
@@ -37,12 +38,10 @@ module _ {M N : Type 0} where
     -- a send under the number of the end
     pub sends_as : (n pass number : ℕ) (v : Knowledge M N) (m : M) (name : N) → v ≡ sending number v.sent false
         → may_follow number v.sent (m, name)
-        → Pushes (IsRuled may_follow) n pass v (record { sender = number; value = m })
-        (λ w. w ≡ sending v.number (v.sent ++ (m, name) ∷ []) false)
+        → Pushes (IsRuled may_follow) n pass v (Message number m) (Sent name v (Message number m))
     sends_as n pass number v m name is =
         subst (λ k. may_follow k v.sent (m, name)
-        → Pushes (IsRuled may_follow) n pass v (record { sender = k; value = m })
-        (λ w. w ≡ sending v.number (v.sent ++ (m, name) ∷ []) false))
+        → Pushes (IsRuled may_follow) n pass v (Message k m) (Sent name v (Message k m)))
         (ap (λ u. u.number) is) (sends may_follow n pass v m name (ap (λ u. u.sends) is))
 
     -- a sender's end after a send
@@ -58,14 +57,14 @@ module _ {M N : Type 0} where
         )
 
     -- the receiver's end after a receive
-    pub received_stays : (count : ℕ) (v : Knowledge M N) (x : Parcel M) (w : Knowledge M N)
+    pub received_stays : (count : ℕ) (v : Knowledge M N) (x : ℕ × M) (w : Knowledge M N)
         → v ≡ receiving v.received v.given []
         → count ≡ length v.received → ((j : ℕ) → CanSend may_follow j (of_sender j v.received))
-        → Received may_follow v x w
+        → Took may_follow v x w
         → (w ≡ receiving w.received w.given []) × (count + 1 ≡ length w.received)
         × ((j : ℕ) → CanSend may_follow j (of_sender j w.received))
     received_stays count v x w is n lawful told =
-        let e : ℕ × (M × N) = (x.sender, (x.value, told.0)) in
+        let e : ℕ × (M × N) = (x.0, (x.1, told.0)) in
         let received : w.received ≡ v.received ++ e ∷ [] = ap (λ u. u.received) told.3 in
         let given : w.given ≡ v.given = ap (λ u. u.given) told.3 in (
           told.3 ∙ (λ i. receiving (sym received i) (sym given i) ((is i).joined)),
@@ -76,14 +75,14 @@ module _ {M N : Type 0} where
 
     -- what a receive answers, of the end as it was shown before
     pub received_answer : (table after_table : TableId) (slots after_slots : Badge (Key (Parcel M)))
-        (v w : Knowledge M N) (x : Parcel M)
-        (before : Incoming M N) → after_table ≡ table → after_slots ≡ slots → Received may_follow v x w
+        (v w : Knowledge M N) (x : ℕ × M)
+        (before : Incoming M N) → after_table ≡ table → after_slots ≡ slots → Took may_follow v x w
         → ◌≡◌ {A = Incoming M N}
         (record { link = record { table = table; slots = slots }; senders = v.given; received = v.received }) before
-        → (j : ℕ) × (name : N) × (j < before.senders) × may_follow j (of_sender j before.received) (x.value, name)
+        → (j : ℕ) × (name : N) × (j < before.senders) × may_follow j (of_sender j before.received) (x.1, name)
         × (◌≡◌ {A = Incoming M N} (record
         { link = record { table = after_table; slots = after_slots }; senders = w.given; received = w.received })
-        (with_received before (j, (x.value, name))))
+        (with_received before (j, (x.1, name))))
     received_answer table after_table slots after_slots v w x before same_table same_slots told shown =
         let after : Incoming M N =
         record {
@@ -92,12 +91,12 @@ module _ {M N : Type 0} where
           received = w.received;
         } in
         subst (λ (o : Incoming M N). (j : ℕ) × (name : N) × (j < o.senders)
-        × may_follow j (of_sender j o.received) (x.value, name)
-        × (after ≡ with_received o (j, (x.value, name)))) shown (
-          x.sender,
+        × may_follow j (of_sender j o.received) (x.1, name)
+        × (after ≡ with_received o (j, (x.1, name)))) shown (
+          x.0,
           told.0,
           told.1,
           told.2,
           received_end table after_table slots after_slots v w
-              (x.sender, (x.value, told.0)) same_table same_slots told.3,
+              (x.0, (x.1, told.0)) same_table same_slots told.3,
         )

@@ -9,9 +9,10 @@ use lib.ListN.{get_elem?}
 use Rattle.crossbeam_channel.specs.Fifo.{Pushes, Pops, Forks, Merges, Learns}
 use Rattle.atomic_table.proofs.Lists.{at_set}
 use Rattle.cdc_links.specs.declared.rule.Parcel.{Parcel}
+use Rattle.cdc_links.specs.declared.rule.Parcel.TheVariants.{Message, Halt}
 use Rattle.cdc_links.specs.declared.rule.Knowledge.{Knowledge}
 use Rattle.cdc_links.specs.Links.{of_sender, CanSend}
-use Rattle.cdc_links.specs.Rule.{sending, receiving, nobody, parcel_of, IsApart, AreApart, AreWhole, Fits, IsSettled, IsRuled, Received}
+use Rattle.cdc_links.specs.Rule.{sending, receiving, nobody, carried, carried_of, IsApart, AreApart, AreWhole, Fits, IsSettled, IsRuled, Took, Received, Sent}
 use Rattle.cdc_links.proofs.Entries.{of_sender-snoc_own, of_sender-snoc_other, of_sender-middle, follow-snoc, follow-middle}
 use Rattle.cdc_links.proofs.Joined.{apart-snoc, once-snoc, whole-sent, whole-given, whole-snoc, apart-above}
 
@@ -45,13 +46,27 @@ module _ {V : Type 0} where
       ⊎_elim (λ (x : (j ≡ pass) × (w ≡ u)). subst (λ (y : ℕ × V). G y.0 y.1) (λ i. (sym x.0 i, x.1 i)) mine)
       (λ (x : (j ≢ pass) × (get_elem? views j ≡ some u)). others j u x.0 (all j u x.1)) (at_set views pass j w u e)
 
+module _ {M : Type 0} where
+  -- a message more at the back
+  carried-message : (items : List (Parcel M)) (sender : ℕ) (value : M)
+      → carried (items ++ Message sender value ∷ []) ≡ carried items ++ (sender, value) ∷ []
+  carried-message [] sender value = refl
+  carried-message (Message s m ∷ rest) sender value = ap (λ l. (s, m) ∷ l) (carried-message rest sender value)
+  carried-message (Halt ∷ rest) sender value = carried-message rest sender value
+
+  -- that a sender was given up is no message
+  carried-halt : (items : List (Parcel M)) → carried (items ++ Halt ∷ []) ≡ carried items
+  carried-halt [] = refl
+  carried-halt (Message s m ∷ rest) = ap (λ l. (s, m) ∷ l) (carried-halt rest)
+  carried-halt (Halt ∷ rest) = carried-halt rest
+
 module _ {M N : Type 0} where
   -- the message at the front, with what it names
-  front : (held : List (ℕ × (M × N))) (x : Parcel M) (items : List (Parcel M)) → map parcel_of held ≡ x ∷ items
-      → (e : ℕ × (M × N)) × (rest : List (ℕ × (M × N))) × (held ≡ e ∷ rest) × (parcel_of e ≡ x)
-      × (map parcel_of rest ≡ items)
-  front [] x items is = absurd (cons≢nil (sym is))
-  front (e ∷ rest) x items is = (e, rest, refl, head-eq_of_cons-eq is, tail-eq_of_cons-eq is)
+  front : (held : List (ℕ × (M × N))) (x : ℕ × M) (later : List (ℕ × M)) → map carried_of held ≡ x ∷ later
+      → (e : ℕ × (M × N)) × (rest : List (ℕ × (M × N))) × (held ≡ e ∷ rest) × (carried_of e ≡ x)
+      × (map carried_of rest ≡ later)
+  front [] x later is = absurd (cons≢nil (sym is))
+  front (e ∷ rest) x later is = (e, rest, refl, head-eq_of_cons-eq is, tail-eq_of_cons-eq is)
 
   -- of a list with a message in it there is more than nothing
   some_there : (xs ys : List (M × N)) (m : M × N) → xs ++ m ∷ ys ≢ []
@@ -102,8 +117,7 @@ module _ {M N : Type 0} where
     -- send: the message goes to the back, and the sender's pass knows that it was sent
     pub sends : (n pass : ℕ) (v : Knowledge M N) (m : M) (name : N) → v.sends ≡ true
         → may_follow v.number v.sent (m, name)
-        → Pushes Rule n pass v (record { sender = v.number; value = m })
-        (λ w. w ≡ sending v.number (v.sent ++ (m, name) ∷ []) false)
+        → Pushes Rule n pass v (Message v.number m) (Sent name v (Message v.number m))
     sends n pass v m name may follow items views _ h at =
         let e : ℕ × (M × N) = (v.number, (m, name)) in
         let w : Knowledge M N = sending v.number (v.sent ++ (m, name) ∷ []) false in
@@ -135,7 +149,9 @@ module _ {M N : Type 0} where
             reader = h.reader;
             seat = h.seat;
             parts = ap (λ l. l ++ e ∷ []) h.parts ∙ append_assoc h.log h.held (e ∷ []);
-            content = map-append parcel_of h.held (e ∷ []) ∙ ap (λ l. l ++ parcel_of e ∷ []) h.content;
+            content =
+                map-append carried_of h.held (e ∷ [])
+                ∙ (ap (λ l. l ++ carried_of e ∷ []) h.content ∙ sym (carried-message items v.number m));
             lawful = lawful-sent h.all e next h.lawful;
             fresh = λ j le. of_sender-snoc_other j e h.all (λ is. absurd (omega arith)) ∙ h.fresh j le;
             whole = whole-sent h.all h.given h.joined e mine.2 h.whole;
@@ -145,10 +161,39 @@ module _ {M N : Type 0} where
           refl,
         )
 
-    -- receive: the message at the front leaves, and the receiver's pass knows it with what it names
+    -- a step that leaves what its pass knows as it is, and of the link's content what counts
+    stays : (pass : ℕ) (v : Knowledge M N) (items later : List (Parcel M)) (views : List (Knowledge M N))
+        → Rule items views
+        → get_elem? views pass ≡ some v → carried items ≡ carried later → Rule later (set views pass v)
+    stays pass v items later views h at same =
+        let F : ℕ → Knowledge M N → Type 0 = Fits h.all h.log h.given h.joined h.reader h.seat in
+        record {
+          all = h.all;
+          log = h.log;
+          held = h.held;
+          given = h.given;
+          joined = h.joined;
+          reader = h.reader;
+          seat = h.seat;
+          parts = h.parts;
+          content = h.content ∙ same;
+          lawful = h.lawful;
+          fresh = h.fresh;
+          whole = h.whole;
+          once = h.once;
+          known = each-set F F views pass v h.known (h.known pass v at) (λ j u _ f. f);
+        }
+
+    -- give up: that a sender was given up goes to the back, and no pass knows of it
+    pub halts : (n pass : ℕ) (v : Knowledge M N) → Pushes Rule n pass v Halt (λ w. w ≡ v)
+    halts n pass v items views _ h at =
+        (v, stays pass v items (items ++ Halt ∷ []) views h at (sym (carried-halt items)), refl)
+
+    -- receive: what is at the front leaves, and where it is a message the receiver's pass knows it with what it names
     pub receives : (pass : ℕ) (v : Knowledge M N) → v.receives ≡ true → Pops Rule pass v (Received may_follow v)
-    receives pass v may x items views h at =
-        let f = front h.held x items h.content in
+    receives pass v may Halt items views h at = (v, stays pass v (Halt ∷ items) items views h at refl, refl)
+    receives pass v may (Message sender value) items views h at =
+        let f = front h.held (sender, value) (carried items) h.content in
         let e = f.0 in
         let rest = f.1 in
         let mine = (h.known pass v at).1 may in
@@ -185,7 +230,7 @@ module _ {M N : Type 0} where
           once = h.once;
           known = each-set F G views pass w h.known own others;
         } in
-        subst (λ (y : Parcel M). (u : Knowledge M N) × Rule items (set views pass u) × Received may_follow v y u) f.3
+        subst (λ (y : ℕ × M). (u : Knowledge M N) × Rule items (set views pass u) × Took may_follow v y u) f.3
         (w, kept, (e.1.1, below, follows, refl))
 
     -- split: one more sender, which has sent nothing

@@ -13,12 +13,19 @@ use Rattle.crossbeam_channel.specs.Ends.{sends_on, receives_on}
 use Rattle.crossbeam_channel.specs.Claims.{Pass, view, IsKeyed, IsSeatAt}
 use Rattle.atomic_table.specs.declared.badge.Badge.{Badge}
 use Rattle.cdc_links.specs.declared.rule.Parcel.{Parcel}
+use Rattle.cdc_links.specs.declared.rule.Parcel.TheVariants.{Message, Halt}
 use Rattle.cdc_links.specs.declared.rule.Knowledge.{Knowledge}
 use Rattle.cdc_links.specs.Links.{LinkId, Outgoing, Incoming, of_sender, CanSend}
 
 -- the channel of a link
 abbrev pub LinkChannel : Type 0 → Type 0 → Type 0 → Type 0 → Type 0 → Type 0 → Type 0
 LinkChannel M V Q K L A = Rows (Badge (Key (Parcel M))) (Doing (Parcel M) V) Q K (Key (Parcel M)) L A
+
+-- the messages that travel in these parcels, with their senders' numbers; that a sender was given up is none
+abbrev pub carried : {M : Type 0} → List (Parcel M) → List (ℕ × M)
+carried [] = []
+carried (Message sender value ∷ rest) = (sender, value) ∷ carried rest
+carried (Halt ∷ rest) = carried rest
 
 module _ {M N : Type 0} where
   -- what a sender's pass knows: its number, what it has sent, and whether it was handed back
@@ -64,9 +71,14 @@ module _ {M N : Type 0} where
         joined = [];
       }
 
-  -- the parcel in which a message travels: its name is left behind
-  abbrev pub parcel_of : ℕ × (M × N) → Parcel M
-  parcel_of e = record { sender = e.0; value = e.1.0 }
+  -- a message as it travels, with its sender's number: its name is left behind
+  abbrev pub carried_of : ℕ × (M × N) → ℕ × M
+  carried_of e = (e.0, e.1.0)
+
+  -- what the send of a parcel tells: a message was sent, under this name
+  abbrev pub Sent : N → Knowledge M N → Parcel M → Knowledge M N → Type 0
+  Sent name v (Message sender value) w = w ≡ sending v.number (v.sent ++ (value, name) ∷ []) false
+  Sent name v Halt w = w ≡ v
 
   -- of each end that was handed back, its number and what it has sent
   abbrev pub joined_of : List (Outgoing M N) → List (ℕ × List (M × N))
@@ -116,7 +128,7 @@ module _ {M N : Type 0} where
       pub reader : ℕ
       pub seat : ℕ → ℕ
       pub parts : all ≡ log ++ held
-      pub content : map parcel_of held ≡ items
+      pub content : map carried_of held ≡ carried items
       pub lawful : (j : ℕ) → CanSend may_follow j (of_sender j all)
       pub fresh : (j : ℕ) → given ≤ j → of_sender j all ≡ []
       pub whole : AreWhole all given joined
@@ -124,14 +136,19 @@ module _ {M N : Type 0} where
       pub known : (pass : ℕ) (v : Knowledge M N) → get_elem? views pass ≡ some v
           → Fits all log given joined reader seat pass v
 
-    -- what a receive tells: some sender has sent the message, under some name, and it could follow what was received of
-    -- that sender before
-    abbrev pub Received : Knowledge M N → Parcel M → Knowledge M N → Type 0
-    Received v x w =
+    -- what the receive of a message tells: some sender has sent it, under some name, and it could follow what was
+    -- received of that sender before
+    abbrev pub Took : Knowledge M N → ℕ × M → Knowledge M N → Type 0
+    Took v x w =
         (name : N)
-        × (x.sender < v.given)
-        × may_follow x.sender (of_sender x.sender v.received) (x.value, name)
-        × (w ≡ receiving (v.received ++ (x.sender, (x.value, name)) ∷ []) v.given v.joined)
+        × (x.0 < v.given)
+        × may_follow x.0 (of_sender x.0 v.received) (x.1, name)
+        × (w ≡ receiving (v.received ++ (x.0, (x.1, name)) ∷ []) v.given v.joined)
+
+    -- what the receive of a parcel tells: of one without a message nothing, and nothing has changed
+    abbrev pub Received : Knowledge M N → Parcel M → Knowledge M N → Type 0
+    Received v (Message sender value) w = Took v (sender, value) w
+    Received v Halt w = w ≡ v
 
 -- the link works on this channel
 abbrev pub IsLinkOf : {M V Q K L A : Type 0} → LinkId M → LinkChannel M V Q K L A → Type 0

@@ -10,7 +10,9 @@ ghost use Rattle.cdc_links.specs.Rule.{IsPassOf, Received, IsReceiver, HasTakenN
 use crate::errors::{LinkFault, SendRefused};
 use crate::messages::{Message, Naming};
 use crate::patience::Patience;
-use crate::rule::{HandsBack, Knowledge, Parcel, Receives, Ruled, Seats, Sends, Settles, TakesIn};
+use crate::rule::{
+    Halts, HandsBack, Knowledge, Parcel, Receives, Ruled, Seats, Sends, Settles, TakesIn,
+};
 use crossbeam_channel::{Pass, RecvError, RuledReceiver, RuledSender, TryRecvError, bounded_with};
 use std::alloc::{AllocError, Global};
 use std::hint::spin_loop;
@@ -22,6 +24,7 @@ use std::sync::Wait;
 pub struct LinkOut<M: Message> {
     number: u64,
     count: u64,
+    is_given_up: bool,
     sender: RuledSender<Parcel<M>, Knowledge<M, M::Name>, Ruled>,
     pass: Pass<Parcel<M>, Knowledge<M, M::Name>>,
 }
@@ -32,6 +35,7 @@ impl<M: Message> Drop for LinkOut<M> {
         let Self {
             number: _,
             count: _,
+            is_given_up: _,
             sender: _,
             pass: _,
         } = self;
@@ -51,8 +55,8 @@ impl<M: Message> Model for LinkOut<M> {
 }
 
 impl<M: Message> LinkOut<M> {
-    /// Sends a message, under the name that `K` picks. It waits while the link is full. Where the receiver is gone, or
-    /// 2^64 - 1 messages were sent, the message comes back and nothing has changed.
+    /// Sends a message, under the name that `K` picks. It waits while the link is full. Where the receiver is gone, the
+    /// end was given up or 2^64 - 1 messages were sent, the message comes back and nothing has changed.
     pub fn send<K: Naming<M::Name>, R: Wait>(
         &mut self,
         rt: &R,
@@ -62,10 +66,10 @@ impl<M: Message> LinkOut<M> {
         ensures sent { IfOk result (λ _. self.new ≡ with_sent self.old (value, K.name)) }
         ensures refused { IfErr result (λ it. (it.value ≡ value) × (self.new ≡ self.old)) }
     {
-        if self.count == u64::MAX {
+        if self.is_given_up || self.count == u64::MAX {
             return Err(SendRefused { value });
         }
-        let parcel = Parcel {
+        let parcel = Parcel::Message {
             sender: self.number,
             value,
         };
@@ -77,9 +81,10 @@ impl<M: Message> LinkOut<M> {
                 self.count += 1;
                 Ok(())
             }
-            Err(refused) => Err(SendRefused {
-                value: refused.into_inner().value,
-            }),
+            Err(refused) => match refused.into_inner() {
+                Parcel::Message { sender: _, value } => Err(SendRefused { value }),
+                Parcel::Halt => unreachable!(),
+            },
         }
     }
 
@@ -91,6 +96,30 @@ impl<M: Message> LinkOut<M> {
         self.count
     }
 
+    /// Tells the receiver that nothing more comes of this end, as far as there is room for that, which is never waited
+    /// for. From then on nothing is sent, and a further call does nothing. No account shows it.
+    pub fn give_up<R: Wait>(&mut self, rt: &R)
+        ensures { self.new ≡ self.old }
+    {
+        if self.is_given_up {
+            return;
+        }
+        self.is_given_up = true;
+        // Where there is no room for it, or nobody to hear it, it is passed over.
+        let _ = self
+            .sender
+            .try_send_as::<Halts, R>(rt, &mut self.pass, Parcel::Halt);
+    }
+
+    /// Gives the end up, and then hands it back.
+    pub fn hang_up<R: Wait>(self, rt: &R) -> Handed<M>
+        ensures { result ≡ self }
+    {
+        let mut end = self;
+        end.give_up(rt);
+        end.hand_back()
+    }
+
     /// Gives up sending; `settle` takes what comes of it.
     pub fn hand_back(self) -> Handed<M>
         ensures { result ≡ self }
@@ -98,6 +127,7 @@ impl<M: Message> LinkOut<M> {
         let Self {
             number,
             count,
+            is_given_up: _,
             sender,
             mut pass,
         } = self;
@@ -233,8 +263,8 @@ fn next_parcel<M: Message, R: Wait>(
 }
 
 impl<M: Message> LinkIn<M> {
-    /// Receives the message at the front. It waits while there is none. Where the senders are gone, or 2^64 - 1 messages
-    /// were received, nothing has changed.
+    /// Receives the message at the front. It waits while there is none. Where the senders are gone, one of them was given
+    /// up after all that is received by now, or 2^64 - 1 messages were received, nothing has changed.
     pub fn receive<R: Wait>(&mut self, rt: &R) -> Result<M, LinkFault>
         ensures received { IfOk result (λ value. Takes M.may_follow self.old value self.new) }
         ensures refused { IfErr result (λ fault. (fault ≡ PeerGone) × (self.new ≡ self.old)) }
@@ -243,11 +273,11 @@ impl<M: Message> LinkIn<M> {
             return Err(LinkFault::PeerGone);
         }
         match next_parcel(rt, &self.receiver, &mut self.pass, &mut self.patience) {
-            Ok(parcel) => {
+            Ok(Parcel::Message { sender: _, value }) => {
                 self.received += 1;
-                Ok(parcel.value)
+                Ok(value)
             }
-            Err(_) => Err(LinkFault::PeerGone),
+            Ok(Parcel::Halt) | Err(_) => Err(LinkFault::PeerGone),
         }
     }
 
@@ -308,13 +338,15 @@ impl<M: Message> LinkIn<M> {
         Ok(LinkOut {
             number,
             count: 0,
+            is_given_up: false,
             sender,
             pass,
         })
     }
 }
 
-/// A link for so many messages on their way, and its ends: of each sender, numbered from 0, and of the receiver.
+/// A link for so many messages on their way, and its ends: of each sender, numbered from 0, and of the receiver. There is
+/// room for one word more of each sender, that it was given up.
 pub fn link<M: Message>(
     alloc: Global,
     capacity: usize,
@@ -327,7 +359,8 @@ pub fn link<M: Message>(
     ensures memory { IfErr result (λ fault. fault ≡ OutOfMemory) }
 {
     let mut outs = Vec::with_capacity(alloc, senders)?;
-    let (sender, mut into) = LinkIn::<M>::new(alloc, capacity, Patience::new(senders))?;
+    let places = capacity.saturating_add(senders);
+    let (sender, mut into) = LinkIn::<M>::new(alloc, places, Patience::new(senders))?;
     while outs.len() < senders {
         let end = into.add_sender(&sender, outs.len() as u64)?;
         outs.push_reserved(end);

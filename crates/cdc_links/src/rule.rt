@@ -5,11 +5,13 @@ use crossbeam_channel::protocol::{Join, Lesson, Outcome, Protocol, Split};
 use std::collections::LinkedList;
 use std::marker::PhantomData;
 
-/// A message on its way, with the number of its sender.
+/// What is on its way over a link.
 #[derive(Drop)]
-pub struct Parcel<M> {
-    pub(crate) sender: u64,
-    pub(crate) value: M,
+pub enum Parcel<M> {
+    /// A message, with the number of its sender.
+    Message { sender: u64, value: M },
+    /// That a sender was given up. No account shows it.
+    Halt,
 }
 
 /// What a pass knows. A sender's pass knows its number, what it has sent, and whether it was handed back; the
@@ -79,10 +81,9 @@ pub struct Sends<K> {
 }
 
 impl<M, N, K: Naming<N>> Outcome<Parcel<M>, Knowledge<M, N>> for Sends<K> {
-    ghost use Rattle.cdc_links.specs.Rule.{sending};
-    ghost use Rattle.std.specs.Prelude.{◌≡◌, [], ◌∷◌, ◌++◌, false};
+    ghost use Rattle.cdc_links.specs.Rule.{Sent};
 
-    ghost then = { λ v x w. w ≡ sending v.number (v.sent ++ (x.value, K.name) ∷ []) false };
+    ghost then = { λ v x w. Sent K.name v x w };
 }
 
 impl<M, N, K: Naming<N>> Lesson<Parcel<M>, Knowledge<M, N>> for Sends<K> {
@@ -91,7 +92,23 @@ impl<M, N, K: Naming<N>> Lesson<Parcel<M>, Knowledge<M, N>> for Sends<K> {
     ghost fact = { λ v items. ⊤ };
 }
 
-/// A receive tells its pass who has sent the message, under what name, and that it could follow.
+/// That a sender was given up leaves what its pass knows as it is.
+pub struct Halts;
+
+impl<M, N> Outcome<Parcel<M>, Knowledge<M, N>> for Halts {
+    ghost use Rattle.std.specs.Prelude.{◌≡◌};
+
+    ghost then = { λ v x w. w ≡ v };
+}
+
+impl<M, N> Lesson<Parcel<M>, Knowledge<M, N>> for Halts {
+    ghost use Rattle.std.specs.Prelude.{⊤};
+
+    ghost fact = { λ v items. ⊤ };
+}
+
+/// A receive tells its pass who has sent the message, under what name, and that it could follow; where a sender was given
+/// up, nothing.
 pub struct Receives;
 
 impl<M: Message> Outcome<Parcel<M>, Knowledge<M, M::Name>> for Receives {
