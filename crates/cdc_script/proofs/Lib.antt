@@ -1,6 +1,7 @@
 mod Examples
 pub mod BindingLemmas
 pub mod FieldMarks
+pub mod KeepLemmas
 pub mod LineLemmas
 pub mod PrintableLemmas
 pub mod ReadLemmas

@@ -5,10 +5,10 @@ use Rattle.cdc_script.specs.declared.faults.ScriptError.{ScriptError}
 use Rattle.cdc_script.specs.declared.faults.ScriptError.TheVariants as error
 use Rattle.cdc_script.specs.declared.faults.ScriptFault.{ScriptFault}
 
--- a fault that is named is the first one; want of memory says nothing of the text
-abbrev pub IsFault : {A : Type 0} → ScriptError → Result A ScriptFault → Type 0
-IsFault (error.Fault fault) read = read ≡ Err fault
-IsFault error.OutOfMemory read = Unit {0}
+-- a fault that is named is the first one; memory is wanted only where there is something to keep
+abbrev pub IsFault : {A : Type 0} → ScriptError → Result A ScriptFault → Type 0 → Type 0
+IsFault (error.Fault fault) read keeps = read ≡ Err fault
+IsFault error.OutOfMemory read keeps = keeps
 
 -- known bytes lose at most so many at their front
 abbrev pub ConsumesAtMost : ℕ → Option (List ℕ) → Option (List ℕ) → Type 0

@@ -1,6 +1,7 @@
 -- What a script says: a fold over its lines, up to the first fault.
-use Rattle.std.specs.Prelude.{ℕ, ◌+◌, nat_lt, List, [], ◌∷◌, length, Option, Some, None, Result, Ok, Err, if◌then◌else◌}
+use Rattle.std.specs.Prelude.{◌≡◌, ℕ, ◌+◌, ◌≤◌, true, codes, nat_lt, List, [], ◌∷◌, length, Option, Some, None, Result, Ok, Err, if◌then◌else◌}
 use Rattle.std.specs.List.{cons_option}
+use Rattle.std.specs.Str.{bytes_eq}
 use Rattle.std.specs.Str.Lines.{lines}
 use Rattle.cdc_types.specs.declared.accounts.NewAccount.{NewAccount}
 use Rattle.cdc_types.specs.declared.transfers.NewTransfer.{NewTransfer}
@@ -17,6 +18,7 @@ use Rattle.cdc_script.specs.declared.statements.Statement.{Statement}
 use Rattle.cdc_script.specs.declared.statements.Statement.TheVariants as says
 use Rattle.cdc_script.specs.Statements.{line_says, after}
 use Rattle.cdc_script.specs.Faults.{◌>>=◌}
+use Rattle.cdc_script.specs.Words.{spoken}
 
 -- the bytes of a script or a step file, at most
 abbrev pub max_bytes : ℕ
@@ -43,6 +45,22 @@ statements_from n context (line ∷ rest) = do
   said ← in_line n (line_says context line)
   more ← statements_from (n + 1) (after_line context said) rest
   Ok (cons_option said more)
+
+-- the first word of a line makes it a subscriber line
+abbrev pub BeginsSubscriber : List (List ℕ) → Type 0
+BeginsSubscriber [] = ⊥
+BeginsSubscriber (first ∷ rest) = bytes_eq first (codes "subscriber") ≡ true
+
+-- something is said, or else it is by what comes later; of a line with a fault only a binding is kept, while it is read
+abbrev pub SaysOr : List (List ℕ) → Result (Option Statement) FaultKind → Type 0 → Type 0
+SaysOr words (Ok None) later = later
+SaysOr words (Ok (Some said)) later = Unit {0}
+SaysOr words (Err kind) later = BeginsSubscriber words
+
+-- some line says something before the first fault, or has a binding, so that there is something to keep
+abbrev pub SaySomething : Context → List (List ℕ) → Type 0
+SaySomething context [] = ⊥
+SaySomething context (line ∷ rest) = SaysOr (spoken line) (line_says context line) (SaySomething context rest)
 
 -- the accounts that join a batch: those that follow it at once
 abbrev pub leading_accounts : List Statement → List NewAccount
@@ -97,3 +115,7 @@ abbrev pub script_of : List ℕ → Result Script ScriptFault
 script_of text =
     if nat_lt max_bytes (length text) then Err (whole_fault TooLong)
     else script_of_lines (lines text)
+
+-- a script has something to keep
+abbrev pub KeepsScript : List ℕ → Type 0
+KeepsScript text = (length text ≤ max_bytes) × SaySomething at_top (lines text)

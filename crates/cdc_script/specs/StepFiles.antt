@@ -1,5 +1,5 @@
 -- What a step file says: a fold over its lines, up to the first fault.
-use Rattle.std.specs.Prelude.{ℕ, ◌+◌, nat_lt, List, [], ◌∷◌, length, Option, Some, None, Result, Ok, Err, codes, unwrap_or, if◌then◌else◌}
+use Rattle.std.specs.Prelude.{ℕ, ◌+◌, ◌≤◌, nat_lt, List, [], ◌∷◌, length, Option, Some, None, Result, Ok, Err, codes, unwrap_or, if◌then◌else◌}
 use Rattle.std.specs.List.{cons_option}
 use Rattle.std.specs.Str.{bytes_eq}
 use Rattle.std.specs.Str.Lines.{lines}
@@ -68,8 +68,23 @@ acts_from n (line ∷ rest) = do
   more ← acts_from (n + 1) rest
   Ok (cons_option named more)
 
+-- something is named, or else it is by what comes later; after a fault nothing is
+abbrev pub NamesOr : Result (Option Act) FaultKind → Type 0 → Type 0
+NamesOr (Ok None) later = later
+NamesOr (Ok (Some said)) later = Unit {0}
+NamesOr (Err kind) later = ⊥
+
+-- some line names an act before the first fault, so that there is something to keep
+abbrev pub NameAnAct : List (List ℕ) → Type 0
+NameAnAct [] = ⊥
+NameAnAct (line ∷ rest) = NamesOr (line_names line) (NameAnAct rest)
+
 -- what a step file says, or its first fault
 abbrev pub acts_of : List ℕ → Result (List Act) ScriptFault
 acts_of text =
     if nat_lt max_bytes (length text) then Err (whole_fault TooLong)
     else acts_from 1 (lines text)
+
+-- a step file has something to keep
+abbrev pub KeepsActs : List ℕ → Type 0
+KeepsActs text = (length text ≤ max_bytes) × NameAnAct (lines text)

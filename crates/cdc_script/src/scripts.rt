@@ -1,10 +1,11 @@
 //! Scripts: the batches that clients hand in.
 
-ghost use Rattle.std.specs.Prelude.{◌≡◌, ◌+◌, ◌≤◌, [], length, Ok, Err, IfOk, IfSome, MatchResult};
+ghost use Rattle.std.specs.Prelude.{◌≡◌, ◌+◌, ◌<◌, ◌≤◌, [], length, Ok, Err, IfOk, IfSome, MatchResult};
 ghost use Rattle.std.specs.Str.Lines.{lines};
 ghost use Rattle.cdc_script.specs.Private.Drafts.{script_from};
 ghost use Rattle.cdc_script.specs.Reading.{ConsumesAtMost, IsFault};
-ghost use Rattle.cdc_script.specs.Scripts.{max_bytes, script_of_lines, script_of};
+ghost use Rattle.cdc_script.specs.Scripts.{at_top, max_bytes, script_of_lines, script_of};
+ghost use Rattle.cdc_script.specs.Scripts.{KeepsScript, SaySomething};
 
 use crate::drafts::Draft;
 use crate::faults::{FaultKind, LineError, ReadError, ScriptError, ScriptFault};
@@ -37,9 +38,11 @@ pub struct Script {
 /// What the lines of a text say.
 fn read_lines(alloc: Global, text: &[u8]) -> Result<Draft, ScriptError>
     requires { length text.now ≤ max_bytes }
-    ensures { MatchResult result
+    ensures script { MatchResult result
         (λ draft. script_of_lines (lines text.now) ≡ script_from draft [])
-        (λ error. IsFault error (script_of_lines (lines text.now))) }
+        (λ error. IsFault error (script_of_lines (lines text.now)) (SaySomething at_top (lines text.now))) }
+    ensures said { IfOk result (λ draft. 0 < length draft.bindings.items
+        → SaySomething at_top (lines text.now)) }
 {
     let mut draft = Draft::new(alloc);
     let mut rest = text;
@@ -60,7 +63,7 @@ fn read_lines(alloc: Global, text: &[u8]) -> Result<Draft, ScriptError>
 /// The script that a text writes, or its first fault.
 pub fn parse_script(alloc: Global, text: &[u8]) -> Result<Script, ScriptError>
     ensures { MatchResult result (λ script. script_of text.now ≡ Ok script)
-        (λ error. IsFault error (script_of text.now)) }
+        (λ error. IsFault error (script_of text.now) (KeepsScript text.now)) }
 {
     if text.len() > Limits::SCRIPT_BYTES {
         return Err(fault_at(0, FaultKind::TooLong));

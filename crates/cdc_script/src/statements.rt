@@ -6,10 +6,11 @@ ghost use Rattle.std.specs.List.{list_all, take_while};
 ghost use Rattle.std.specs.Str.{bytes_eq};
 ghost use Rattle.cdc_match.specs.Parsing.{arguments_of};
 ghost use Rattle.cdc_script.specs.Private.Lines.{IsLineFault};
+ghost use Rattle.cdc_script.specs.Scripts.{BeginsSubscriber};
 ghost use Rattle.cdc_script.specs.Statements.{account_line, binding_line, client_line, line_says};
 ghost use Rattle.cdc_script.specs.Statements.{meaning, readable, subscriber_line, transfer_line};
 ghost use Rattle.cdc_script.specs.Private.Suited.{IsSuited, IsNoItem, HasBatch};
-ghost use Rattle.cdc_script.specs.Words.{words as words_of, is_printable};
+ghost use Rattle.cdc_script.specs.Words.{words as words_of, is_printable, spoken};
 
 use crate::faults::{FaultKind, LineError};
 use crate::fields::{ItemKind, account_of, read_fields};
@@ -55,6 +56,7 @@ pub fn read_statement(
 ) -> Result<Option<Statement>, LineError>
     ensures says { MatchResult result (λ said. line_says context line.now ≡ Ok said)
         (λ error. IsLineFault error (line_says context line.now)) }
+    ensures memory { result ≡ Err LineError.OutOfMemory → BeginsSubscriber (spoken line.now) }
     ensures suited { IfOk result (λ said. IfSome said (IsSuited context)) }
 {
     match first_word(line) {
@@ -73,6 +75,7 @@ fn read_words(
     ensures says { MatchResult result
         (λ said. meaning context first.now (words_of rest.now) ≡ Ok said)
         (λ error. IsLineFault error (meaning context first.now (words_of rest.now))) }
+    ensures memory { result ≡ Err LineError.OutOfMemory → bytes_eq first.now (codes "subscriber") ≡ true }
     ensures suited { IfOk result (IsSuited context) }
 {
     if is_word(first, "subscriber") {

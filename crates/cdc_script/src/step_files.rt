@@ -6,6 +6,7 @@ ghost use Rattle.std.specs.Str.Lines.{lines};
 ghost use Rattle.cdc_script.specs.Reading.{ConsumesAtMost, IsFault};
 ghost use Rattle.cdc_script.specs.Scripts.{max_bytes};
 ghost use Rattle.cdc_script.specs.StepFiles.{ack_said, act_said, acts_from, acts_of, line_names};
+ghost use Rattle.cdc_script.specs.StepFiles.{KeepsActs, NameAnAct};
 ghost use Rattle.cdc_script.specs.Words.{words as words_of};
 
 use crate::faults::{FaultKind, ReadError, ScriptError, ScriptFault};
@@ -90,7 +91,7 @@ fn read_acts(alloc: Global, text: &[u8]) -> Result<Vec<Act>, ScriptError>
     requires { length text.now ≤ max_bytes }
     ensures { MatchResult result
         (λ acts. acts_from 1 (lines text.now) ≡ Ok acts.items)
-        (λ error. IsFault error (acts_from 1 (lines text.now))) }
+        (λ error. IsFault error (acts_from 1 (lines text.now)) (NameAnAct (lines text.now))) }
 {
     let mut acts = Vec::new(alloc);
     let mut rest = text;
@@ -118,7 +119,7 @@ fn add_act(acts: &mut Vec<Act>, act: Act) -> Result<(), AllocError>
 /// What a step file of this text says, or its first fault.
 pub fn parse_steps(alloc: Global, text: &[u8]) -> Result<Vec<Act>, ScriptError>
     ensures { MatchResult result (λ acts. acts_of text.now ≡ Ok acts.items)
-        (λ error. IsFault error (acts_of text.now)) }
+        (λ error. IsFault error (acts_of text.now) (KeepsActs text.now)) }
 {
     if text.len() > Limits::SCRIPT_BYTES {
         return Err(fault_at(0, FaultKind::TooLong));
