@@ -8,7 +8,7 @@ _relayplum() {
     elif [ "${COMP_WORDS[1]}" = help ]; then
         words='books messages simulate run help'
     elif [ "${COMP_WORDS[COMP_CWORD - 1]}" = --window ]; then
-        words='1'
+        words='1 2 8 64'
     elif [[ $word == -* ]]; then
         case ${COMP_WORDS[1]} in
             books) words='--explain --check -h --help' ;;

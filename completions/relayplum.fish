@@ -11,7 +11,7 @@ complete -c relayplum -n '__fish_seen_subcommand_from books simulate' -l explain
 complete -c relayplum -n '__fish_seen_subcommand_from books messages simulate' -l check -d 'Judge the files alone'
 complete -c relayplum -n '__fish_seen_subcommand_from simulate' -l trace -d 'Say on standard error what each step did'
 complete -c relayplum -n '__fish_seen_subcommand_from simulate' -l diagram -d 'Draw the steps for Mermaid, on standard error or, as --diagram=FILE, in a file'
-complete -c relayplum -n '__fish_seen_subcommand_from simulate run' -l window -x -a 1 -d 'For how many events a session waits at a time'
+complete -c relayplum -n '__fish_seen_subcommand_from simulate run' -l window -x -a '1 2 8 64' -d 'For how many events a session waits at a time'
 complete -c relayplum -n '__fish_seen_subcommand_from run' -l prefetch -x -d 'How many deliveries of a queue may be without an acknowledgement'
 complete -c relayplum -n '__fish_seen_subcommand_from run' -l lose-confirm -x -d 'Lose the confirm of the Nth accepted publish'
 complete -c relayplum -n '__fish_seen_subcommand_from run' -l lose-publish -x -d 'Lose the Nth publish that comes to the broker'

@@ -1,7 +1,7 @@
 -- What the words of the command line ask for.
 use Rattle.std.specs.Prelude.{◌≡◌, ℕ, List, None, codes}
 use Rattle.cdc_run.specs.Plans.{HasNoFaults}
-use Rattle.cdc_commands.specs.Windows.{IsWindow}
+use Rattle.cdc_types.specs.Windows.{IsWindow}
 use Rattle.cdc_run_command.specs.Plans.{IsPlan}
 use Rattle.cdc_run_command.specs.declared.plans.RunPlan.{RunPlan}
 use Rattle.cdc_app.specs.declared.command_line.Options.{Options}

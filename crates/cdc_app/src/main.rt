@@ -1,7 +1,7 @@
 //! The program: a script in, and a report of its ledger, its messages or a subscriber's book out.
 #![tactic(auto)]
 
-ghost use Rattle.cdc_commands.specs.Windows.{IsWindow};
+ghost use Rattle.cdc_types.specs.Windows.{IsWindow};
 ghost use Rattle.cdc_run_command.specs.Plans.{IsPlan};
 
 mod advice;
@@ -21,14 +21,14 @@ use cdc_progress::{FileStore, MemoryStore};
 use cdc_run::OpenGate;
 use cdc_run_command::{RunPlan, run_command};
 use kept::Kept;
-use options::{Options, OptionsFault, Telling, options};
+use options::{Options, OptionsFault, STANDARD_ERROR, Telling, options};
 use sources::{STANDARD_INPUT, Source};
 use std::alloc::AllocError;
 use std::process::ExitCode;
 use std::sync::Wait;
 use std::thread::Threads;
 use std::{env, io};
-use telling::{EXPLAIN, Inputs, explain_books, hint, tell_simulation};
+use telling::{EXPLAIN, Inputs, explain_books, hint, may_draw, tell_simulation};
 
 fn main(rt: HostRuntime) -> ExitCode {
     let ending = match words_of(&rt) {
@@ -113,6 +113,14 @@ fn run_simulation(
 ) -> Ending
     requires { IsWindow window }
 {
+    if let Some(out) = telling.diagram {
+        if out != STANDARD_ERROR && !may_draw(rt, out) {
+            let _ = eprintln!(rt;
+                "error: --diagram={out}: this file holds something else than a diagram, which would be lost; name another one"
+            );
+            return Ending::BadWords;
+        }
+    }
     let mut script = Kept::new(rt.alloc(), Source::of_script(rt, file));
     let mut step_file = Kept::new(rt.alloc(), Source::of_file(rt, steps));
     let mut printed = Kept::new(rt.alloc(), io::writer(rt));

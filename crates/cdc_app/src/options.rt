@@ -1,7 +1,7 @@
 //! The words of the command line.
 
 ghost use Rattle.std.specs.Prelude.{◌≡◌, length, codes, IfOk, IfSome, IsOkAnd};
-ghost use Rattle.cdc_commands.specs.Windows.{IsWindow};
+ghost use Rattle.cdc_types.specs.Windows.{IsWindow};
 ghost use Rattle.cdc_app.specs.Options.{IsRun, IsWithinLimits};
 
 pub use crate::command_line::{Options, OptionsFault, Telling};
@@ -142,7 +142,7 @@ pub fn window_option<'a>(alloc: Global) -> Arg<'a> {
         .long("window")
         .value_name("N")
         .action(ArgAction::Set)
-        .help("For how many events a session waits at a time: 1")
+        .help("For how many events a session waits at a time, 1 to 64")
 }
 
 /// The flag `--explain`.
@@ -261,7 +261,7 @@ pub fn asked_window(alloc: Global, arguments: &ArgMatches<'_>) -> Result<usize, 
         Some(window) => Ok(window),
         None => Err(bad_words(
             alloc,
-            "error: a window is 1\n\nFor more information, try '--help'.\n",
+            "error: a window is 1 to 64\n\nFor more information, try '--help'.\n",
         )?),
     }
 }
@@ -273,7 +273,7 @@ fn read_window(word: Option<&str>) -> Option<usize>
     let Some(word) = word else {
         return Some(1);
     };
-    let number = decimal_up_to(word.as_bytes(), Limits::WINDOW_TODAY as u128)?;
+    let number = decimal_up_to(word.as_bytes(), Limits::WINDOW as u128)?;
     if number == 0 {
         None
     } else {

@@ -2,12 +2,14 @@
 //! was refused, and what each step did. Where memory runs out on the way nothing is told, and a write that fails is
 //! passed over: the command has ended by then.
 
-ghost use Rattle.cdc_commands.specs.Windows.{IsWindow};
+ghost use Rattle.cdc_types.specs.Windows.{IsWindow};
 
 use crate::advice::shown_name;
 use crate::options::{STANDARD_ERROR, Telling};
 use cdc_telling::{RefusedStep, Tally, books_lines, count_lines, simulation_told};
 use std::fs;
+use std::fs::OpenOptions;
+use std::io::Read;
 
 /// What a simulation read: the names of its files, as a person gave them, and their bytes.
 #[derive(Clone, Copy)]
@@ -79,6 +81,23 @@ pub fn tell_simulation(rt: &HostRuntime, inputs: Inputs<'_>, telling: Telling<'_
         }
         None => false,
     }
+}
+
+/// What a diagram begins with (Mermaid).
+const DIAGRAM: &[u8; 15] = b"sequenceDiagram";
+
+/// Whether a diagram may be written to the file of this name without the loss of anything else: there is none, it is empty
+/// or holds a diagram, or it is no regular file, as a pipe.
+pub fn may_draw(rt: &HostRuntime, file: &str) -> bool {
+    // (a file that can't be opened is missed when it is written)
+    let Ok(mut file) = OpenOptions::new().read(true).write(true).open(rt, file) else {
+        return true;
+    };
+    let is_regular = file
+        .metadata()
+        .is_ok_and(|data| data.is_file() && data.len() > 0);
+    let mut head = [0; 15];
+    !is_regular || file.read_exact(&mut head).is_ok() && head == *DIAGRAM
 }
 
 /// Writes a diagram to standard error or to the file of this name, and says where that can't be done.

@@ -8,4 +8,3 @@ pub mod Private
 pub mod Report
 pub mod Simulated
 pub mod Simulations
-pub mod Windows

@@ -4,7 +4,7 @@ ghost use Rattle.std.specs.Prelude.{◌≡◌, ◌^◌, ◌<◌, ◌≤◌, ◌+
 ghost use Rattle.std.specs.Prelude.{OnErr, OnOk, Some, drop, if◌then◌else◌, is_some, length};
 ghost use Rattle.std.specs.Vec.Iter.{into_iter_items};
 ghost use Rattle.cdc_script.specs.declared.scripts.ClientBatch.{ClientBatch as Said};
-ghost use Rattle.cdc_commands.specs.Windows.{IsWindow};
+ghost use Rattle.cdc_types.specs.Windows.{IsWindow};
 ghost use Rattle.cdc_commands.specs.Private.Stages.{GivesUpAt, HasDoneAt, IsAt, IsSimulationFault};
 ghost use Rattle.cdc_commands.specs.Simulations.{ActsTo, AnswersTo, PlaysActs, Simulates, Stage};
 ghost use Rattle.cdc_commands.specs.Simulations.{at_start, simulation_text};

@@ -24,7 +24,7 @@ pub struct Config {
 }
 
 impl Config {
-    /// Whether a run can be made of it: of 1 to 2 clients, 1 to 2 subscribers, window 1, and prefetch 1 to 64.
+    /// Whether a run can be made of it: of 1 to 2 clients, 1 to 2 subscribers, window and prefetch 1 to 64.
     pub fn fits(&self) -> bool
         ensures { IsTrue result ↔ Fits self.now }
     {
@@ -33,7 +33,8 @@ impl Config {
             && self.clients <= Limits::CLIENTS
             && 1 <= subscribers
             && subscribers <= RunLimits::SUBSCRIBERS
-            && self.window == Limits::WINDOW_TODAY
+            && 1 <= self.window
+            && self.window <= Limits::WINDOW
             && 1 <= self.prefetch
             && self.prefetch <= Limits::PREFETCH
     }

@@ -2,7 +2,7 @@
 use Rattle.std.specs.Prelude.{◌≤◌, ℕ, All}
 use Rattle.cdc_types.specs.declared.bounds.TheConstants.Limits.{PREFETCH}
 use Rattle.cdc_run.specs.declared.plans.Faults.{Faults}
-use Rattle.cdc_commands.specs.Windows.{IsWindow}
+use Rattle.cdc_types.specs.Windows.{IsWindow}
 use Rattle.cdc_run_command.specs.declared.plans.RunPlan.{RunPlan}
 
 -- a queue may have so many deliveries without an acknowledgement

@@ -40,9 +40,11 @@ pub(crate) enum ConnectorDeed {
     Crashed {
         session: u64,
     },
-    /// The session was offered an event, or told that none follows.
+    /// The session was offered so many events, the first and the last with these timestamps, or told that none follows.
     Offered {
-        event: Option<u64>,
+        count: usize,
+        first: u64,
+        last: u64,
         complete: bool,
     },
     /// The session sent a packet, which has this number.
@@ -155,7 +157,12 @@ impl ConnectorDeed {
             ConnectorDeed::Crashed { session } => {
                 Sentence::One("session ", session.into(), " is gone")
             }
-            ConnectorDeed::Offered { event, complete } => offer_sentence(event, complete),
+            ConnectorDeed::Offered {
+                count,
+                first,
+                last,
+                complete,
+            } => offer_sentence(count, first, last, complete),
             ConnectorDeed::Published { number, packet } => packet_sentence(number as u64, packet),
             ConnectorDeed::Arrived { packet, .. } => arrival_sentence(packet),
             ConnectorDeed::PassedOver { why, .. } => why,
@@ -177,14 +184,29 @@ impl ConnectorDeed {
     }
 }
 
-/// What a session was offered.
-fn offer_sentence(event: Option<u64>, complete: bool) -> Sentence {
-    match (event, complete) {
-        (Some(event), false) => Sentence::One("event ", event.into(), ""),
-        (Some(event), true) => Sentence::One("event ", event.into(), ", the last one"),
-        (None, false) => Sentence::Plain("no event yet"),
-        (None, true) => Sentence::Plain("no event follows"),
+/// What a session was offered: so many events, from this timestamp to that one.
+fn offer_sentence(count: usize, first: u64, last: u64, complete: bool) -> Sentence {
+    match (count, complete) {
+        (0, false) => Sentence::Plain("no event yet"),
+        (0, true) => Sentence::Plain("no event follows"),
+        (1, false) => Sentence::One("event ", first.into(), ""),
+        (1, true) => Sentence::One("event ", first.into(), ", the last one"),
+        (_, false) => events_sentence(count, first, last, ""),
+        (_, true) => events_sentence(count, first, last, ", the last ones"),
     }
+}
+
+/// So many events, from this timestamp to that one, and what else is said of them.
+fn events_sentence(count: usize, first: u64, last: u64, after: &'static str) -> Sentence {
+    Sentence::Three(
+        "",
+        count as u128,
+        " events, ",
+        first.into(),
+        " to ",
+        last.into(),
+        after,
+    )
 }
 
 /// A packet of this number.

@@ -18,6 +18,8 @@ use std::alloc::{AllocError, Global};
 pub(crate) struct Followed {
     /// How many batches the ledger took.
     pub batches: usize,
+    /// For how many events a session waits at a time.
+    window: usize,
     /// How many sessions were started.
     sessions: u64,
     /// How many events are saved as confirmed.
@@ -42,7 +44,7 @@ pub(crate) fn place_of(number: u64) -> usize {
 }
 
 /// The timestamp of the last of the first so many events, 0 where there is none.
-fn timestamp_of(ledger: &Ledger, count: usize) -> u64 {
+pub(crate) fn timestamp_of(ledger: &Ledger, count: usize) -> u64 {
     match ledger.log().get(count.wrapping_sub(1)) {
         Some(event) => event.timestamp,
         None => 0,
@@ -50,14 +52,19 @@ fn timestamp_of(ledger: &Ledger, count: usize) -> u64 {
 }
 
 impl Followed {
-    /// What is kept where nothing has happened, with a queue for each binding.
-    pub(crate) fn new(alloc: Global, bindings: &[Binding]) -> Result<Followed, AllocError> {
+    /// What is kept where nothing has happened, with a queue for each binding; a session waits for so many events.
+    pub(crate) fn new(
+        alloc: Global,
+        bindings: &[Binding],
+        window: usize,
+    ) -> Result<Followed, AllocError> {
         let mut lanes = Vec::new(alloc);
         for binding in bindings {
             lanes.push(Lane::new(alloc, binding.try_copy(alloc)?))?;
         }
         Ok(Followed {
             batches: 0,
+            window,
             sessions: 0,
             saved: 0,
             session: None,
@@ -72,6 +79,7 @@ impl Followed {
     /// Follows a step that was done, and says what it did. The ledger is that after it.
     pub(crate) fn follow(
         &mut self,
+        alloc: Global,
         step: &Step,
         did: &Did,
         ledger: &Ledger,
@@ -85,7 +93,7 @@ impl Followed {
             | Step::Break(i)
             | Step::Close(i)
             | Step::Ack(i, _) => self.follow_lane(*i, step, did),
-            _ => self.follow_connector(step, did, ledger),
+            _ => self.follow_connector(alloc, step, did, ledger),
         }
     }
 
@@ -120,6 +128,7 @@ impl Followed {
     /// A step of the connector, or one of what goes between it and the broker.
     fn follow_connector(
         &mut self,
+        alloc: Global,
         step: &Step,
         did: &Did,
         ledger: &Ledger,
@@ -127,7 +136,7 @@ impl Followed {
         match step {
             Step::Publish => self.follow_publish(ledger),
             Step::Arrive(k) => self.follow_arrival(*k, did, ledger),
-            Step::Start => Ok(self.follow_start(ledger)),
+            Step::Start => Ok(self.follow_start(alloc, ledger)),
             Step::Crash => Ok(self.follow_crash()),
             Step::Poll => Ok(self.follow_poll(ledger)),
             Step::Answer(k) => Ok(self.follow_answer(*k, did)),
@@ -137,9 +146,9 @@ impl Followed {
     }
 
     /// A session started, after what is saved.
-    fn follow_start(&mut self, ledger: &Ledger) -> Deed {
+    fn follow_start(&mut self, alloc: Global, ledger: &Ledger) -> Deed {
         self.sessions = self.sessions.saturating_add(1);
-        self.session = Some(Session::new(self.sessions, self.saved));
+        self.session = Some(Session::new(alloc, self.sessions, self.saved, self.window));
         Deed::Connector(ConnectorDeed::Started {
             session: self.sessions,
             after: timestamp_of(ledger, self.saved),
@@ -154,21 +163,23 @@ impl Followed {
         })
     }
 
-    /// The session was offered the next event, if there is one.
+    /// The session was offered the next events, as many as there are and as it has room for.
     fn follow_poll(&mut self, ledger: &Ledger) -> Deed {
         let Some(session) = &mut self.session else {
             return Deed::Untold;
         };
-        let event = match ledger.log().get(session.offered) {
-            Some(event) => {
-                session.take_event();
-                Some(event.timestamp)
-            }
-            None => None,
-        };
+        let before = session.offered;
+        let count = ledger
+            .log()
+            .len()
+            .saturating_sub(before)
+            .min(session.room());
+        session.offered = before.saturating_add(count);
         session.complete = ledger.closed() && ledger.log().len() <= session.offered;
         Deed::Connector(ConnectorDeed::Offered {
-            event,
+            count,
+            first: timestamp_of(ledger, before.saturating_add(1)),
+            last: timestamp_of(ledger, session.offered),
             complete: session.complete,
         })
     }
@@ -178,7 +189,7 @@ impl Followed {
         let Some(session) = &mut self.session else {
             return Ok(Deed::Untold);
         };
-        let packet = session.next_packet(timestamp_of(ledger, session.offered));
+        let packet = session.next_packet(ledger)?;
         self.packets.push(packet)?;
         Ok(Deed::Connector(ConnectorDeed::Published {
             number: self.packets.len(),
@@ -255,7 +266,7 @@ impl Followed {
         };
         let counted = matches!(did, Did::Counted(true));
         if counted {
-            session.take_confirm();
+            session.take_confirm(confirm.tag);
         }
         Deed::Connector(ConnectorDeed::Answered {
             number,
@@ -267,10 +278,10 @@ impl Followed {
 
     /// The session saved how far it is confirmed.
     fn follow_save(&mut self, ledger: &Ledger) -> Deed {
-        let Some(session) = self.session else {
+        let Some(session) = &self.session else {
             return Deed::Untold;
         };
-        self.saved = session.confirmed;
+        self.saved = session.confirmed();
         Deed::Connector(ConnectorDeed::Saved {
             session: session.number,
             timestamp: timestamp_of(ledger, self.saved),

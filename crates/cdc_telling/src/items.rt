@@ -85,9 +85,36 @@ impl<'a> ItemLines<'a> {
         for (place, (request, result)) in requests.iter().zip(results).enumerate() {
             if *result != AccountResult::Accepted {
                 self.push_place(place, " account ", request.id);
-                let sentence = account_sentence(*result, request);
-                self.push_answer(result.number(), result.name(), sentence);
+                if *result == AccountResult::LinkedEventFailed {
+                    self.push_linked_account(requests, results, place);
+                } else {
+                    let sentence = account_sentence(*result, request);
+                    self.push_answer(result.number(), result.name(), sentence);
+                }
             }
+        }
+    }
+
+    /// Ends the line of an account that wasn't made since another one of its chain wasn't.
+    fn push_linked_account(
+        &mut self,
+        requests: &[NewAccount],
+        results: &[AccountResult],
+        place: usize,
+    ) {
+        let before = requests.get(..place).unwrap_or(&[]);
+        let first = before.iter().rev().position(|request| !request.is_linked());
+        let first = first.map_or(0, |count| place.saturating_sub(count));
+        let failed = AccountResult::LinkedEventFailed;
+        let other = results
+            .iter()
+            .skip(first)
+            .position(|answer| *answer != failed);
+        let other = first.saturating_add(other.unwrap_or(0));
+        self.push_link(failed.number(), failed.name(), "account ", other);
+        if let (Some(request), Some(result)) = (requests.get(other), results.get(other)) {
+            let sentence = account_sentence(*result, request);
+            self.push_answer(result.number(), result.name(), sentence);
         }
     }
 
@@ -101,10 +128,52 @@ impl<'a> ItemLines<'a> {
         for (place, (request, result)) in requests.iter().zip(results).enumerate() {
             if *result != TransferResult::Accepted {
                 self.push_place(place, " transfer ", request.id);
-                let sentence = transfer_sentence(*result, request, ledger);
-                self.push_answer(result.number(), result.name(), sentence);
+                if *result == TransferResult::LinkedEventFailed {
+                    self.push_linked_transfer(requests, results, place, ledger);
+                } else {
+                    let sentence = transfer_sentence(*result, request, ledger);
+                    self.push_answer(result.number(), result.name(), sentence);
+                }
             }
         }
+    }
+
+    /// Ends the line of a transfer that wasn't made since another one of its chain wasn't.
+    fn push_linked_transfer(
+        &mut self,
+        requests: &[NewTransfer],
+        results: &[TransferResult],
+        place: usize,
+        ledger: &Ledger,
+    ) {
+        let before = requests.get(..place).unwrap_or(&[]);
+        let first = before.iter().rev().position(|request| !request.is_linked());
+        let first = first.map_or(0, |count| place.saturating_sub(count));
+        let failed = TransferResult::LinkedEventFailed;
+        let other = results
+            .iter()
+            .skip(first)
+            .position(|answer| *answer != failed);
+        let other = first.saturating_add(other.unwrap_or(0));
+        self.push_link(failed.number(), failed.name(), "transfer ", other);
+        if let (Some(request), Some(result)) = (requests.get(other), results.get(other)) {
+            let sentence = transfer_sentence(*result, request, ledger);
+            self.push_answer(result.number(), result.name(), sentence);
+        }
+    }
+
+    /// Adds that an item wasn't accepted since another one of its chain wasn't; why that one wasn't comes behind.
+    fn push_link(&mut self, number: u8, name: &str, kind: &'static str, other: usize) {
+        self.text.push_number(number.into());
+        self.text.push(" ");
+        self.text.push(name);
+        self.text.push(": ");
+        self.text.push(kind);
+        self.text.push_sentence(Sentence::One(
+            "",
+            other as u128 + 1,
+            ", in its chain, wasn't accepted: ",
+        ));
     }
 
     /// Begins the line of an item: where it stands, and which one it is.

@@ -47,11 +47,6 @@ impl Lane {
         self.acks.len()
     }
 
-    /// Whether nothing is on its way to the subscriber.
-    pub(crate) fn is_still(&self) -> bool {
-        self.flight.is_empty()
-    }
-
     /// An item comes to the queue, if it belongs to it.
     pub(crate) fn take_in(&mut self, cargo: Cargo, ledger: &Ledger) -> Result<(), AllocError> {
         if self.wants(cargo, ledger) {

@@ -2,7 +2,7 @@
 
 use crate::following::{Followed, place_of};
 use crate::sentences::Sentence;
-use crate::sessions::Session;
+use crate::sessions::{Session, Waiting};
 use cdc_types::Step;
 
 /// Why a step isn't enabled now.
@@ -73,20 +73,49 @@ fn connector_reason(step: &Step, followed: &Followed) -> Sentence {
 
 /// Why a session wants no events.
 fn poll_reason(session: &Session) -> Sentence {
-    if session.unsent {
+    if session.has_unsent() {
         return Sentence::Plain("the session has an event that it is to publish first");
     }
-    match session.unconfirmed {
-        Some(tag) => Sentence::One("the session waits for the confirm of tag ", tag.into(), ""),
-        None => Sentence::Plain("the session knows that no event follows"),
+    match session.waiting() {
+        Some(waiting) if session.room() == 0 => {
+            waiting_sentence(
+                [
+                    "the session waits for the confirm of tag ",
+                    "the session waits for ",
+                ],
+                waiting,
+            )
+        }
+        _ => Sentence::Plain("the session knows that no event follows"),
     }
+}
+
+/// Who waits for a confirm, or for several: the words before one, and those before more.
+fn waiting_sentence(words: [&'static str; 2], waiting: Waiting) -> Sentence {
+    let [one, more] = words;
+    if waiting.count == 1 {
+        return Sentence::One(one, waiting.first.into(), "");
+    }
+    Sentence::Two(
+        more,
+        waiting.count as u128,
+        " confirms, from that of tag ",
+        waiting.first.into(),
+        " on",
+    )
 }
 
 /// Why a session has no packet.
 fn publish_reason(session: &Session) -> Sentence {
-    match session.unconfirmed {
-        Some(tag) if session.complete && !session.ended => {
-            Sentence::One("the end mark waits for the confirm of tag ", tag.into(), "")
+    match session.waiting() {
+        Some(waiting) if session.complete && !session.ended => {
+            waiting_sentence(
+                [
+                    "the end mark waits for the confirm of tag ",
+                    "the end mark waits for ",
+                ],
+                waiting,
+            )
         }
         _ if session.ended => Sentence::Plain("the session has sent all, and the end mark"),
         _ => Sentence::Plain("the session has no event that is to be published"),

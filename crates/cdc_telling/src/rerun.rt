@@ -1,6 +1,6 @@
 //! A second run of a simulation, step by step, which is told.
 
-ghost use Rattle.std.specs.Prelude.{◌≡◌};
+ghost use Rattle.cdc_types.specs.Windows.{IsWindow};
 
 use crate::deeds::Deed;
 use crate::diagram::Diagram;
@@ -15,7 +15,7 @@ use cdc_ledger::{BatchError, Ledger};
 use cdc_match::Binding;
 use cdc_progress::MemoryStore;
 use cdc_script::{Act, ClientBatch, Script};
-use cdc_types::{Batch, Limits, Step};
+use cdc_types::{Batch, Step};
 use cdc_world::{Did, StepError, World};
 use std::alloc::{AllocError, Global};
 use std::vec::IntoIter;
@@ -54,10 +54,10 @@ pub(crate) fn rerun(
     acts: &[Act],
     told: &mut Retold<'_>,
 )
-    requires { window ≡ Limits.WINDOW_TODAY }
+    requires { IsWindow window }
 {
     let Script { bindings, batches } = script;
-    let Ok(followed) = Followed::new(alloc, bindings.as_slice()) else {
+    let Ok(followed) = Followed::new(alloc, bindings.as_slice(), window) else {
         told.why.give_up();
         return;
     };
@@ -78,7 +78,7 @@ fn play_anew(
     acts: &[Act],
     told: &mut Retold<'_>,
 )
-    requires { window ≡ Limits.WINDOW_TODAY }
+    requires { IsWindow window }
 {
     match World::new(alloc, bindings, window, MemoryStore::new()) {
         Ok(mut world) => run.play(alloc, &mut world, acts, told),
@@ -133,7 +133,7 @@ impl SecondRun {
     ) -> bool {
         match world.step(alloc, step) {
             Ok(did) => {
-                self.tell(step, &did, world.ledger(), told);
+                self.tell(alloc, step, &did, world.ledger(), told);
                 true
             }
             Err(refusal) => {
@@ -144,11 +144,18 @@ impl SecondRun {
     }
 
     /// Tells a step that was done. The ledger is that after it.
-    fn tell(&mut self, step: &Step, did: &Did, ledger: &Ledger, told: &mut Retold<'_>) {
+    fn tell(
+        &mut self,
+        alloc: Global,
+        step: &Step,
+        did: &Did,
+        ledger: &Ledger,
+        told: &mut Retold<'_>,
+    ) {
         if let (Step::Submit(batch), Did::Submitted(results)) = (step, did) {
             told.items.push_results(batch, results, ledger);
         }
-        match self.followed.follow(step, did, ledger) {
+        match self.followed.follow(alloc, step, did, ledger) {
             Ok(deed) => told.push(step, deed),
             Err(_) => told.trace.give_up(),
         }

@@ -10,6 +10,12 @@ use cdc_types::{
 /// How many nanoseconds a second has.
 const SECOND: u128 = 1_000_000_000;
 
+/// What is wrong with an item of a chain of which another one wasn't accepted.
+const LINKED_FAILED: &str = "another item of its chain wasn't accepted";
+
+/// What is wrong with a linked item that is its batch's last one.
+const CHAIN_OPEN: &str = "its flag 1 links it to a next item, and the batch ends with it";
+
 /// Why an account wasn't made.
 pub(crate) fn account_sentence(answer: AccountResult, request: &NewAccount) -> Sentence {
     let id = request.id;
@@ -31,6 +37,8 @@ pub(crate) fn account_sentence(answer: AccountResult, request: &NewAccount) -> S
         AccountResult::Exists => {
             Sentence::One("account ", id, " is there already, with the same fields")
         }
+        AccountResult::LinkedEventFailed => Sentence::Plain(LINKED_FAILED),
+        AccountResult::LinkedEventChainOpen => Sentence::Plain(CHAIN_OPEN),
     }
 }
 
@@ -48,10 +56,16 @@ pub(crate) fn transfer_sentence(
     }
     match ledger.transfer(request.pending_id) {
         Some(pending) => settling_sentence(answer, pending),
-        None => Sentence::One(
+        None if answer == TransferResult::PendingTransferNotFound => Sentence::One(
             "there is no transfer ",
             request.pending_id,
             " to post or void",
+        ),
+        // (it was there while the chain was looked at, and isn't stored)
+        None => Sentence::One(
+            "transfer ",
+            request.pending_id,
+            ", of its own chain, can't be posted or voided like that",
         ),
     }
 }
@@ -84,6 +98,8 @@ fn shape_words(answer: TransferResult) -> Option<&'static str> {
         TransferResult::OverflowsTimeout => {
             Some("its timeout would end after the greatest timestamp, 2^63-1")
         }
+        TransferResult::LinkedEventFailed => Some(LINKED_FAILED),
+        TransferResult::LinkedEventChainOpen => Some(CHAIN_OPEN),
         _ => None,
     }
 }

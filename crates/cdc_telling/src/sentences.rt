@@ -11,6 +11,8 @@ pub enum Sentence {
     One(&'static str, u128, &'static str),
     /// Words around two numbers.
     Two(&'static str, u128, &'static str, u128, &'static str),
+    /// Words around three numbers.
+    Three(&'static str, u128, &'static str, u128, &'static str, u128, &'static str),
     /// Words, a number and so on, four times.
     Four(&'static str, u128, &'static str, u128, &'static str, u128, &'static str, u128),
 }
@@ -22,6 +24,9 @@ impl fmt::Display for Sentence {
             Sentence::One(before, number, after) => write!(f, "{before}{number}{after}"),
             Sentence::Two(before, first, between, second, after) => {
                 write!(f, "{before}{first}{between}{second}{after}")
+            }
+            Sentence::Three(a, first, b, second, c, third, d) => {
+                write!(f, "{a}{first}{b}{second}{c}{third}{d}")
             }
             Sentence::Four(a, first, b, second, c, third, d, fourth) => {
                 write!(f, "{a}{first}{b}{second}{c}{third}{d}{fourth}")

@@ -1,14 +1,14 @@
 //! What is told of a simulation, from the bytes of its files.
 
-ghost use Rattle.std.specs.Prelude.{◌≡◌, IfSome, IsOk};
+ghost use Rattle.std.specs.Prelude.{IfSome, IsOk};
 ghost use Rattle.cdc_script.specs.Scripts.{script_of};
 ghost use Rattle.cdc_script.specs.StepFiles.{acts_of};
+ghost use Rattle.cdc_types.specs.Windows.{IsWindow};
 
 use crate::items::ItemLines;
 use crate::places::step_line;
 use crate::rerun::{Retold, rerun};
 use cdc_script::{parse_script, parse_steps};
-use cdc_types::Limits;
 use std::alloc::{AllocError, Global};
 
 /// What is told of a simulation. Lines end with a line feed.
@@ -42,7 +42,7 @@ pub fn simulation_told(
     steps: &[u8],
     window: usize,
 ) -> Option<Told>
-    requires { window ≡ Limits.WINDOW_TODAY }
+    requires { IsWindow window }
     ensures script { IfSome result (λ told. IsOk (script_of script.now)) }
     ensures steps { IfSome result (λ told. IsOk (acts_of steps.now)) }
 {

@@ -57,6 +57,11 @@ impl Text {
                 self.push_between(before, first, between);
                 self.push_between("", second, after);
             }
+            Sentence::Three(a, first, b, second, c, third, d) => {
+                self.push_between(a, first, b);
+                self.push_between("", second, c);
+                self.push_between("", third, d);
+            }
             Sentence::Four(a, first, b, second, c, third, d, fourth) => {
                 self.push_between(a, first, b);
                 self.push_between("", second, c);

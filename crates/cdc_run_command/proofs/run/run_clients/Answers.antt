@@ -25,7 +25,7 @@ run-requires-clause-fits g c κs within =
       clients = omega (arith, counted, fit.1);
       some_binding = omega (arith, bindings.ok.0, so_many, c.requires.script.some);
       bindings = omega (arith, bindings.ok.0, so_many, c.requires.few);
-      window = omega (arith, c.requires.plan.window.least, c.requires.plan.window.greatest);
+      window = c.requires.plan.window;
       some_prefetch = c.requires.plan.prefetch.least;
       prefetch = c.requires.plan.prefetch.greatest;
     }
