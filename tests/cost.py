@@ -5,8 +5,8 @@
   tests/cost.py [PROGRAM] --top N                     the N functions that a full script spends most in
 
 The parts are accounts-2 and accounts-5000 (`books` on more and more transfers), full (a script of the greatest size),
-phases (pending transfers, posts and a pulse), log (reads of the log under `simulate`) and memory (the bytes that `books`
-asks for). Valgrind counts, so other work on the machine disturbs no figure. All of it takes some minutes of processor time; it is run by hand, and the gate
+subscribers (what each further one takes), phases (pending transfers, posts and a pulse), chains (transfers that are linked),
+log (reads of the log under `simulate`) and memory (the bytes that `books` asks for). Valgrind counts, so other work on the machine disturbs no figure. All of it takes some minutes of processor time; it is run by hand, and the gate
 does without. Exit status 1 where a figure is over its limit, 2 where nothing could be counted.
 """
 import argparse
@@ -26,7 +26,10 @@ BATCH_ITEMS = 1_000
 # The limits.
 GROWTH = 2.0  # per cent, of what a further transfer costs, for each doubling
 EXPONENT = 1.02
-FULL = 125_000  # instructions for each transfer of a full script
+FULL = 40_000  # instructions for each transfer of a full script
+FURTHER = 20_000  # instructions for each transfer and each subscriber beyond the first
+LINKED = 1.05  # what a transfer of a chain may cost, in single-phase transfers
+FAILED = 2.0  # what an item of a chain may cost that fails at its end, in single-phase transfers
 TIMES = 2.0  # what an item of two phases may cost, in single-phase transfers
 SEARCH = 100  # instructions that a search in the log may take more for each doubling of it
 BYTES_EXPONENT = 1.05  # of the bytes that growing lists ask for in all
@@ -229,6 +232,48 @@ def full(counter, table):
     table.row("from its text to the printed book", total, total / count, FULL)
 
 
+def subscribers(counter, table):
+    count, further = 4_000, (1, 3, 7)
+    text = script(2, count)
+    totals = {more: total_of(run.result()) for more, run in [(it, counter.total("subscriber all\n" * it + text)) for it in (0, *further)]}
+    table.head(f"books, {count:,} transfers: instructions; of each transfer for each further subscriber")
+    for more in further:
+        table.row(f"{more + 1} subscribers", totals[more], (totals[more] - totals[0]) / count / more, FURTHER)
+
+
+def chains(counter, table):
+    accounts, count = 2, 7_000
+    first = opened(accounts)
+
+    def linked(length, is_failing=False):
+        lines = []
+        for number in range(1, count + 1):
+            is_last = number % length == 0
+            line = transfer(number, accounts, "" if is_last else " flags=1")
+            lines.append(line.replace("ledger=1", "ledger=2") if is_failing and is_last else line)
+        return first + batches("transfers", lines)
+
+    texts = {
+        "none": first,
+        "single": script(accounts, count),
+        "two": linked(2),
+        "thousand": linked(BATCH_ITEMS),
+        "failing": linked(BATCH_ITEMS, is_failing=True),
+    }
+    runs = {name: counter.total(text) for name, text in texts.items()}
+    totals = {name: total_of(run.result()) for name, run in runs.items()}
+    table.head("books: instructions of a transfer; in single-phase transfers by themselves")
+    single = (totals["single"] - totals["none"]) / count
+    table.row(f"{count:,} transfers by themselves", round(single))
+    for what, name, limit in (
+        ("in chains of 2", "two", LINKED),
+        ("in chains of 1,000", "thousand", LINKED),
+        ("in chains of 1,000 that fail at their last item", "failing", FAILED),
+    ):
+        each = (totals[name] - totals["none"]) / count
+        table.row(what, round(each), each / single, limit)
+
+
 def phases(counter, table):
     accounts, count = 1_000, 7_000
     first = opened(accounts)
@@ -308,8 +353,8 @@ def top(counter, count):
         print("\n".join(line[:160] for line in lines[:count + 1]))
 
 
-COUNTS = {"accounts-2": accounts_2, "accounts-5000": accounts_5000, "full": full, "phases": phases, "log": log,
-          "memory": memory}
+COUNTS = {"accounts-2": accounts_2, "accounts-5000": accounts_5000, "full": full, "subscribers": subscribers,
+          "phases": phases, "chains": chains, "log": log, "memory": memory}
 
 
 def main():

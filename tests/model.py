@@ -44,6 +44,8 @@ ACCOUNT_RESULTS = [
     'code_must_not_be_zero',
     'exists_with_different_fields',
     'exists',
+    'linked_event_failed',
+    'linked_event_chain_open',
 ]
 TRANSFER_RESULTS = [
     'ok',
@@ -84,19 +86,24 @@ TRANSFER_RESULTS = [
     'overflows_timeout',
     'exceeds_credits',
     'exceeds_debits',
+    'linked_event_failed',
+    'linked_event_chain_open',
 ]
+RESULTS = {'accounts': ACCOUNT_RESULTS, 'transfers': TRANSFER_RESULTS}
 BATCH_REFUSALS = ['', 'ledger_closed', 'batch_too_large', 'timestamps_exhausted']
 
+# The flag of accounts and of transfers that links an item to the next one.
+LINKED = 1
 # Flags of accounts.
 DEBITS_LIMITED = 2
 CREDITS_LIMITED = 4
 HISTORY = 8
-ACCOUNT_FLAGS = DEBITS_LIMITED | CREDITS_LIMITED | HISTORY
+ACCOUNT_FLAGS = LINKED | DEBITS_LIMITED | CREDITS_LIMITED | HISTORY
 # Flags of transfers.
 PENDING = 2
 POST = 4
 VOID = 8
-TRANSFER_FLAGS = PENDING | POST | VOID
+TRANSFER_FLAGS = LINKED | PENDING | POST | VOID
 
 ACCOUNT_WIDTHS = {
     'id': 128,
@@ -242,18 +249,43 @@ class Ledger:
         base = max(batch.now, self.last + 1)
         if items and base + len(items) - 1 > GREATEST_MOMENT:
             raise BatchRefused('timestamps_exhausted')
-        results = [self.take_item(batch.kind, item, base + place) for place, item in enumerate(items)]
         if items:
             self.last = base + len(items) - 1
-        return len(results) if batch.kind == 'pulse' else results
+        if batch.kind == 'pulse':
+            for place, transfer in enumerate(items):
+                self.record(Entry(base + place, 'two_phase_expired', transfer))
+            return len(items)
+        results = []
+        for chain in chains_of(items):
+            results += self.take_chain(batch.kind, chain, base + len(results))
+        return results
+
+    def take_chain(self, kind, chain, base):
+        """Takes all items of a chain, or none; the results of its items."""
+        before, results = self.mark() if len(chain) > 1 else None, []
+        for place, item in enumerate(chain):
+            if place == len(chain) - 1 and is_linked(item):
+                result = RESULTS[kind].index('linked_event_chain_open')
+            elif any(results):
+                result = RESULTS[kind].index('linked_event_failed')
+            else:
+                result = self.take_item(kind, item, base + place)
+            results.append(result)
+        if before and any(results):
+            self.undo(before)
+        return [result or RESULTS[kind].index('linked_event_failed') if any(results) else 0 for result in results]
+
+    def mark(self):
+        """What the ledger is undone to."""
+        return dict(self.accounts), dict(self.transfers), dict(self.ends_of), len(self.entries)
+
+    def undo(self, mark):
+        """Makes the ledger what it was at a mark; the timestamps since stay used."""
+        self.accounts, self.transfers, self.ends_of, count = mark
+        del self.entries[count:], self.events[count:]
 
     def take_item(self, kind, item, timestamp):
-        if kind == 'accounts':
-            return self.take_account(item, timestamp)
-        if kind == 'transfers':
-            return self.take_transfer(item, timestamp)
-        self.record(Entry(timestamp, 'two_phase_expired', item))
-        return 0
+        return self.take_account(item, timestamp) if kind == 'accounts' else self.take_transfer(item, timestamp)
 
     def take_account(self, asked, timestamp):
         result = account_result(self, asked)
@@ -333,6 +365,24 @@ class Ledger:
         return sorted(due, key=lambda transfer: (transfer.end, transfer.timestamp))
 
 
+def is_linked(item):
+    """Whether an item and the next one of its batch are accepted together, or neither is."""
+    return bool(item.flags & LINKED)
+
+
+def chains_of(items):
+    """A batch parted into its chains: the longest runs in which each item but the last is linked. An item that isn't linked and
+    follows none that is stands by itself. Only the batch's last chain may end with a linked item."""
+    chains, goes_on = [], False
+    for item in items:
+        if goes_on:
+            chains[-1].append(item)
+        else:
+            chains.append([item])
+        goes_on = is_linked(item)
+    return chains
+
+
 def kind_of(request):
     """The kind of the event of a transfer."""
     if request.flags & PENDING:
@@ -391,7 +441,7 @@ def shape_result(asked):
         return 'id_must_not_be_zero'
     if asked.id == GREATEST_128:
         return 'id_must_not_be_int_max'
-    if asked.flags not in (0, PENDING, POST, VOID):
+    if asked.flags & ~LINKED not in (0, PENDING, POST, VOID):
         return 'flags_are_mutually_exclusive'
     if asked.is_plain and asked.pending_id != 0:
         return 'pending_id_must_be_zero'
@@ -927,13 +977,19 @@ class World:
 class Plan:
     """The faults of a run. Each count begins with 1 and is over the whole run.
 
-    How many events a window has, how many deliveries may be on their way, and which queues go back, shows nowhere.
+    How many deliveries may be on their way, and which queues go back, shows nowhere, and how many events a session waits
+    for in the numbers of sessions alone.
     """
 
     lose_confirm: tuple = ()
     lose_publish: tuple = ()
     restart_after: tuple = ()
     close: tuple = ()  # pairs of a subscriber and a number of applied events
+    window: int = 1
+
+    def breaks(self):
+        """How many of its faults can end a session, at the most."""
+        return sum(len(set(counts)) for counts in (self.lose_confirm, self.lose_publish, self.restart_after))
 
     def close_after(self, subscriber):
         """After how many applied events a subscriber closes; None where it stays open."""
@@ -1217,6 +1273,7 @@ class Report:
     refused: tuple = None  # the step that was refused, and the name of the refusal
     world: World = None  # what `simulate` came to
     progress: tuple = None  # what `run` saved last
+    more_sessions: int = 0  # by how many the last session's number may be greater: that hangs on the threads
 
 
 def report_of_fault(file, fault):
@@ -1341,25 +1398,34 @@ def run(script_data, plan=Plan(), progress=None):
 
 def run_in_order(script, order, plan, progress):
     ledger, batches = run_batches(script, order)
-    items, progress = published(ledger.events, plan, progress)
+    more = 0
+    if plan.window == 1:
+        items, progress = published(ledger.events, plan, progress)
+    else:
+        # What is sent again, and by which session, hangs on how far the connector is when it hears of a fault.
+        items, progress = published(ledger.events, Plan(), progress)
+        more = plan.breaks()
     text = batch_lines(batches)
     for number, binding in enumerate(script.bindings, start=1):
         text += subscriber_lines(number, heard(items, binding, plan.close_after(number)))
-    return Report(text, 0, batches=batches, progress=progress)
+    return Report(text, 0, batches=batches, progress=progress, more_sessions=more)
 
 
 def plan_of(words):
     """The plan that these words of the command line say."""
     told = {'--lose-confirm': [], '--lose-publish': [], '--restart-after': [], '--close': []}
+    window = 1
     for word, value in zip(words[::2], words[1::2]):
         if word == '--close':
             subscriber, _, count = value.partition(':')
             told[word].append((int(subscriber), int(count)))
         elif word in told:
             told[word].append(int(value))
-        elif word not in ('--repeat', '--window', '--prefetch'):
+        elif word == '--window':
+            window = int(value)
+        elif word not in ('--repeat', '--prefetch'):
             sys.exit(__doc__)
-    return Plan(*(tuple(counts) for counts in told.values()))
+    return Plan(*(tuple(counts) for counts in told.values()), window=window)
 
 
 def bytes_of(name):

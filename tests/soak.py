@@ -66,6 +66,7 @@ class ScriptMaker:
         self.is_late = rng.random() < 0.2
         self.limited = rng.choice([0.1, 0.1, 0.7])  # the share of accounts with flags
         self.has_two_clients = rng.random() < 0.3
+        self.has_chains = rng.random() < 0.5
 
     def chance(self, share):
         return self.rng.random() < share
@@ -112,16 +113,55 @@ class ScriptMaker:
         if kind == 'pulse':
             self.hand_in(model.Batch(kind, now, 1))
             return
+        links = self.links(count)
         base = max(now, self.ledger.last + 1)
-        fits = base + count - 1 <= END_OF_TIME
-        for place in range(count):
+        fits = base + len(links) - 1 <= END_OF_TIME
+        before, is_well, is_careful = None, True, False
+        for place, is_linked in enumerate(links):
             self.moment = base + place
-            item = self.account() if kind == 'accounts' else self.transfer()
+            if before is None:
+                before, is_well, is_careful = self.ledger.mark(), True, is_linked and self.chance(0.7)
+            item = self.linked(self.item(kind, is_careful), is_linked)
             self.lines.append(line_of(item, kind[:-1], self.rng))
-            if fits:
-                self.ledger.take_item(kind, item, self.moment)
-        if fits and count:
-            self.ledger.last = base + count - 1
+            is_well = is_well and fits and self.ledger.take_item(kind, item, self.moment) == 0
+            if not is_well:
+                self.ledger.undo(before)
+            if not model.is_linked(item):
+                before = None
+        if before:
+            # (the batch's last chain is open)
+            self.ledger.undo(before)
+        if fits and links:
+            self.ledger.last = base + len(links) - 1
+
+    def links(self, count):
+        """Which items of a batch are linked to the next one; where it has chains it may get longer by them."""
+        if not self.has_chains or not count or self.chance(0.5):
+            return [False] * count
+        found = []
+        while len(found) < count:
+            length = self.rng.choice([1, 1, 2, 2, 3, 4, 5, 9])
+            found += [True] * (length - 1) + [False]
+        return found[:-1] + [True] if self.chance(0.08) else found
+
+    def linked(self, item, is_linked):
+        """An item with or without the link; those whose flags are broken keep theirs now and then."""
+        if self.chance(0.01):
+            return item
+        return replace(item, flags=item.flags & ~model.LINKED | is_linked)
+
+    def item(self, kind, is_careful):
+        """A request; a careful one is mostly accepted."""
+        for _ in range(8):
+            item = self.account() if kind == 'accounts' else self.transfer()
+            if not is_careful or self.would_be_taken(kind, item):
+                break
+        return item
+
+    def would_be_taken(self, kind, item):
+        if kind == 'accounts':
+            return model.account_result(self.ledger, item) == 'ok'
+        return model.transfer_result(self.ledger, item, self.moment) == 'ok'
 
     def large_batch(self):
         """As many items as a batch may have, or one more."""
@@ -390,9 +430,9 @@ class StepMaker:
     # How many of the steps that change little are written all the same; of the others a twentieth.
     IDLE = {'arrive': 0.1, 'answer': 0.2, 'ack': 0.4}
 
-    def __init__(self, rng, script):
+    def __init__(self, rng, script, window):
         self.rng = rng
-        self.world = model.World(script.bindings, script.batches, 1)
+        self.world = model.World(script.bindings, script.batches, window)
         self.arrived = 0  # the greatest number of a packet that came
         self.answered = 0  # the greatest number of a confirm that came
         moods = [0.2, 1, 1, 1, 3]
@@ -560,7 +600,7 @@ class PlanMaker:
         self.subscribers = len(script.bindings)
 
     def words(self):
-        words = self.rng.choice([(), (), ('--window', '1')]) + self.prefetch()
+        words = words_of_window(self.rng) + self.prefetch()
         for option in ('--lose-confirm', '--lose-publish', '--restart-after'):
             for _ in range(self.rng.choice([0, 0, 1, 1, 2, 4])):
                 words += (option, f'{zeros(self.rng)}{self.count()}')
@@ -749,7 +789,8 @@ def case_of(seed, number):
     rng = random.Random(f'{seed} {number}')
     lines = ScriptMaker(rng).script()
     spoiler = Spoiler(rng)
-    steps = StepMaker(rng, script_of(lines)).steps()
+    window = words_of_window(rng)
+    steps = StepMaker(rng, script_of(lines), number_of(window)).steps()
     runs = PlanMaker(rng, script_of(lines))
     plan = runs.words()
     saves = rng.random() < 0.5
@@ -760,7 +801,17 @@ def case_of(seed, number):
     elif spoilt < 0.25:
         steps = spoiler.spoilt_steps(steps)
     script, step_file = spoiler.lay_out(lines), spoiler.lay_out(steps)
-    return Case(script, step_file, rng.choice([(), ('--window', '1')]), plan, saves, progress)
+    return Case(script, step_file, window, plan, saves, progress)
+
+
+def words_of_window(rng):
+    """How many events a session waits for, as words: none, or a number, a small one as often as any."""
+    return rng.choice([(), ('--window', '1'), ('--window', f'{rng.randint(2, 5)}'), ('--window', f'{rng.randint(1, 64)}')])
+
+
+def number_of(words_of_window):
+    """The number that these words say."""
+    return int(words_of_window[1]) if words_of_window else 1
 
 
 def script_of(lines):
@@ -772,7 +823,7 @@ def reports_of(case):
     return {
         'books': [model.books(case.script)],
         'messages': [model.messages(case.script)],
-        'simulate': [model.simulate(case.script, case.steps)],
+        'simulate': [model.simulate(case.script, case.steps, number_of(case.words_of_window))],
         'run': model.run(case.script, model.plan_of(case.plan), case.progress),
     }
 
@@ -832,13 +883,19 @@ class Runner:
 
 
 def wanted(report, case):
-    """What the program has to come to, by a report of the model."""
-    left = case.progress if report.progress is None or not case.saves else report.progress
-    return Found(report.text.encode('ascii'), report.status, record_of(left))
+    """What the program may come to, by a report of the model; more than one record where threads choose the session."""
+    text = report.text.encode('ascii')
+    if report.progress is None or not case.saves:
+        return [Found(text, report.status, record_of(case.progress))]
+    session, moment = report.progress
+    return [
+        Found(text, report.status, record_of((number, moment)))
+        for number in range(session, session + report.more_sessions + 1)
+    ]
 
 
 def is_allowed(reports, case, found):
-    return any(wanted(report, case) == found for report in reports)
+    return any(found in wanted(report, case) for report in reports)
 
 
 # ---------------------------------------------------------------- A difference made small
@@ -923,7 +980,7 @@ def told(seed, number, command, case, reports, found):
     if command == 'run' and case.progress is not None:
         text += file_in_words('soak.progress', record_of(case.progress))
     text += ' '.join(['relayplum', *words_of(command, case)]) + '\n'
-    outcomes = dict.fromkeys(wanted(report, case) for report in reports)
+    outcomes = dict.fromkeys(outcome for report in reports for outcome in wanted(report, case))
     for name, outcome in [('wanted', one) for one in outcomes] + [('found', found)]:
         text += f'{name}, with exit status {outcome.status}'
         text += f' and progress {outcome.record}' if command == 'run' else ''
@@ -1079,12 +1136,12 @@ def count_run(case, reports, found, counts):
         return
     for option in case.plan[::2] + ('--progress',) * case.saves:
         counts['options of runs', option] += 1
-    outcomes = {wanted(one, case) for one in reports}
+    outcomes = {one.text for one in reports}
     clients = 'one client'
     if len(reports) > 1:
         clients = 'two clients with ' + ('one outcome' if len(outcomes) == 1 else 'several outcomes')
     counts['runs', f'of {clients}'] += 1
-    counts['runs', 'in another order than the file'] += found != wanted(report, case)
+    counts['runs', 'in another order than the file'] += found not in wanted(report, case)
     sessions = report.progress[0] - (case.progress[0] if case.progress else 0)
     counts['runs', 'of one session' if sessions == 1 else 'of several sessions'] += 1
     counts['runs', 'from saved progress'] += case.progress is not None

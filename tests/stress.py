@@ -6,8 +6,8 @@
 
 Each run is of one client, which hands in one of two scripts: a short one of two subscribers, or one of 2,000 transfers.
 Its plan loses confirms and publishes, restarts the connector and lets queues go back, at random counts, on two
-processors or on four. None of it may show: the output has to be what `books` prints for the script. Half of the runs
-save their progress to a file; from the record that is left, the plan did what it says. A run that takes longer than
+processors or on four; its sessions wait for one event, or for up to 64. None of it may show: the output has to be what `books` prints for the script. Half of the runs
+save their progress to a file; from the record that is left, the plan did what it says, where the window is 1. A run that takes longer than
 SECONDS hangs, and has failed. One run more is held for a while, by a pipe in the place of its saved progress, and must
 take no processor time meanwhile.
 
@@ -155,7 +155,7 @@ class Stress:
 
     def plan(self, rng):
         """The words of a plan that doesn't show."""
-        words = ['--window', '1', '--prefetch', str(rng.choice([1, 2, 3, 8, 8, 64]))]
+        words = ['--window', str(rng.choice([1, 1, 1, 2, 8, 64])), '--prefetch', str(rng.choice([1, 2, 3, 8, 8, 64]))]
         for option in ('--lose-confirm', '--lose-publish', '--restart-after'):
             for _ in range(rng.choice([0, 1, 2, 5, 20])):
                 words += [option, str(self.count(rng))]
@@ -168,10 +168,17 @@ class Stress:
         most = self.events + 2
         return rng.choice([rng.randint(1, most), rng.randint(1, min(most, 5)), rng.randint(max(1, most - 3), most)])
 
-    def record(self, plan):
-        """The bytes of the progress that a run under this plan saves last."""
+    def records(self, words):
+        """The bytes of the progress that a run under this plan may save last: one record where its window is 1."""
+        plan = model.plan_of(words)
+        if plan.window > 1:
+            return [self.record(1 + more) for more in range(plan.breaks() + 1)]
         line = [SimpleNamespace(timestamp=place) for place in range(1, self.events + 1)]
-        _, (session, _) = model.published(line, model.plan_of(plan), None)
+        _, (session, _) = model.published(line, plan, None)
+        return [self.record(session)]
+
+    def record(self, session):
+        """The bytes of the progress of this session, once all is confirmed."""
         return b'tb-cdc 1 %d %d\n' % (session, self.last)
 
 
@@ -190,10 +197,10 @@ def run_stress(options, runner):
         begun = time.monotonic()
         found = runner.run(words, stress.script, processors)
         times.setdefault((stress.name, processors), []).append(time.monotonic() - begun)
-        wanted = (stress.book, stress.record(plan) if saves else None)
+        wanted = [(stress.book, record) for record in (stress.records(plan) if saves else [None])]
         left = progress.read_bytes() if progress.exists() else None
         what = f'run {number} of seed {options.seed}, the {stress.name} script on {processors} processors: '
-        runner.note(what + ' '.join(words), [wanted], (found, left))
+        runner.note(what + ' '.join(words), wanted, (found, left))
     run_waiting(scripts[-1], runner)
     for (name, processors), seconds in sorted(times.items()):
         mean = sum(seconds) / len(seconds)

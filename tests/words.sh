@@ -166,10 +166,10 @@ for option in --repeat --close; do
         bad_words 'two numbers from 1' run one.script "$option=1:1" "$option=$pair"
     done
 done
-for window in 0 2 64 65 x ''; do
-    bad_words 'a window is 1' run one.script --window "$window"
-    bad_words 'a window is 1' simulate one.script three.steps --window "$window"
-    bad_words 'a window is 1' simulate one.script three.steps --check --window "$window"
+for window in 0 65 1000 x 1.5 ''; do
+    bad_words 'a window is 1 to 64' run one.script --window "$window"
+    bad_words 'a window is 1 to 64' simulate one.script three.steps --window "$window"
+    bad_words 'a window is 1 to 64' simulate one.script three.steps --check --window "$window"
 done
 run books $'\xff'
 same 'a word that is no text: status' 2 "$status"
@@ -533,7 +533,7 @@ crowded.script:1010: batch 5 refused: 3 timestamps_exhausted: the timestamps of 
 # and the status are as without the flag.
 cp "$top/tests/words/results.script" .
 run books results.script
-counts 'each result' 45 0
+counts 'each result' 49 0
 plain=$out
 run books --explain results.script
 same 'each result, explained: status' 0 "$status"
@@ -569,6 +569,14 @@ run simulate --diagram=no-folder/drawn "$top/examples/two-phase.script" "$top/te
 same 'a diagram that cannot be written: status' 0 "$status"
 same 'a diagram that cannot be written: standard output' "$plain" "$out"
 has 'a diagram that cannot be written: why' 'no-folder/drawn: write_fault: No such file' "$err"
+run simulate --diagram=drawn "$top/examples/two-phase.script" "$top/tests/words/repeats.steps"
+same 'a diagram in the place of an older one' "0 $(cat "$top/tests/words/repeats.diagram")" "$status $(cat drawn)"
+cp "$top/examples/two-phase.script" precious.script
+run simulate --diagram=./precious.script precious.script "$top/tests/words/repeats.steps"
+same 'a diagram in the place of the script: status' 2 "$status"
+same 'a diagram in the place of the script: standard output' '' "$out"
+has 'a diagram in the place of the script: why' 'error: --diagram=./precious.script: this file holds something else than a diagram' "$err"
+same 'a diagram in the place of the script: the script' "$(cat "$top/examples/two-phase.script")" "$(cat precious.script)"
 run simulate --trace --explain --diagram "$top/examples/two-phase.script" "$top/examples/faults.steps"
 same 'all that can be told: status' 0 "$status"
 same 'all that can be told: what was explained' 2 "$(grep -c 'two-phase.script:.*: 2[68] pending_transfer' errors)"
