@@ -6,8 +6,9 @@
 
 The parts are accounts-2 and accounts-5000 (`books` on more and more transfers), full (a script of the greatest size),
 subscribers (what each further one takes), phases (pending transfers, posts and a pulse), chains (transfers that are linked),
-log (reads of the log under `simulate`) and memory (the bytes that `books` asks for). Valgrind counts, so other work on the machine disturbs no figure. All of it takes some minutes of processor time; it is run by hand, and the gate
-does without. Exit status 1 where a figure is over its limit, 2 where nothing could be counted.
+log (reads of the log under `simulate`) and memory (the bytes that `books` asks for). Valgrind counts, so other work on the
+machine disturbs no figure. All of it takes some minutes of processor time. The last line is 'N passed, M failed', of the figures
+that have limits; exit status 1 where one is over, 2 where nothing could be counted.
 """
 import argparse
 import concurrent.futures
@@ -168,10 +169,10 @@ def bytes_of(out):
 
 
 class Table:
-    """Prints the rows as they come, and knows whether a figure was over its limit."""
+    """Prints the rows as they come, and counts the figures that are within their limits, and those that are over."""
 
     def __init__(self):
-        self.over = False
+        self.within, self.over = 0, 0
 
     def head(self, title):
         print(f"\n{title}")
@@ -182,7 +183,8 @@ class Table:
             line += f"  {value:>9.2f}{unit}"
         if limit is not None:
             over = value > limit
-            self.over |= over
+            self.over += over
+            self.within += not over
             line += f"  at most {limit:g}{unit}{'   OVER' if over else ''}"
         print(line, flush=True)
 
@@ -379,7 +381,7 @@ def main():
             return 0
         for part in words.only or COUNTS:
             COUNTS[part](counter, table)
-    print(f"\ncost: {'some over their limits' if table.over else 'all within their limits'}")
+    print(f"\n{table.within} passed, {table.over} failed")
     return 1 if table.over else 0
 
 

@@ -141,8 +141,10 @@ def is_same(one, other):
 
 
 def built_by_ci(crate):
+    """Returns what `rt ci` has made of a crate; of the program, by the compiler that makes it of records."""
     out = f"{crate.folder}/out"
-    return f"{out}/{crate.name}" if crate.is_program else f"{out}/rlib/{crate.name}.rlib"
+    by = {"llvm": "", "rattle": ".by-rattle"}[relayplum.FROM_RECORDS]
+    return f"{out}/{crate.name}{by}" if crate.is_program else f"{out}/rlib/{crate.name}.rlib"
 
 
 def check(crates):

@@ -1,0 +1,206 @@
+#!/usr/bin/env python3
+"""Measures the program, and prints one table: commands by scripts, in instructions, memory and time.
+
+    tests/bench.py [--program PATH] [--times N] [--jobs N] [--only SCRIPT].. [--write]
+
+The scripts have 1,000 events, as many as a script has room for, as many between 5,000 accounts, and as many for eight
+subscribers. Of each command that works on one thread Valgrind counts the instructions, which other work on the machine doesn't
+change; `run` looks for messages for as long as it waits, so its instructions say nothing. The most memory is what the system
+says of a run. By the clock the commands of a script are run in turn, --times times (15, and no fewer count as a measure): the
+least and the middle.
+
+The table is compared with the last one of docs/MEASURED.md: what takes a fiftieth more instructions or memory is named. With
+--write it is put there, at the top, with the commit. Limits that fail are those of tests/cost.py, which the gate runs.
+"""
+import argparse
+import concurrent.futures
+import datetime
+import os
+import pathlib
+import re
+import statistics
+import subprocess
+import sys
+import tempfile
+import time
+
+import cost
+import rooms
+
+MEASURED = rooms.PROGRAM.parents[3] / 'docs/MEASURED.md'
+HEAD = '| Script | Command | Instructions | of each event | Memory, MB | Least, s | Middle, s | Processors, s |'
+# What may be more than in the last table before it is named.
+MORE = 1.02
+
+
+def without_end(text, subscribers):
+    """The script for this many subscribers: one stands in it already."""
+    return 'subscriber all\n' * (subscribers - 1) + text
+
+
+def most(accounts, subscribers):
+    """How many transfers a script for this many subscribers has room for."""
+    count = cost.most_transfers(accounts)
+    while len(without_end(cost.script(accounts, count), subscribers)) > cost.SCRIPT_BYTES:
+        count -= 1
+    return count
+
+
+def scripts():
+    """Each script by its name, with its number of events and of subscribers."""
+    found = {}
+    for name, accounts, count, subscribers in (
+        ('1,000 events', 2, 1_000, 1),
+        ('a full script', 2, most(2, 1), 1),
+        ('5,000 accounts', 5_000, most(5_000, 1), 1),
+        ('eight subscribers', 2, most(2, 8), 8),
+    ):
+        found[name] = without_end(cost.script(accounts, count), subscribers), count, subscribers
+    return found
+
+
+def steps_of(text, events, subscribers, window=64):
+    """Steps under which each subscriber takes every event: so many are sent and confirmed at a time."""
+    batches = len(re.findall('(?m)^(?:accounts|transfers) ', text))
+    lines = ['batch'] * batches + ['start', 'publish', 'arrive 1']
+    for first in range(0, events, window):
+        tags = range(first + 1, min(first + window, events) + 1)
+        lines.append('poll')
+        lines += [line for tag in tags for line in ('publish', f'arrive {tag + 1}')]
+        lines += [f'answer {tag + 1}' for tag in tags]
+        for number in range(1, subscribers + 1):
+            lines += [line for tag in tags for line in (f'send {number}', f'take {number}', f'ack {number} {tag}')]
+    return '\n'.join(lines) + '\n'
+
+
+def commands_of(subscribers, has_steps):
+    """The commands by their names."""
+    found = {'books': ['books', 'bench.script'], 'messages': ['messages', 'bench.script']}
+    if has_steps:
+        found['simulate'] = ['simulate', 'bench.script', 'bench.steps', '--window', '64']
+    for window in (1, 64):
+        found[f'run --window {window}'] = ['run', 'bench.script', '--window', str(window)]
+    return found
+
+
+def instructions(program, words, folder):
+    """What Valgrind counts of a run."""
+    with tempfile.NamedTemporaryFile(dir=folder) as out:
+        cost.counted([*cost.tool_words('cachegrind', out.name), program, *words], out.name)
+        return cost.total_of(out.name)
+
+
+def timed(program, words, folder):
+    """The time by the clock, the processor time and the most memory of a run, in seconds and bytes."""
+    begun = time.monotonic()
+    ran = subprocess.Popen([program, *words], cwd=folder, stdout=subprocess.DEVNULL)
+    _, status, used = os.wait4(ran.pid, 0)
+    ran.returncode = status
+    if status:
+        sys.exit(f'bench: {" ".join(words)}: status {status}')
+    return time.monotonic() - begun, used.ru_utime + used.ru_stime, 1024 * used.ru_maxrss
+
+
+class Bench:
+    """The rows of the table, as they are measured."""
+
+    def __init__(self, program, folder, times, jobs):
+        self.program, self.folder, self.times = program, folder, times
+        self.pool = concurrent.futures.ThreadPoolExecutor(jobs)
+        self.rows = {}
+
+    def measure(self, name, text, events, subscribers):
+        """Measures each command on a script."""
+        folder = pathlib.Path(self.folder) / name.replace(' ', '-')
+        folder.mkdir()
+        (folder / 'bench.script').write_text(text)
+        steps = steps_of(text, events, subscribers)
+        (folder / 'bench.steps').write_text(steps)
+        commands = commands_of(subscribers, len(steps) <= cost.SCRIPT_BYTES)
+        counted = {
+            it: self.pool.submit(instructions, self.program, [self.within(folder, word) for word in words], folder)
+            for it, words in commands.items() if not it.startswith('run')
+        }
+        counts = {it: future.result() for it, future in counted.items()}
+        runs = {it: [] for it in commands}
+        for _ in range(self.times):
+            for it, words in commands.items():
+                runs[it].append(timed(self.program, words, folder))
+        for it, found in runs.items():
+            walls, used, memory = zip(*found)
+            self.rows[name, it] = (
+                counts.get(it), events, max(memory) / 1e6, min(walls), statistics.median(walls), statistics.median(used)
+            )
+
+    @staticmethod
+    def within(folder, word):
+        return str(folder / word) if word.startswith('bench.') else word
+
+    def table(self):
+        lines = [HEAD, re.sub('[^|]+', '---', HEAD)]
+        for (name, command), (count, events, memory, least, middle, used) in self.rows.items():
+            total, each = (f'{count:,}', f'{count / events:,.0f}') if count else ('', '')
+            lines.append(f'| {name} | `{command}` | {total} | {each} | {memory:.1f} | {least:.3f} | {middle:.3f} | {used:.3f} |')
+        return '\n'.join(lines) + '\n'
+
+
+def last_table():
+    """The instructions and the memory of each row of the last table that is kept, by script and command."""
+    found = {}
+    _, head, rest = MEASURED.read_text(encoding='utf-8').partition(HEAD)
+    for line in rest.split('\n')[2:] if head else []:
+        cells = [it.strip() for it in line.split('|')[1:-1]]
+        if len(cells) != 8:
+            break
+        count = cells[2].replace(',', '')
+        found[cells[0], cells[1].strip('`')] = int(count) if count else None, float(cells[4])
+    return found
+
+
+def changes(rows, before):
+    """What takes more than in the last table, in words."""
+    for (name, command), (count, _, memory, *_) in rows.items():
+        old_count, old_memory = before.get((name, command), (None, None))
+        if count and old_count and count > MORE * old_count:
+            yield f'{name}, {command}: {count:,} instructions, {100 * (count / old_count - 1):.1f} per cent more than {old_count:,}'
+        if old_memory and memory > MORE * old_memory + 0.1:
+            yield f'{name}, {command}: {memory:.1f} MB, {old_memory:.1f} before'
+
+
+def commit():
+    git = ['git', '-c', 'safe.directory=*', '-C', str(MEASURED.parent)]
+    said = subprocess.run([*git, 'rev-parse', '--short', 'HEAD'], capture_output=True, text=True, check=False).stdout.strip()
+    return said or 'no commit'
+
+
+def write(block):
+    """Puts a block at the top of docs/MEASURED.md, behind what stands before the first one."""
+    head, rest = MEASURED.read_text(encoding='utf-8').split('\n## ', 1)
+    MEASURED.write_text(f'{head}\n{block}\n## {rest}', encoding='utf-8')
+
+
+def main(words):
+    parser = rooms.parser_of(__doc__)
+    parser.add_argument('--times', type=int, default=15)
+    parser.add_argument('--jobs', type=int, default=2)
+    parser.add_argument('--only', action='append', choices=[*scripts()])
+    parser.add_argument('--write', action='store_true')
+    options = rooms.options_of(parser, words)
+    load = os.getloadavg()[0]
+    with rooms.room('bench-') as folder:
+        bench = Bench(options.program, folder, options.times, options.jobs)
+        for name, (text, events, subscribers) in scripts().items():
+            if not options.only or name in options.only:
+                bench.measure(name, text, events, subscribers)
+    processors = len(os.sched_getaffinity(0))
+    title = f'## `{commit()}`, {datetime.date.today()}: the benchmark\n'
+    about = f'By `tests/bench.py`, {options.times} runs of each by the clock, {processors} processors, a load of {load:.1f} at its beginning.\n'
+    print(bench.table(), end='')
+    more = [*changes(bench.rows, last_table())]
+    print('\n'.join(['bench: more than in the last table:', *more] if more else ['bench: nothing takes more than in the last table']))
+    if options.write:
+        write(f'{title}\n{about}\n{bench.table()}')
+
+
+if __name__ == '__main__':
+    main(sys.argv[1:])
