@@ -361,7 +361,14 @@ class Sources:
 # An error in a proof file that only says that a name is gone, which an edit can bring about without being wrong.
 NAME_IS_GONE = re.compile(r"has no field|is not in scope|has no `")
 FOLLOWS = re.compile(r"was not admitted|which was rejected, (was|were) not checked")
+# What stands before a reason that is no open goal: the proof that was written doesn't fit, and another one wasn't tried.
+IN_A_PROOF_FILE = "(only its proof file no longer fits)"
 PROVED, REFUSED, NAMES_ONLY, CALLS, UNCLEAR = "proved", "refused", "names only", "calls", "unclear"
+
+
+def is_proved(line):
+    """A function's line says that it is proved; one that may wait, or may not end, says so behind that."""
+    return line == PROVED or line.startswith(f"{PROVED}, ")
 
 
 def proof_folders(path):
@@ -419,20 +426,23 @@ class Answer:
         if [len(self.said.get(path, []))] != [1]:
             return UNCLEAR, "it has not one line in the check"
         words = [(it, line) for it in self.own(path) for line in self.said[it]]
-        if all(line == PROVED for _, line in words):
+        if all(is_proved(line) for _, line in words):
             return PROVED, ""
-        errors = [line for it, _ in words for line in self.errors_in_proofs(it) if not FOLLOWS.search(line)]
-        told = [line for line in errors if not NAME_IS_GONE.search(line)]
+        told = []
         for it, line in words:
             told += self.open_goals(it, lines) if line.startswith(("no proof", "not proved")) else []
         told += [line for _, line in words if re.match(r"(no|not) proved?\b.*did not prove", line)]
         if told:
             return REFUSED, told[0]
+        errors = [line for it, _ in words for line in self.errors_in_proofs(it) if not FOLLOWS.search(line)]
+        told = [line for line in errors if not NAME_IS_GONE.search(line)]
+        if told:
+            return REFUSED, f"{IN_A_PROOF_FILE} {told[0]}"
         if errors:
             return NAMES_ONLY, errors[0]
-        if all(line == PROVED or re.fullmatch(r"no proof: it calls [^;]*", line) for _, line in words):
+        if all(is_proved(line) or re.fullmatch(r"no proof: it calls [^;]*", line) for _, line in words):
             return CALLS, ""
-        return UNCLEAR, next(line for _, line in words if line != PROVED)
+        return UNCLEAR, next(line for _, line in words if not is_proved(line))
 
     def unread(self, files):
         """Returns the lines that say that antt couldn't read a text, for an edit of these files."""

@@ -345,6 +345,23 @@ def test_by_the_whole_crate(tree):
     assert text == kinds + "False False True\n", text
 
 
+def test_answers(tree):
+    """A function that may wait counts as proved; an open goal is the reason where there is one, and else its proof file."""
+    words = "import sys; sys.path.insert(0, 'tests'); import re, types, wrong_bodies as it\n"
+    words += "it.rtlib.STALE = re.compile('stale')\n"
+    words += "note = 'note: src/lib.rt:3:1: it is not proved that a\\n'\n"
+    words += "file = 'proofs/f/Answers.antt:1:1: error: b\\n'\n"
+    words += "fn = 'fn low::f: '\n"
+    words += "for said in (fn + 'proved', fn + 'proved, may wait', note + fn + 'no proof: a goal is open',\n"
+    words += "        file + fn + 'no proof', file + note + fn + 'no proof', fn + 'no proof: it calls g'):\n"
+    words += "    answer = it.Answer(types.SimpleNamespace(stdout=said + '\\nonly=1 proved=0', returncode=1))\n"
+    words += "    print(*answer.of('low::f', ('src/lib.rt', 1, 9)))\n"
+    goal = "src/lib.rt:3:1: it is not proved that a"
+    proof = "(only its proof file no longer fits) proofs/f/Answers.antt:1:1: error: b"
+    text = python(tree, words)
+    assert text == f"proved \nproved \nrefused {goal}\nrefused {proof}\nrefused {goal}\ncalls \n", text
+
+
 def test_choice(tree):
     """The choice of an eighth is the same each time, near an eighth, and each group comes up over 64 commits."""
     commits = [f"{at:040x}" for at in range(64)]

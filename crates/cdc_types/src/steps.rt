@@ -1,6 +1,7 @@
 //! One step of the world: an action of one actor.
 
 use crate::batches::Batch;
+use crate::moments::Moment;
 
 /// One action of one actor. Packets, confirms, subscribers and acknowledgements are numbered from 1, in the order in which
 /// they came to be.
@@ -12,6 +13,8 @@ pub enum Step {
     CloseLedger,
     /// The connector starts a session.
     Start,
+    /// The connector starts a session after this moment, which is lawful only where no progress is saved.
+    StartAt(Moment),
     /// The connector crashes; its session is gone.
     Crash,
     /// The session is offered events of the ledger's log.
