@@ -7,8 +7,9 @@ use Rattle.cdc_progress.proofs.texts.inner.Goals as goal
 pub returns : goal.returns
 returns c =
     let after_head =
-    strip_prefix_is Decides-eqb c.args.bytes.now (codes "tb-cdc 1 ") (Some c.in_ok-strip_prefix.field-0)
+    strip_prefix_is Decides-eqb c.args.bytes.now c.args.head.now (Some c.in_ok-strip_prefix.field-0)
     c.in_ok-strip_prefix.ensures.cases in
     let before_end = strip_suffix_is Decides-eqb c.in_ok-strip_prefix.field-0.now (codes "\n") c.strip_suffix.result
     c.strip_suffix.ensures.cases in
-    middle_of c.args.bytes.now c.in_ok-strip_prefix.field-0.now c.strip_suffix.result after_head before_end
+    middle_of c.args.bytes.now c.args.head.now c.in_ok-strip_prefix.field-0.now c.strip_suffix.result after_head
+    before_end
