@@ -86,7 +86,8 @@ pub same_three : (m n k m' n' k' : ℕ) → m < 2 ^ 64 → n < 2 ^ 64 → k < 2 
 same_three m n k m' n' k' m_fits n_fits k_fits m'_fits n'_fits k'_fits same =
     let parts = same_parts (decimal m) (numbers_text n k) (decimal m') (numbers_text n' k')
     (decimal_has_no_space m m_fits) (decimal_has_no_space m' m'_fits) same in
-    (decimal_same m m' m_fits m'_fits parts.0, same_numbers n k n' k' n_fits k_fits n'_fits k'_fits parts.1)
+    let rest = same_numbers n k n' k' n_fits k_fits n'_fits k'_fits parts.1 in
+    (decimal_same m m' m_fits m'_fits parts.0, rest.0, rest.1)
 
 -- the middle of a record's text, where the head is taken off
 pub middle_of : (bytes text after : List ℕ) (r : Option (Bor (List ℕ))) → bytes ≡ text ++ after

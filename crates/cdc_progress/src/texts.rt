@@ -104,7 +104,10 @@ fn line_in(bytes: &[u8]) -> Option<Progress>
     ensures fits { IfSome result Fits }
 {
     let (session, timestamp, start) = three_in(inner(bytes, HEAD)?)?;
-    if timestamp > Progress::MAX_TIMESTAMP || start > timestamp {
+    if timestamp > Progress::MAX_TIMESTAMP {
+        return None;
+    }
+    if start > timestamp {
         return None;
     }
     Some(Progress::new(session, timestamp, start))
