@@ -349,7 +349,7 @@ fn flags_and_limits_have_their_numbers(rt: HostRuntime) {
         ("window", Limits::WINDOW as u64, 64),
         ("prefetch", Limits::PREFETCH, 64),
         ("subscribers", Limits::SUBSCRIBERS as u64, 8),
-        ("clients", Limits::CLIENTS, 2),
+        ("clients", Limits::CLIENTS, 4),
         ("bytes of a script", Limits::SCRIPT_BYTES as u64, 1_048_576),
         (
             "bytes of a progress file",

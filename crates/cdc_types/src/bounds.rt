@@ -23,7 +23,7 @@ impl Limits {
     pub const SUBSCRIBERS: usize = 8;
 
     /// The clients of a script, at most.
-    pub const CLIENTS: u64 = 2;
+    pub const CLIENTS: u64 = 4;
 
     /// The bytes of a script or a step file, at most.
     pub const SCRIPT_BYTES: usize = 1_048_576;
