@@ -5,7 +5,7 @@
 
 Each run is of a script of 1 to 4 clients and 1 to 8 subscribers: a short one, drawn anew, or one of 1,000 transfers. Its
 plan loses confirms and publishes, restarts the connector, lets queues go back and closes subscribers, at random counts,
-on two processors and on four in turn, or on P; its sessions wait for one event, or for up to 64. Of a short one the
+on two processors or on four, or on P; its sessions wait for one event, or for up to 64. Of a short one the
 output has to be what the outside model (model.py) has for the order of batches that the output allows (orders.py). A long
 one closes nothing, and its first book tells the order of its batches: the output has to be what `books` prints of a
 script in this order. Half of the runs save their progress to a file; from the record that is left, the plan did what it
@@ -379,11 +379,11 @@ def saved(events, plan):
 
 def run_stress(options, runner):
     rng = random.Random(options.seed)
-    kinds = [Short(runner, rng), Short(runner, rng), Short(runner, rng), Long(runner, rng)]
+    kinds = [Long(runner, rng)] + [Short(runner, rng)] * 19
     times = {}
     for number in range(1, options.runs + 1):
         stress = kinds[number % len(kinds)]
-        processors = options.processors or PROCESSORS[number // len(kinds) % len(PROCESSORS)]
+        processors = options.processors or rng.choice(PROCESSORS)
         script, plan = stress.drawn()
         saves = rng.random() < 0.5
         progress = runner.folder / 'stress.progress'
