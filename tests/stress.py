@@ -3,7 +3,7 @@
     tests/stress.py [--program PATH] [--runs N] [--seed S] [--processors P]
     tests/stress.py [--program PATH] --times N [--tests PATH] [--processors P]
 
-Each run is of a script of 1 to 4 clients and 1 to 8 subscribers: a short one, drawn anew, or one of 1,000 transfers. Its
+Each run is of a script of 1 to 4 clients and 1 to 8 subscribers: a short one, drawn anew, or one of some 500 transfers. Its
 plan loses confirms and publishes, restarts the connector, lets queues go back and closes subscribers, at random counts,
 on two processors or on four, or on P; its sessions wait for one event, or for up to 64. Of a short one the
 output has to be what the outside model (model.py) has for the order of batches that the output allows (orders.py). A long
@@ -35,12 +35,12 @@ import model
 import orders
 import rooms
 
-SECONDS = 60  # that a run may take
+SECONDS = 120  # that a run may take
 HOLD = 1  # seconds for which a run that waits is looked at
 MOST_HOLDS = 20
 PROCESSORS = (2, 4)
 MOST_SHOWN = 3  # failures that are shown
-TRANSFERS = 1000  # of a long script, about
+TRANSFERS = 500  # of a long script, about
 # Lines of a report: how many events the first subscriber has applied, the last one's moment; a batch.
 FIRST = re.compile(r'(?m)^subscriber 1 applied (\d+) last (\d+) ')
 LAST = re.compile(r'(?m)(?<= )last \d+')
