@@ -21,10 +21,10 @@ import signal
 import stat
 import subprocess
 import sys
-import tempfile
 import time
 
 sys.dont_write_bytecode = True
+import rooms
 import stress
 
 HERE = os.path.dirname(os.path.realpath(__file__))
@@ -47,7 +47,7 @@ GREATEST = 2**64 - 1
 RECORD = re.compile(rb"tb-cdc 1 (0|[1-9][0-9]*) (0|[1-9][0-9]*)\n")
 # A beginning of a record, as a save leaves it that was broken off.
 BEGINNING = re.compile(rb"(t|tb|tb-|tb-c|tb-cd|tb-cdc|tb-cdc [0-9 ]*\n?)?")
-TRANSFERS, ENDED = 400, 12  # of the long runs; how many of them are ended by each means
+TRANSFERS, ENDED = 60, 10  # of the long runs; how many of them are ended by each means
 
 
 def record(session, timestamp):
@@ -201,7 +201,7 @@ def unwritable(hostile):
 
 
 def no_record(hostile):
-    texts = [b"x", b"", record(3, 0)[:-1], record(3, 0) + b"\n", record(3, 0) + 113 * b"0", SCRIPT, record(GREATEST + 1, 0)]
+    texts = [b"x", b"", record(3, 0)[:-1], record(3, 0) + b"\n", record(3, 0) + 120 * b"0", SCRIPT, record(GREATEST + 1, 0)]
     for text in texts:
         folder = hostile.folder()
         hostile.write(folder, "saved", text)
@@ -221,7 +221,7 @@ def in_the_way(hostile):
     folder = hostile.folder()
     os.rename(f"{folder}/script", f"{folder}/saved.new")
     hostile.refused("the script at the new name", folder, "saved", script="saved.new")
-    for text in (b"x", record(3, 0) + 113 * b"0"):
+    for text in (b"x", record(3, 0) + 120 * b"0"):
         folder = hostile.folder()
         hostile.write(folder, "saved", record(3, 0))
         hostile.write(folder, "saved.new", text)
@@ -338,7 +338,7 @@ def ended_runs(hostile, seed=1):
 
 def main():
     program = os.path.realpath(sys.argv[1] if len(sys.argv) > 1 else f"{HERE}/../crates/cdc_app/out/cdc_app")
-    with tempfile.TemporaryDirectory(prefix="hostile-") as room:
+    with rooms.room("hostile-") as room:
         hostile = Hostile(program, room)
         for part in (unreachable, unwritable, no_record, in_the_way, kept, two_runs, ended_runs):
             part(hostile)
