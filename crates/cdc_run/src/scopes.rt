@@ -23,7 +23,7 @@ fn work_in<'s, E, J: Job + 's, R: Threads + Wait + Sync, G: Gate + Sync>(
     jobs: Vec<J>,
 ) -> Result<Vec<J::End>, RunFault>
     ensures ends { IfOk result (λ ends. AllZip J.ends_as jobs.items ends.items) }
-    ensures fault { IfErr result (IsFaultOf J.ends_as jobs.items) }
+    ensures fault { IfErr result (IsFaultOf J.ends_as J.fails_as jobs.items) }
 {
     let Ok(room) = Vec::with_capacity(alloc, jobs.len()) else {
         return Err(RunFault::OutOfMemory);
@@ -44,7 +44,7 @@ pub(crate) fn run_jobs<J: Job, R: Threads + Wait + Sync, G: Gate + Sync>(
     jobs: Vec<J>,
 ) -> Result<Vec<J::End>, RunFault>
     ensures ends { IfOk result (λ ends. AllZip J.ends_as jobs.items ends.items) }
-    ensures fault { IfErr result (IsFaultOf J.ends_as jobs.items) }
+    ensures fault { IfErr result (IsFaultOf J.ends_as J.fails_as jobs.items) }
 {
     let no_place = AtomicUsize::new(0);
     let refused = &no_place;
@@ -53,7 +53,7 @@ pub(crate) fn run_jobs<J: Job, R: Threads + Wait + Sync, G: Gate + Sync>(
         rt,
         move |scope| -> Result<Vec<J::End>, RunFault>
             ensures ends { IfOk result (λ ends. AllZip J.ends_as jobs.items ends.items) }
-            ensures fault { IfErr result (IsFaultOf J.ends_as jobs.items) }
+            ensures fault { IfErr result (IsFaultOf J.ends_as J.fails_as jobs.items) }
         { work_in(scope, rt, alloc, gate, refused, jobs) },
     )
 }
