@@ -361,14 +361,9 @@ class Sources:
 # An error in a proof file that only says that a name is gone, which an edit can bring about without being wrong.
 NAME_IS_GONE = re.compile(r"has no field|is not in scope|has no `")
 FOLLOWS = re.compile(r"was not admitted|which was rejected, (was|were) not checked")
-# What stands before a reason that is no open goal: the proof that was written doesn't fit, and another one wasn't tried.
-IN_A_PROOF_FILE = "(only its proof file no longer fits)"
-PROVED, REFUSED, NAMES_ONLY, CALLS, UNCLEAR = "proved", "refused", "names only", "calls", "unclear"
-
-
-def is_proved(line):
-    """A function's line says that it is proved; one that may wait, or may not end, says so behind that."""
-    return line == PROVED or line.startswith(f"{PROVED}, ")
+PROVED, REFUSED, FORM_ONLY, NAMES_ONLY, CALLS, UNCLEAR = "proved", "refused", "form only", "names only", "calls", "unclear"
+# A function's line where it is proved; one that may wait, say, is proved all the same.
+IS_PROVED = re.compile(r"proved(, may [a-z ]+)*")
 
 
 def proof_folders(path):
@@ -426,23 +421,24 @@ class Answer:
         if [len(self.said.get(path, []))] != [1]:
             return UNCLEAR, "it has not one line in the check"
         words = [(it, line) for it in self.own(path) for line in self.said[it]]
-        if all(is_proved(line) for _, line in words):
+        others = [line for _, line in words if not IS_PROVED.fullmatch(line)]
+        if not others:
             return PROVED, ""
         told = []
         for it, line in words:
             told += self.open_goals(it, lines) if line.startswith(("no proof", "not proved")) else []
-        told += [line for _, line in words if re.match(r"(no|not) proved?\b.*did not prove", line)]
+        told += [line for line in others if re.match(r"(no|not) proved?\b.*did not prove", line)]
         if told:
             return REFUSED, told[0]
         errors = [line for it, _ in words for line in self.errors_in_proofs(it) if not FOLLOWS.search(line)]
-        told = [line for line in errors if not NAME_IS_GONE.search(line)]
-        if told:
-            return REFUSED, f"{IN_A_PROOF_FILE} {told[0]}"
+        form = [line for line in errors if not NAME_IS_GONE.search(line)]
+        if form:
+            return FORM_ONLY, form[0]
         if errors:
             return NAMES_ONLY, errors[0]
-        if all(is_proved(line) or re.fullmatch(r"no proof: it calls [^;]*", line) for _, line in words):
+        if all(re.fullmatch(r"no proof: it calls [^;]*", line) for line in others):
             return CALLS, ""
-        return UNCLEAR, next(line for _, line in words if not is_proved(line))
+        return UNCLEAR, others[0]
 
     def unread(self, files):
         """Returns the lines that say that antt couldn't read a text, for an edit of these files."""
@@ -582,7 +578,7 @@ class Trial:
         results = []
         if answer.of(harmless.path)[0] != PROVED:
             results += self.failure(f"a harmless edit of {harmless.path} was refused, so its group counts for nothing")
-        if answer.of(control.path, lines[control])[0] != REFUSED:
+        if answer.of(control.path, lines[control])[0] not in (REFUSED, FORM_ONLY):
             results += self.failure(f"a false edit of {control.path} was let through, so its group counts for nothing")
         for it in group:
             self.tell(it, answer, lines[it.change.function], is_alone=len(group) == 1)
@@ -619,6 +615,8 @@ class Trial:
         how, why = answer.of(path, lines)
         if how == REFUSED:
             self.put(edit, True, f"refused: {why[:160]}")
+        elif how == FORM_ONLY:
+            self.put(edit, True, f"refused (by an error in its proof file alone, which may be one of form): {why[:160]}")
         elif how == NAMES_ONLY:
             little = "only because a proof file names what the edit took away, so this says little of the contract"
             self.put(edit, True, f"refused ({little}: change a value and keep the names): {why[:160]}")
@@ -638,7 +636,7 @@ class Trial:
         if answer and answer.is_refused and not answer.is_stale and not answer.unread(edit.texts):
             for function, lines in touched.items():
                 how, why = answer.of(function.path, lines)
-                if how == REFUSED:
+                if how in (REFUSED, FORM_ONLY):
                     self.put(edit, True, f"refused, alone: {why[:160]}")
                     return function
         kind, text = rt.must_fail(self.crate, edit.path, ONE_JOB, self.kept)

@@ -345,21 +345,35 @@ def test_by_the_whole_crate(tree):
     assert text == kinds + "False False True\n", text
 
 
-def test_answers(tree):
-    """A function that may wait counts as proved; an open goal is the reason where there is one, and else its proof file."""
-    words = "import sys; sys.path.insert(0, 'tests'); import re, types, wrong_bodies as it\n"
-    words += "it.rtlib.STALE = re.compile('stale')\n"
-    words += "note = 'note: src/lib.rt:3:1: it is not proved that a\\n'\n"
-    words += "file = 'proofs/f/Answers.antt:1:1: error: b\\n'\n"
-    words += "fn = 'fn low::f: '\n"
-    words += "for said in (fn + 'proved', fn + 'proved, may wait', note + fn + 'no proof: a goal is open',\n"
-    words += "        file + fn + 'no proof', file + note + fn + 'no proof', fn + 'no proof: it calls g'):\n"
-    words += "    answer = it.Answer(types.SimpleNamespace(stdout=said + '\\nonly=1 proved=0', returncode=1))\n"
-    words += "    print(*answer.of('low::f', ('src/lib.rt', 1, 9)))\n"
-    goal = "src/lib.rt:3:1: it is not proved that a"
-    proof = "(only its proof file no longer fits) proofs/f/Answers.antt:1:1: error: b"
+def test_what_a_check_says(tree):
+    """Of a function's lines and notes in a check: proved, be it that it may wait; refused by a goal, by a proof file alone, or
+    by a name that is gone; nothing but that what it calls isn't proved; and anything else is unclear."""
+    note = "note: src/a.rt:5:9: it is not proved that `ensures` holds"
+    file = "proofs/a/f/Answers.antt:3:1: error: "
+    asked = {
+        "proved": ["fn low::a::f: proved"],
+        "proved, may wait": ["fn low::a::f: proved, may wait"],
+        "proved, of two kinds": ["fn low::a::f: proved, may abort, may wait"],
+        "a closure": ["fn low::a::f: proved, may wait", "fn low::a::fn::f::closure: proved, may wait"],
+        "a goal": [note, "fn low::a::f: no proof: 1 goal is open"],
+        "a goal beside a file": [file + "it has another type", note, "fn low::a::f: no proof: 1 goal is open"],
+        "not proved": ["fn low::a::f: not proved: rattle did not prove 1 goal"],
+        "a file": [file + "it has another type", "fn low::a::f: no proof: its file has an error"],
+        "a name": [file + "`x` is not in scope", "fn low::a::f: no proof: its file has an error"],
+        "a call": ["fn low::a::f: no proof: it calls low::a::g"],
+        "another's call": ["fn low::a::f: proved, may wait", "fn low::a::fn::f::closure: no proof: it calls low::a::g"],
+        "no such line": ["fn low::a::g: proved"],
+        "proved, perhaps": ["fn low::a::f: proved, perhaps"],
+    }
+    words = "import sys; sys.path.insert(0, 'tests'); import types, wrong_bodies as it\n"
+    words += "it.rtlib.STALE = it.re.compile('stale')\n"
+    words += f"for name, said in {asked!r}.items():\n"
+    words += "    ran = types.SimpleNamespace(stdout='\\n'.join(said), returncode=1)\n"
+    words += "    print(f'{name}: {it.Answer(ran).of(\"low::a::f\", (\"src/a.rt\", 1, 9))[0]}')\n"
+    kinds = ["proved", "proved", "proved", "proved", "refused", "refused", "refused", "form only", "names only", "calls", "calls"]
+    wanted = "".join(f"{name}: {kind}\n" for name, kind in zip(asked, [*kinds, "unclear", "unclear"]))
     text = python(tree, words)
-    assert text == f"proved \nproved \nrefused {goal}\nrefused {proof}\nrefused {goal}\ncalls \n", text
+    assert text == wanted, text
 
 
 def test_choice(tree):

@@ -24,6 +24,17 @@ pub fn advise_on_steps(rt: &HostRuntime, file: &str, steps: &str, ending: Ending
     }
 }
 
+/// The same of a run, whose progress is in the file of that name, or in memory.
+pub fn advise_on_run(rt: &HostRuntime, file: &str, progress: Option<&str>, ending: Ending) {
+    match (ending, progress) {
+        (Ending::Failed(ProgramFault::Store(error)), Some(saved)) => {
+            let name = error.name();
+            let _ = eprintln!(rt; "{saved}: store: {name}: {error}");
+        }
+        _ => advise(rt, file, ending),
+    }
+}
+
 /// A file as it is named to a person.
 pub fn shown_name(file: &str) -> &str {
     if file == STANDARD_INPUT {

@@ -12,7 +12,7 @@ mod run_options;
 mod sources;
 mod telling;
 
-use advice::{advise, advise_on_steps};
+use advice::{advise, advise_on_run, advise_on_steps};
 use cdc_commands::books::books;
 use cdc_commands::check::{check, check_files};
 use cdc_commands::messages::messages;
@@ -197,7 +197,7 @@ fn run_on_threads<T: Threads + Wait + Sync>(
     };
     match (ending, printed.bytes()) {
         (Ending::Done, Some(printed)) => hint(rt, printed, ""),
-        _ => advise(rt, file, ending),
+        _ => advise_on_run(rt, file, progress, ending),
     }
     ending
 }

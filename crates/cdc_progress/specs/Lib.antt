@@ -1,4 +1,5 @@
 pub mod Errors
+pub mod Leftovers
 pub mod Memory
 pub mod Records
 pub mod Stores

@@ -1,0 +1,350 @@
+#!/usr/bin/env python3
+"""Runs with a file of progress that can't be one, that isn't the run's own, or that another run has.
+
+    tests/hostile.py [PROGRAM]    PROGRAM: crates/cdc_app/out/cdc_app
+
+Each case has a folder of its own, and each run 20 seconds. A run that is refused says so in the last line of standard output,
+names the file on standard error, and leaves the folder as it was; one that isn't leaves the record, in the file that was named,
+and nothing beside it. Where it is run as root, the program is run as nobody, so that modes and owners count.
+
+Then runs are ended in the middle, by SIGTERM and by a standard output that nobody reads any more: the file holds a whole record,
+or isn't there; what is beside it is at most the beginning of a record, which the next run takes away.
+
+The last line is `hostile: N passed, M failed`; the status is 1 where one failed.
+"""
+import contextlib
+import os
+import random
+import re
+import shutil
+import signal
+import stat
+import subprocess
+import sys
+import time
+
+sys.dont_write_bytecode = True
+import rooms
+import stress
+
+HERE = os.path.dirname(os.path.realpath(__file__))
+SECONDS = 20  # that a run may take
+NOBODY = 65534
+SCRIPT = b"""subscriber all
+accounts 1000
+account id=1 ledger=700 code=10
+account id=2 ledger=700 code=10
+transfers 2000
+transfer id=1 debit_account_id=1 credit_account_id=2 amount=100 ledger=700 code=1
+"""
+# What a run of the script prints, the first time and where its one event was confirmed before.
+BATCHES = b"batch 1: 0 0\nbatch 2: 0\n"
+PRINTED = BATCHES + b"subscriber 1 applied 1 last 2000 ended yes closed no\naccount 1 0 100 0 0\naccount 2 0 0 0 100\n"
+PRINTED_LATER = BATCHES + b"subscriber 1 applied 0 last 0 ended yes closed no\n"
+STORE = b"fault: store\n"
+EXHAUSTED = b"fault: sessions_exhausted\n"
+GREATEST = 2**64 - 1
+RECORD = re.compile(rb"tb-cdc 1 (0|[1-9][0-9]*) (0|[1-9][0-9]*)\n")
+# A beginning of a record, as a save leaves it that was broken off.
+BEGINNING = re.compile(rb"(t|tb|tb-|tb-c|tb-cd|tb-cdc|tb-cdc [0-9 ]*\n?)?")
+TRANSFERS, ENDED = 60, 10  # of the long runs; how many of them are ended by each means
+
+
+def record(session, timestamp):
+    """The text of a record of progress."""
+    return b"tb-cdc 1 %d %d\n" % (session, timestamp)
+
+
+def as_nobody():
+    if os.geteuid() == 0:
+        os.setgroups([])
+        os.setgid(NOBODY)
+        os.setuid(NOBODY)
+
+
+class Hostile:
+    """The cases, and how they ended."""
+
+    def __init__(self, program, room):
+        # (nobody has to reach the program)
+        self.room, self.program = room, f"{room}/program"
+        os.chmod(room, 0o755)
+        shutil.copyfile(program, self.program)
+        os.chmod(self.program, 0o755)
+        self.folders = 0
+        self.passed, self.failed = 0, 0
+
+    def check(self, what, wanted, found):
+        if wanted == found:
+            self.passed += 1
+            return
+        self.failed += 1
+        print(f"failed: {what}\n  wanted: {repr(wanted)[:600]}\n  found:  {repr(found)[:600]}", flush=True)
+
+    # -- folders
+
+    def folder(self):
+        """A new folder, with the script."""
+        self.folders += 1
+        made = f"{self.room}/{self.folders}"
+        os.mkdir(made)
+        self.write(made, "script", SCRIPT)
+        self.give(made)
+        return made
+
+    def give(self, path):
+        if os.geteuid() == 0:
+            os.chown(path, NOBODY, NOBODY, follow_symlinks=False)
+
+    def write(self, folder, name, text, mode=0o644):
+        path = f"{folder}/{name}"
+        with open(path, "wb") as file:
+            file.write(text)
+        os.chmod(path, mode)
+        self.give(path)
+
+    def make(self, folder, name, how, *words):
+        how(*words, f"{folder}/{name}")
+        self.give(f"{folder}/{name}")
+
+    # -- runs
+
+    def start(self, folder, saved, script="script", **how):
+        words = [self.program, "run", script, "--progress", saved]
+        how = {"stdin": subprocess.DEVNULL, "stdout": subprocess.PIPE, "stderr": subprocess.PIPE, **how}
+        return subprocess.Popen(words, cwd=folder, preexec_fn=as_nobody, **how)
+
+    def end(self, run):
+        """How a run ended: its status, and what it printed; and what it said on standard error."""
+        try:
+            out, errors = run.communicate(timeout=SECONDS)
+        except subprocess.TimeoutExpired:
+            run.kill()
+            run.communicate()
+            return ("none", f"it hasn't ended after {SECONDS} seconds"), b""
+        return (run.returncode, out), errors
+
+    def refused(self, what, folder, saved, printed=STORE, script="script"):
+        """A run is refused, and the folder is as it was."""
+        before = contents(folder)
+        ended, errors = self.end(self.start(folder, saved, script))
+        self.check(what, (1, printed), ended)
+        wanted = f"{saved}: store: ".encode() if printed == STORE else printed[len("fault: ") : -1] + b": "
+        self.check(f"{what}: standard error", True, wanted in errors and errors.count(b"\n") == 1 or errors)
+        self.check(f"{what}: what is left", before, contents(folder))
+
+    def done(self, what, folder, saved, printed, changed):
+        """A run comes to its end, and changes these files alone, or takes them away."""
+        wanted = {**contents(folder), **changed}
+        ended, _ = self.end(self.start(folder, saved))
+        self.check(what, (0, printed), ended)
+        self.check(f"{what}: what is left", {name: it for name, it in wanted.items() if it}, contents(folder))
+
+
+def contents(folder):
+    """What a folder has: of each file its kind, its mode and what it holds, or where a link leads."""
+    found = {}
+    for at, folders, files in os.walk(folder):
+        for name in folders + files:
+            path = os.path.join(at, name)
+            mode, held = os.lstat(path).st_mode, None
+            if stat.S_ISLNK(mode):
+                held = os.readlink(path)
+            elif stat.S_ISREG(mode):
+                with open(path, "rb") as file:
+                    held = file.read()
+            found[os.path.relpath(path, folder)] = oct(mode), held
+    return found
+
+
+def plain(text, mode=0o644):
+    return oct(stat.S_IFREG | mode), text
+
+
+# ---------------------------------------------------------------------------------------------------------------------
+# What can't be a file of progress, or may not be replaced.
+
+
+def unreachable(hostile):
+    hostile.refused("a folder that isn't there", hostile.folder(), "nowhere/saved")
+    hostile.refused("a path below a file", hostile.folder(), "script/saved")
+    folder = hostile.folder()
+    hostile.make(folder, "saved", os.mkdir)
+    hostile.refused("a folder", folder, "saved")
+    folder = hostile.folder()
+    hostile.make(folder, "saved", os.symlink, "other")
+    hostile.make(folder, "other", os.symlink, "saved")
+    hostile.refused("links that lead to one another", folder, "saved")
+    folder = hostile.folder()
+    hostile.make(folder, "saved", os.symlink, "nowhere")
+    hostile.refused("a link that leads nowhere", folder, "saved")
+    folder = hostile.folder()
+    hostile.make(folder, "saved", os.mkfifo)
+    hostile.refused("a pipe", folder, "saved")
+    hostile.refused("a device", hostile.folder(), "/dev/null")
+    hostile.refused("a name that is too long", hostile.folder(), 300 * "x")
+
+
+def unwritable(hostile):
+    folder = hostile.folder()
+    hostile.write(folder, "saved", record(3, 0), 0o200)
+    hostile.refused("a file that can't be read", folder, "saved")
+    folder = hostile.folder()
+    hostile.write(folder, "saved", record(3, 0), 0o444)
+    hostile.refused("a file that nobody may write", folder, "saved")
+    for name, held in (("with a record", True), ("without one", False)):
+        folder = hostile.folder()
+        if held:
+            hostile.write(folder, "saved", record(3, 0))
+        os.chmod(folder, 0o555)
+        hostile.refused(f"a folder that can't be written, {name}", folder, "saved")
+
+
+def no_record(hostile):
+    texts = [b"x", b"", record(3, 0)[:-1], record(3, 0) + b"\n", record(3, 0) + 120 * b"0", SCRIPT, record(GREATEST + 1, 0)]
+    for text in texts:
+        folder = hostile.folder()
+        hostile.write(folder, "saved", text)
+        hostile.refused(f"a file of {text[:40]!r}", folder, "saved")
+    folder = hostile.folder()
+    hostile.refused("the script itself", folder, "script")
+    folder = hostile.folder()
+    hostile.write(folder, "saved", record(GREATEST, 0))
+    hostile.refused("the greatest session", folder, "saved", EXHAUSTED)
+
+
+def in_the_way(hostile):
+    """What stands at the name that a save writes first, and isn't of a save."""
+    folder = hostile.folder()
+    hostile.make(folder, "saved.new", os.mkdir)
+    hostile.refused("a folder at the new name", folder, "saved")
+    folder = hostile.folder()
+    os.rename(f"{folder}/script", f"{folder}/saved.new")
+    hostile.refused("the script at the new name", folder, "saved", script="saved.new")
+    for text in (b"x", record(3, 0) + 120 * b"0"):
+        folder = hostile.folder()
+        hostile.write(folder, "saved", record(3, 0))
+        hostile.write(folder, "saved.new", text)
+        hostile.refused(f"a file of {text[:20]!r} at the new name", folder, "saved")
+    folder = hostile.folder()
+    hostile.write(folder, "other", record(7, 0))
+    hostile.make(folder, "saved.new", os.symlink, "other")
+    hostile.refused("a link at the new name", folder, "saved")
+
+
+# ---------------------------------------------------------------------------------------------------------------------
+# What is kept.
+
+
+def kept(hostile):
+    saved = {"saved": plain(record(1, 2000))}
+    for left in (b"", b"tb-", record(1, 0)[:10], record(1, 0)):
+        folder = hostile.folder()
+        hostile.write(folder, "saved.new", left)
+        hostile.done(f"{left!r} was left of a save", folder, "saved", PRINTED, {**saved, "saved.new": None})
+    for mode in (0o600, 0o640, 0o666):
+        folder = hostile.folder()
+        hostile.write(folder, "saved", record(3, 2000), mode)
+        changed = {"saved": plain(record(4, 2000), mode)}
+        hostile.done(f"the mode {mode:o}", folder, "saved", PRINTED_LATER, changed)
+    for where in ("there/target", "{folder}/there/target"):
+        folder = hostile.folder()
+        hostile.make(folder, "there", os.mkdir)
+        hostile.write(folder, "there/target", record(3, 0), 0o600)
+        hostile.make(folder, "saved", os.symlink, where.format(folder=folder))
+        changed = {"there/target": plain(record(4, 2000), 0o600)}
+        hostile.done(f"a link to {where}", folder, "saved", PRINTED, changed)
+
+
+# ---------------------------------------------------------------------------------------------------------------------
+# Two runs over one file, and runs that are ended.
+
+
+def long_folder(hostile):
+    folder = hostile.folder()
+    hostile.write(folder, "long", stress.long_script(TRANSFERS, 50).encode())
+    return folder
+
+
+def wait_for(path):
+    """Waits until there is such a file."""
+    until = time.monotonic() + SECONDS
+    while not os.path.exists(path) and time.monotonic() < until:
+        time.sleep(0.002)
+
+
+def one_goes_on(hostile, what, folder, ends):
+    """Of runs over one file some came to their end, and the others were refused; the file holds a record of one that did."""
+    good = [ended for ended, _ in ends if ended[0] == 0]
+    others = [(ended, b"saved: store: " in errors) for ended, errors in ends if ended[0] != 0]
+    hostile.check(f"{what}: one came to its end", True, bool(good) or ends)
+    hostile.check(f"{what}: the others", [((1, STORE), True)] * len(others), others)
+    left = contents(folder)
+    hostile.check(f"{what}: the record", True, bool(RECORD.fullmatch(left["saved"][1])) or left["saved"])
+    hostile.check(f"{what}: the new name", False, "saved.new" in left)
+
+
+def two_runs(hostile):
+    # The second one comes while the first stands still, with a record saved, for as long as the second takes.
+    folder = long_folder(hostile)
+    first = hostile.start(folder, "saved", "long")
+    wait_for(f"{folder}/saved")
+    first.send_signal(signal.SIGSTOP)
+    second = hostile.end(hostile.start(folder, "saved", "long"))
+    first.send_signal(signal.SIGCONT)
+    ends = [hostile.end(first), second]
+    one_goes_on(hostile, "a run that comes while another is on", folder, ends)
+    hostile.check("a run that comes while another is on: not both", 1, [ended[0] for ended, _ in ends].count(0))
+    for _ in range(4):
+        folder = long_folder(hostile)
+        runs = [hostile.start(folder, "saved", "long") for _ in range(2)]
+        one_goes_on(hostile, "two runs that begin at once", folder, [hostile.end(it) for it in runs])
+
+
+def is_whole(folder, saved=True):
+    """A record, or none; and beside it at most the beginning of one."""
+    left = contents(folder)
+    held, new = left.pop("saved", None), left.pop("saved.new", None)
+    ours = held is None or RECORD.fullmatch(held[1])
+    return bool(ours and (new is None or BEGINNING.fullmatch(new[1])) and set(left) == {"script", "long"}) or (held, new, set(left))
+
+
+def ended_runs(hostile, seed=1):
+    rng, folder = random.Random(seed), long_folder(hostile)
+    begun = time.monotonic()
+    wanted = hostile.end(hostile.start(folder, "saved", "long"))[0]
+    hostile.check("a long run", 0, wanted[0])
+    took = time.monotonic() - begun
+    for how in ("SIGTERM", "a closed standard output"):
+        folder = long_folder(hostile)
+        for _ in range(ENDED):
+            run = hostile.start(folder, "saved", "long")
+            with contextlib.suppress(subprocess.TimeoutExpired):
+                run.wait(rng.uniform(0, 1) * took)
+            if how == "SIGTERM":
+                run.send_signal(signal.SIGTERM)
+            else:
+                run.stdout.close()
+                run.stdout = None
+            ended, errors = hostile.end(run)
+            # (a run that has printed before it was ended has come to its end)
+            right = {"SIGTERM": (-signal.SIGTERM, 0), "a closed standard output": (1, -signal.SIGPIPE, 0)}[how]
+            hostile.check(f"{how}: the status", True, ended[0] in right or (ended, errors))
+            hostile.check(f"{how}: what is left", True, is_whole(folder))
+        ended, errors = hostile.end(hostile.start(folder, "saved", "long"))
+        hostile.check(f"{how}: a run that goes on", 0, ended[0] and (ended, errors))
+        hostile.check(f"{how}: nothing is left beside the record", False, "saved.new" in contents(folder))
+
+
+def main():
+    program = os.path.realpath(sys.argv[1] if len(sys.argv) > 1 else f"{HERE}/../crates/cdc_app/out/cdc_app")
+    with rooms.room("hostile-") as room:
+        hostile = Hostile(program, room)
+        for part in (unreachable, unwritable, no_record, in_the_way, kept, two_runs, ended_runs):
+            part(hostile)
+    print(f"hostile: {hostile.passed} passed, {hostile.failed} failed")
+    return 1 if hostile.failed else 0
+
+
+if __name__ == "__main__":
+    sys.exit(main())

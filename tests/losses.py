@@ -1,0 +1,57 @@
+#!/usr/bin/env python3
+"""Runs one script with each single thing that may go wrong, in small, middle and great windows: the output is always the same.
+
+    tests/losses.py [PROGRAM]    PROGRAM: crates/cdc_app/out/cdc_app
+
+The script and what a run of it prints are those of a row of tests/rows. A lost confirm, a lost publish, a restart of the
+connector and a queue that goes back mustn't show in what is printed, wherever they come.
+
+The last line is `losses: N passed, M failed`; the status is 1 where one failed.
+"""
+import concurrent.futures
+import os
+import subprocess
+import sys
+
+HERE = os.path.dirname(os.path.realpath(__file__))
+ROW = f"{HERE}/rows/run-a-confirm-is-lost-and-the-connector-restarts"
+SECONDS, JOBS = 20, 2
+WINDOWS = (1, 2, 64)
+# Each thing that may go wrong, once: a flag with its word. The script has three events: the first queue gets all of them and the
+# end mark, the second one event and the end mark. So some of these name what there never is.
+FAULTS = [
+    *[(flag, str(number)) for flag in ("--lose-confirm", "--lose-publish", "--restart-after") for number in range(1, 7)],
+    *[("--repeat", f"1:{position}") for position in range(1, 5)],
+    ("--repeat", "2:1"),
+]
+
+
+def read(part):
+    with open(f"{ROW}.{part}", "rb") as file:
+        return file.read()
+
+
+def complaint(program, words):
+    """Returns what is wrong with a run of these words, or None."""
+    try:
+        ran = subprocess.run([program, *words], input=read("script"), capture_output=True, timeout=SECONDS)
+    except subprocess.TimeoutExpired:
+        return f"{' '.join(words)}: it hasn't ended after {SECONDS} seconds"
+    if (ran.returncode, ran.stdout) == (0, read("stdout")):
+        return None
+    return f"{' '.join(words)}: status {ran.returncode}, {ran.stdout[-300:]!r}, {ran.stderr[-200:]!r}"
+
+
+def main():
+    program = os.path.realpath(sys.argv[1] if len(sys.argv) > 1 else f"{HERE}/../crates/cdc_app/out/cdc_app")
+    runs = [["run", "-", "--window", str(window), *fault] for window in WINDOWS for fault in FAULTS]
+    with concurrent.futures.ThreadPoolExecutor(JOBS) as pool:
+        wrong = [it for it in pool.map(lambda words: complaint(program, words), runs) if it]
+    for it in wrong:
+        print(f"failed: {it}")
+    print(f"losses: {len(runs) - len(wrong)} passed, {len(wrong)} failed")
+    return 1 if wrong else 0
+
+
+if __name__ == "__main__":
+    sys.exit(main())
