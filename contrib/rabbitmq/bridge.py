@@ -103,7 +103,7 @@ class Bridge:
                 raise Stop(f'the broker refuses: {error.reply_code} {error.reply_text}') from error
 
     def open(self):
-        """Connects, so that a script without events has its queues too."""
+        """Connects where nothing has yet: a script without events has its queues too."""
         self.until_done(lambda: None)
 
     def send(self, message):
@@ -159,8 +159,8 @@ def main():
     progress = relay.progress_of(words.resume, words.name, words.start_after)
     start = progress.timestamp
     sys.stdin.reconfigure(encoding='latin-1')
-    bridge.open()
     sent, left_out = relay.relay(stream.read_messages(sys.stdin), bridge.send, progress)
+    bridge.open()
     if words.end:
         bridge.end()
     bridge.close()

@@ -1,4 +1,5 @@
 """pika, and connections by it; where pika isn't installed, a sentence and the end."""
+import argparse
 import logging
 import re
 import sys
@@ -29,7 +30,7 @@ def add_words(parser):
 def name_of(word):
     """A name that leaves room behind it for a subscriber's number, within what AMQP takes."""
     if not (word.isprintable() and 0 < len(word.encode()) <= 250):
-        raise ValueError
+        raise argparse.ArgumentTypeError('a name is 1 to 250 printable bytes')
     return word
 
 

@@ -43,7 +43,7 @@ class SavedProgress(Progress):
         except OSError as error:
             raise Stop(f'{self.path} can\'t be read: {error.strerror}; name another file') from None
         record = RECORD.fullmatch(text)
-        if record is None or int(record[1]) > GREATEST:
+        if record is None or int(record[1]) > GREATEST or not record[2].isprintable():
             raise Stop(f'{self.path} holds something else than a bridge\'s progress; name another file')
         if record[2] != self.name:
             raise Stop(f'{self.path} is the progress of exchange {record[2]}, not of {self.name}; name another file')
