@@ -2,8 +2,9 @@
 # Sends events through a broker, and compares what its queues hold with what Relayplum says. check.sh runs it.
 #   contrib/rabbitmq/with_server.sh contrib/rabbitmq/through.sh PROGRAM
 # Each script of examples/, and bindings.script: whole; with a connection that breaks after every 2nd and after every 3rd
-# publish, beginning with the first; and up to the end mark, into books. Then two-phase.script with a late start, with
-# bridges that are ended and resumed, with bindings that change, and with logins that the broker refuses.
+# publish, beginning with the first; and up to the end mark, into books. Then two-phase.script with a consumer that is
+# ended, with a late start, with bridges that are ended and resumed, with bindings that change, and with logins that the
+# broker refuses.
 set -uo pipefail
 here=$(cd "$(dirname "$(readlink -f "${BASH_SOURCE[0]}")")" && pwd)
 top=$(cd "$here/../.." && pwd)
@@ -105,11 +106,23 @@ for script in "${all[@]}"; do
     fi
 done
 
+name=ended
+echo 'two-phase, a consumer that is ended before it has printed, and two more'
+ask "$two_phase"
+bridge "$two_phase" --url "$straight" || wrong 'the bridge'
+timeout -s KILL 3 "$python" "$here/book.py" 1 --name "$name" --url "$straight" --quiet 60 && wrong 'it was not ended'
+sed -n '/^subscriber 1 /,/^subscriber 2 /p' "$room/books" | sed -e '/^subscriber 2 /d' -e 's/ ended yes / ended no /' >"$room/wanted"
+echo 'subscriber 1 applied 0 last 0 ended no closed no' >>"$room/wanted"
+for _ in 1 2; do
+    "$python" "$here/book.py" 1 --name "$name" --url "$straight"
+done | diff "$room/wanted" - || wrong 'a book'
+
 name=late
 echo 'two-phase, a late start'
 ask "$two_phase"
 for start in 0 1999 2000 2001 3001 2000000000 9223372036854775807; do
-    left_out=$(awk 'NR % 2 == 0' "$room/messages" | jq -r .timestamp | awk -v start="$start" '$1 <= start' | wc -l)
+    left_out=$("$python" -c 'import json, sys
+print(sum(int(json.loads(body)["timestamp"]) <= int(sys.argv[1]) for body in list(sys.stdin)[1::2]))' "$start" <"$room/messages")
     wanted 0 " $left_out left out up to $start," "$two_phase" --url "$straight" --start-after "$start"
     queues "$two_phase" --after "$start"
 done
