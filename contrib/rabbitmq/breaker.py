@@ -1,9 +1,9 @@
 #!/usr/bin/env python3
 """A proxy before RabbitMQ that breaks the connection after every Nth publish, beginning with the first.
 
-    contrib/rabbitmq/breaker.py PORT BROKER_PORT N
+    contrib/rabbitmq/breaker.py BROKER_PORT N
 
-It waits on PORT of this machine, says so in a line, and hands on what passes. The publish after which it breaks has come to the broker,
+It waits on a free port of this machine, prints its number, and hands on what passes. The publish after which it breaks has come to the broker,
 and its confirm has come back as far as here: that it doesn't reach the publisher is the fault. It runs until it is
 ended (SIGTERM).
 """
@@ -108,10 +108,10 @@ class Breaker:
 
 
 def main():
-    port, broker_port, every = (int(word) for word in sys.argv[1:])
+    broker_port, every = (int(word) for word in sys.argv[1:])
     breaker = Breaker(every)
-    with socket.create_server(('127.0.0.1', port)) as door:
-        print('waiting', flush=True)
+    with socket.create_server(('127.0.0.1', 0)) as door:
+        print(door.getsockname()[1], flush=True)
         while True:
             client, _ = door.accept()
             with client, socket.create_connection(('127.0.0.1', broker_port)) as broker:

@@ -1,22 +1,26 @@
 #!/usr/bin/env python3
 """Empties the queues that the bridge filled, and lays what they held beside what Relayplum says of the same script.
 
-    contrib/rabbitmq/queues.py FILE MESSAGES BOOKS --url URL --name NAME [--repeats]
+    contrib/rabbitmq/queues.py FILE MESSAGES BOOKS [--url URL] [--name NAME] [--repeats] [--after N]
 
 MESSAGES is what `relayplum messages FILE` printed, and BOOKS what `relayplum books FILE` did. Of each subscriber are
 compared: the bodies that its binding takes, in their order; the headers and properties beside each; and the count, the
 last timestamp and the book of one who keeps an event only if it is later than all before. Without --repeats a queue
-holds each body once. With it some queue has to hold one twice, and only what is kept is compared.
+holds each body once. With it some queue has to hold one twice, and only what is kept is compared. With --after only
+events after the timestamp N are wanted, and BOOKS says nothing of them. Queues of subscribers that the script hasn't
+have to be empty.
 
-The exchange and the queues are deleted behind it. Ends with 1 where something differs.
+The exchanges and the queues are deleted behind it. Ends with 1 where something differs.
 """
 import argparse
-import json
 import sys
 
-import pika
-
 import bridge
+import client
+import console
+import stream
+from book import Book
+from client import queue_of
 
 
 def take_all(channel, queue):
@@ -29,37 +33,14 @@ def take_all(channel, queue):
         found.append((properties, body.decode()))
 
 
-def later_than_all_before(bodies):
-    """The events that a subscriber applies."""
-    kept, last = [], 0
-    for body in bodies:
-        moment = int(json.loads(body)['timestamp'])
-        if moment > last:
-            kept.append(body)
-            last = moment
-    return kept
-
-
-def book_of(bodies):
-    """A subscriber's account lines: what the last event that names an account shows of it."""
-    book = {}
-    for event in map(json.loads, bodies):
-        for side in ('debit_account', 'credit_account'):
-            account = event[side]
-            names = ('id', 'debits_pending', 'debits_posted', 'credits_pending', 'credits_posted')
-            book[account['id']] = ' '.join(['account', *(account[name] for name in names)])
-    return list(book.values())
-
-
 def reported(lines):
-    """What `books` printed of each subscriber: its count, its last timestamp, its account lines."""
+    """What `books` printed of each subscriber: its line without the end mark, which no queue has, and its accounts."""
     found = []
     for line in lines:
-        words = line.split()
-        if words[0] == 'subscriber':
-            found.append((int(words[3]), int(words[5]), []))
-        elif words[0] == 'account':
-            found[-1][2].append(line)
+        if line.startswith('subscriber '):
+            found.append([line.replace(' ended yes ', ' ended no ')])
+        elif line.startswith('account '):
+            found[-1].append(line)
     return found
 
 
@@ -80,57 +61,60 @@ def shown(properties):
     return (properties.app_id, properties.content_type, properties.delivery_mode, properties.timestamp, properties.headers)
 
 
-def wanted_beside(message):
-    """The same of a message."""
-    return (bridge.APP_ID, bridge.CONTENT_TYPE, bridge.PERSISTENT, message.seconds, message.headers)
-
-
-def compare(subscriber, feed, report, held, repeats):
-    """Compares what a queue held with the feed of its binding and with the subscriber's report."""
-    comparison = Comparison()
+def compare(comparison, place, feed, report, held, repeats):
+    """Compares what a queue held with the feed of its binding and with the subscriber's report, where there is one; how
+    many of its deliveries were repeats."""
+    subscriber = f'  subscriber {place}'
     bodies = [body for _, body in held]
     if not repeats:
         comparison.same(f'{subscriber}: bodies', [message.body for message in feed], bodies)
-    beside = {message.body: wanted_beside(message) for message in feed}
+    beside = {message.body: shown(bridge.properties_of(message)) for message in feed}
     for properties, body in held:
         comparison.same(f'{subscriber}: headers and properties', beside.get(body), shown(properties))
-    kept = later_than_all_before(bodies)
+    book = Book()
+    kept = [body for body in bodies if book.take(body)]
     comparison.same(f'{subscriber}: bodies that are kept', [message.body for message in feed], kept)
-    last = int(json.loads(kept[-1])['timestamp']) if kept else 0
-    comparison.same(f'{subscriber}: count, last timestamp and book', report, (len(kept), last, book_of(kept)))
+    if report is not None:
+        comparison.same(f'{subscriber}: count, last timestamp and book', report, list(book.lines(place)))
     print(f'{subscriber}: {len(held)} deliveries, {len(held) - len(kept)} of them repeats; {len(kept)} events kept')
-    return comparison.failed, len(held) - len(kept)
+    return len(held) - len(kept)
 
 
-def main():
+def read_words():
+    """The words of the command line."""
     parser = argparse.ArgumentParser(description='Compares the queues with what Relayplum says of the script.')
     for name in ('script', 'messages', 'books'):
         parser.add_argument(name)
-    parser.add_argument('--url', required=True)
-    parser.add_argument('--name', required=True)
+    client.add_words(parser)
     parser.add_argument('--repeats', action='store_true')
-    words = parser.parse_args()
+    parser.add_argument('--after', type=int, default=0)
+    return parser.parse_args()
+
+
+def main():
+    words = read_words()
     with open(words.messages, encoding='ascii') as lines:
-        messages = list(bridge.read_messages(lines))
+        messages = [message for message in stream.read_messages(lines) if message.timestamp > words.after]
     with open(words.books, encoding='ascii') as lines:
         reports = reported(lines.read().splitlines())
-    bindings = bridge.read_bindings(words.script)
-    connection = pika.BlockingConnection(pika.URLParameters(words.url))
-    channel = connection.channel()
-    failed, repeats = 0, 0
+    bindings = stream.read_bindings(words.script)
+    channel = client.connect(client.parameters_of(words.url)).channel()
+    comparison = Comparison()
+    repeats = 0
     for place, (binding, report) in enumerate(zip(bindings, reports, strict=True), 1):
-        queue = f'{words.name}.{place}'
-        feed = [message for message in messages if bridge.takes(binding, message.headers)]
-        found = compare(f'  subscriber {place}', feed, report, take_all(channel, queue), words.repeats)
-        failed, repeats = failed + found[0], repeats + found[1]
-        channel.queue_delete(queue)
+        feed = [message for message in messages if stream.takes(binding, message.headers)]
+        held = take_all(channel, queue_of(words.name, place))
+        repeats += compare(comparison, place, feed, None if words.after else report, held, words.repeats)
+    for place in range(1, stream.MOST_SUBSCRIBERS + 1):
+        left = channel.queue_delete(queue_of(words.name, place)).method.message_count
+        comparison.same(f'  queue {place}: left in it', 0, left)
+        channel.exchange_delete(queue_of(words.name, place))
     channel.exchange_delete(words.name)
-    connection.close()
-    if words.repeats and messages and repeats == 0:
-        failed += 1
-        print('failed: no queue held a repeat')
-    sys.exit(1 if failed else 0)
+    channel.connection.close()
+    if words.repeats and messages:
+        comparison.same('some queue holds a repeat', True, repeats > 0)
+    sys.exit(1 if comparison.failed else 0)
 
 
 if __name__ == '__main__':
-    main()
+    console.run(main)
