@@ -48,8 +48,9 @@ def main():
     parser.add_argument('--quiet', type=float, default=1, metavar='SECONDS', help='ends it; %(default)s')
     words = parser.parse_args()
     channel = client.connect(client.parameters_of(words.url)).channel()
+    queue = client.queue_of(words.name, words.place)
     book, tag = Book(), None
-    for delivery, properties, body in channel.consume(client.queue_of(words.name, words.place), inactivity_timeout=words.quiet):
+    for delivery, properties, body in channel.consume(queue, inactivity_timeout=words.quiet):
         tag = tag if delivery is None else delivery.delivery_tag
         book.ended = delivery is not None and properties.type == END
         if delivery is None or book.ended:

@@ -3,9 +3,9 @@
 
     contrib/rabbitmq/breaker.py BROKER_PORT N
 
-It waits on a free port of this machine, prints its number, and hands on what passes. The publish after which it breaks has come to the broker,
-and its confirm has come back as far as here: that it doesn't reach the publisher is the fault. It runs until it is
-ended (SIGTERM).
+It waits on a free port of this machine, prints its number, and hands on what passes. The publish after which it breaks
+has come to the broker, and its confirm has come back as far as here: that it doesn't reach the publisher is the fault.
+It runs until it is ended (SIGTERM).
 """
 import socket
 import struct

@@ -110,7 +110,7 @@ name=ended
 echo 'two-phase, a consumer that is ended before it has printed, and two more'
 ask "$two_phase"
 bridge "$two_phase" --url "$straight" || wrong 'the bridge'
-timeout -s KILL 3 "$python" "$here/book.py" 1 --name "$name" --url "$straight" --quiet 60 && wrong 'it was not ended'
+{ timeout -s KILL 3 "$python" "$here/book.py" 1 --name "$name" --url "$straight" --quiet 60; } 2>/dev/null && wrong 'it was not ended'
 sed -n '/^subscriber 1 /,/^subscriber 2 /p' "$room/books" | sed -e '/^subscriber 2 /d' -e 's/ ended yes / ended no /' >"$room/wanted"
 echo 'subscriber 1 applied 0 last 0 ended no closed no' >>"$room/wanted"
 for _ in 1 2; do
