@@ -12,6 +12,7 @@ use cdc_ends::RunFault;
 use std::alloc::Global;
 use std::snapshot::Snapshot;
 use std::sync::Wait;
+use std::sync::atomic::{AtomicUsize, Ordering};
 use std::thread::{Promise, Scope, Threads};
 
 /// The work of one thread.
@@ -27,6 +28,9 @@ pub(crate) trait Job: Send + Drop {
     /// Works to the end, and asks the gate before each turn.
     fn work<R: Wait, G: Gate>(self, rt: &R, alloc: Global, gate: &G) -> Result<Self::End, RunFault>
         ensures { IfOk result (ends_as self) };
+
+    /// Lets go of it before it has worked, and tells all that wait for it that nothing comes.
+    fn give_up<R: Wait>(self, rt: &R);
 }
 
 /// What the thread of a job promises: the job's end, where it comes to one.
@@ -40,12 +44,14 @@ impl<J: Job> Promise<Result<J::End, RunFault>> for Ended<J> {
 }
 
 /// Works all jobs to their ends, each on a thread of its own, all at the same time. `ends` is an empty list with room
-/// for theirs. A thread that can't be started is a want of memory.
+/// for theirs. Where a thread can't be started its job gives up at once, before any other is waited for, since those
+/// may wait for it: its outcome is a want of memory. `refused` says which job that is, by its place from 1.
 pub(crate) fn work_all<'s, E, J: Job + 's, R: Threads + Wait + Sync, G: Gate + Sync>(
     scope: &'s Scope<'s, E>,
     rt: &'s R,
     alloc: Global,
     gate: &'s G,
+    refused: &'s AtomicUsize,
     mut jobs: Vec<J>,
     ends: Vec<J::End>,
 ) -> Gathered<J::End>
@@ -56,6 +62,7 @@ pub(crate) fn work_all<'s, E, J: Job + 's, R: Threads + Wait + Sync, G: Gate + S
     ensures capacity { vec_capacity result.ends ≡ vec_capacity ends }
     ensures at_most { vec_len result.ends ≤ vec_len jobs }
 {
+    let place = jobs.len();
     let Some(job) = jobs.pop() else {
         return Gathered { ends, fault: None };
     };
@@ -63,12 +70,26 @@ pub(crate) fn work_all<'s, E, J: Job + 's, R: Threads + Wait + Sync, G: Gate + S
         Ended(Snapshot::of(&job)),
         move || -> Result<J::End, RunFault>
             ensures { IfOk result (J.ends_as job) }
-        { job.work(rt, alloc, gate) },
+        {
+            if refused.load(Ordering::SeqCst) == place {
+                job.give_up(rt);
+                return Err(RunFault::OutOfMemory);
+            }
+            job.work(rt, alloc, gate)
+        },
     );
-    let before = work_all(scope, rt, alloc, gate, jobs, ends);
-    let outcome = match started {
-        Ok(thread) => thread.join(rt),
-        Err(_) => Err(RunFault::OutOfMemory),
+    let thread = match started {
+        Ok(thread) => Some(thread),
+        Err(error) => {
+            refused.store(place, Ordering::SeqCst);
+            let _given_up = (error.value)();
+            None
+        }
+    };
+    let before = work_all(scope, rt, alloc, gate, refused, jobs, ends);
+    let outcome = match thread {
+        Some(thread) => thread.join(rt),
+        None => Err(RunFault::OutOfMemory),
     };
     before.with(outcome)
 }

@@ -42,4 +42,13 @@ impl<S: ProgressStore + Send + Drop> Job for Task<S> {
             )?)),
         }
     }
+    fn give_up<R: Wait>(self, rt: &R) {
+        match self {
+            Task::Ledger(end) => end.give_up(rt),
+            Task::Client(client) => client.into_parts().0.give_up(rt),
+            Task::Connector(end) => end.give_up(rt),
+            Task::Broker(end) => end.give_up(rt),
+            Task::Subscriber(_, end) => end.give_up(rt),
+        }
+    }
 }
