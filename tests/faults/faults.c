@@ -3,18 +3,21 @@
  *
  *   FAULT   words, of which the first is KIND:N, if one is:
  *           KIND:N   the call of this kind that comes as number N, from 1, is refused: growth (memory is asked for),
- *                    open, read, write, sync or rename
- *           after    what is refused is done first, if it isn't a growth, and answered as refused all the same
+ *                    open, read, write, sync, rename or thread (a thread is started)
+ *           after    what is refused is done first, if it isn't a growth or a thread, and answered as refused all the same
  *           end      in the place of the answer the process ends, with the status 70
  *           short    a read gives one byte, and a write takes one
  *   CALLS   a path: when the process ends, this file gets the number of calls of each kind, a line each
- *   TRACE   a path: this file gets a line for each open to write, write, sync, rename and removal, as it comes
+ *   TRACE   a path: this file gets a line for each open to write (open) and to read (look), read, write, sync, rename and
+ *           removal, as it comes
  *
  * The process's own start is counted too, where the C library asks for memory before main.
  */
 #define _GNU_SOURCE
+#include <dlfcn.h>
 #include <errno.h>
 #include <fcntl.h>
+#include <pthread.h>
 #include <stdarg.h>
 #include <stddef.h>
 #include <stdint.h>
@@ -24,8 +27,8 @@
 #include <sys/syscall.h>
 #include <unistd.h>
 
-enum kind { GROWTH, OPEN, READ, WRITE, SYNC, RENAME, KINDS };
-static const char *const names[KINDS] = {"growth", "open", "read", "write", "sync", "rename"};
+enum kind { GROWTH, OPEN, READ, WRITE, SYNC, RENAME, THREAD, KINDS };
+static const char *const names[KINDS] = {"growth", "open", "read", "write", "sync", "rename", "thread"};
 static long counts[KINDS];
 
 /* The C library's own, under the names that it keeps for those who stand before it. */
@@ -75,6 +78,7 @@ static void trace(const char *what, const char *first, const char *second) {
 /* The path of an open file. */
 static const char *path_of(int file, char *path, size_t size) {
     char link[64];
+    if (!getenv("TRACE")) return "";
     snprintf(link, sizeof link, "/proc/self/fd/%d", file);
     ssize_t length = readlink(link, path, size - 1);
     path[length < 0 ? 0 : length] = 0;
@@ -147,7 +151,7 @@ static enum refusal refusal_of(enum kind kind) {
 static long answer(enum refusal how, long own, int why) { return how == AFTER ? refused(why) : own; }
 
 static int open_at(int folder, const char *path, int flags, mode_t mode) {
-    if (flags & (O_WRONLY | O_RDWR)) trace("open", path, "");
+    trace(flags & (O_WRONLY | O_RDWR) ? "open" : "look", path, "");
     enum refusal how = refusal_of(OPEN);
     if (how == BEFORE) return refused(EACCES);
     return (int)answer(how, syscall(SYS_openat, folder, path, flags, mode), EACCES);
@@ -184,6 +188,8 @@ int openat64(int folder, const char *path, int flags, ...) {
 }
 
 ssize_t read(int file, void *buffer, size_t size) {
+    char path[512];
+    trace("read", path_of(file, path, sizeof path), "");
     enum refusal how = refusal_of(READ);
     if (how == BEFORE) return refused(EIO);
     if (is_short() && size > 1) size = 1;
@@ -232,3 +238,13 @@ static int removed(int folder, const char *path, int flags) {
 int unlink(const char *path) { return removed(AT_FDCWD, path, 0); }
 
 int unlinkat(int folder, const char *path, int flags) { return removed(folder, path, flags); }
+
+/* ---- threads */
+
+int pthread_create(pthread_t *thread, const pthread_attr_t *how, void *(*start)(void *), void *with) {
+    static int (*own)(pthread_t *, const pthread_attr_t *, void *(*)(void *), void *);
+    if (!own) *(void **)&own = dlsym(RTLD_NEXT, "pthread_create");
+    if (!fails(THREAD)) return own(thread, how, start, with);
+    end_here();
+    return EAGAIN;
+}

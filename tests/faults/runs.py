@@ -1,0 +1,237 @@
+"""Has each growth, each start of a thread and each call beneath a save or a load of progress fail in turn under `run`: a part
+of sweep.py.
+
+- A growth that is refused is want of memory, whichever thread it was on, or changes nothing; a thread that can't be started is
+  want of memory. No end that heard of it hides it, and no run waits for good: each has 20 seconds.
+- A run of one client with one event in its window saves four records, one after another; the trace of a good run says which
+  call is of which save. Where one of these calls is refused, or done and answered as refused, or where the process ends there,
+  before the call or after it:
+  - the file holds the record of the save before, whole, or what it held at the start; only from the rename on it holds the new one;
+  - beside it is nothing, or the beginning of a record;
+  - the run is refused by the store, and standard error names the file;
+  - the next run goes on from what the file holds: it prints what comes after that, and leaves the last record alone.
+  The same while each write takes one byte, so that what is beside the file may end anywhere.
+"""
+import itertools
+import os
+import re
+import subprocess
+import threading
+
+SECONDS = 20
+NO_MEMORY = (1, b"fault: out_of_memory\n")
+STORE = (1, b"fault: store\n")
+NOT_READ = (1, b"fault: read_fault\n")
+ENDED = (70, b"")
+S = "accounts 1000\naccount id=1 ledger=700 code=10\naccount id=2 ledger=700 code=10\n"
+ALL, POSTED, OTHERS = "subscriber all\n", "subscriber all event_type=two_phase_posted\n", "subscriber all ledger=800\n"
+HOLD_AND_POST = S + """transfers 2000
+transfer id=10 debit_account_id=1 credit_account_id=2 amount=100 ledger=700 code=1 flags=2
+transfers 3000
+transfer id=11 pending_id=10 amount=40 flags=4
+transfer id=12 debit_account_id=2 credit_account_id=1 amount=5 ledger=700 code=1
+"""
+TWO_CLIENTS = "client 1\n" + S + """transfers 2000
+transfer id=1 debit_account_id=1 credit_account_id=2 amount=5 ledger=700 code=1
+client 2
+accounts 1000
+account id=3 ledger=800 code=10
+account id=4 ledger=800 code=10
+transfers 2000
+transfer id=2 debit_account_id=3 credit_account_id=4 amount=7 ledger=800 code=1
+"""
+BATCHES = "batch 1: 0 0\nbatch 2: 0\nbatch 3: 0 0\n"
+ALL_KEPT = "subscriber 1 applied 3 last 3001 ended yes closed no\naccount 1 0 40 0 5\naccount 2 0 5 0 40\n"
+POSTED_KEPT = "subscriber 2 applied 1 last 3000 ended yes closed no\naccount 1 0 40 0 0\naccount 2 0 0 0 40\n"
+NONE_KEPT = "subscriber {} applied 0 last 0 ended yes closed no\n"
+OF_TWO = "batch 1: 0 0\nbatch 2: 0\nbatch 3: 0 0\nbatch 4: 0\nsubscriber 1 applied 2 last T ended yes closed no\n"
+OF_TWO += "account 1 0 5 0 0\naccount 2 0 0 0 5\naccount 3 0 7 0 0\naccount 4 0 0 0 7\n"
+OTHERS_KEPT = "subscriber 2 applied 1 last T ended yes closed no\naccount 3 0 7 0 0\naccount 4 0 0 0 7\n"
+# The scripts, what a run of each prints, and the windows.
+CASES = [
+    ("one client, two subscribers", ALL + POSTED + HOLD_AND_POST, BATCHES + ALL_KEPT + POSTED_KEPT, (1, 2)),
+    ("one client, one subscriber", ALL + HOLD_AND_POST, BATCHES + ALL_KEPT, (2,)),
+    ("two clients, two subscribers", ALL + OTHERS + TWO_CLIENTS, OF_TWO + OTHERS_KEPT, (1, 2)),
+    ("two clients, one subscriber", ALL + TWO_CLIENTS, OF_TWO, (1,)),
+]
+# What a run of the first script prints that goes on from a moment.
+LATER = {
+    0: BATCHES + ALL_KEPT + POSTED_KEPT,
+    2000: BATCHES + ALL_KEPT.replace("applied 3", "applied 2") + POSTED_KEPT,
+    3000: BATCHES + "subscriber 1 applied 1 last 3001 ended yes closed no\naccount 2 0 5 0 40\naccount 1 0 40 0 5\n"
+    + NONE_KEPT.format(2),
+    3001: BATCHES + NONE_KEPT.format(1) + NONE_KEPT.format(2),
+}
+MOMENTS = sorted(LATER)
+KIND_OF = {"open": "open", "look": "open", "read": "read", "write": "write", "sync": "sync", "rename": "rename"}
+HOW = ["", " after", " end", " after end"]
+RECORD = re.compile(rb"tb-cdc 1 (\d+) (\d+)\n")
+BEGINNING = re.compile(rb"(t|tb|tb-|tb-c|tb-cd|tb-cdc|tb-cdc [0-9 ]*\n?)?")
+
+
+def record(session, timestamp):
+    return b"tb-cdc 1 %d %d\n" % (session, timestamp)
+
+
+# What the file and the one beside it hold before a run.
+STARTS = {
+    "no file": (None, None),
+    "an old record": (record(3, 0), None),
+    "an old record and what a broken save left": (record(3, 0), record(4, 0)[:-4]),
+}
+
+
+def contents(path):
+    """What a file holds; None where there is no file."""
+    try:
+        with open(path, "rb") as file:
+            return file.read()
+    except FileNotFoundError:
+        return None
+
+
+def settled(text):
+    """A report of two clients without what hangs on the order of their batches: timestamps, and the order of accounts."""
+    lines = re.sub(r"last [1-9]\d*", "last T", text).splitlines(True)
+    parts, accounts = [], []
+    for line in [*lines, ""]:
+        if line.startswith("account "):
+            accounts.append(line)
+        else:
+            parts, accounts = [*parts, *sorted(accounts), line], []
+    return "".join(parts)
+
+
+class Sweep:
+    """The runs, and what went wrong with them."""
+
+    def __init__(self, program, library, room):
+        self.program, self.library, self.room = program, library, room
+        self.places = itertools.count()
+        self.lock = threading.Lock()
+        self.runs = 0
+        self.failures = []
+
+    def fail(self, what):
+        with self.lock:
+            self.failures.append(f"failed: run, {what}")
+
+    def folder(self):
+        made = os.path.join(self.room, f"runs-{next(self.places)}")
+        os.mkdir(made)
+        return made
+
+    def run(self, script, words, folder=None, **plan):
+        """Runs a script under a plan. Answers the status and what was printed, and what standard error said."""
+        with self.lock:
+            self.runs += 1
+        env = dict(os.environ, LD_PRELOAD=self.library, **plan)
+        words = [self.program, "run", "-", *words]
+        try:
+            done = subprocess.run(words, input=script.encode(), capture_output=True, env=env, cwd=folder, timeout=SECONDS)
+        except subprocess.TimeoutExpired:
+            return ("none", f"it hasn't ended after {SECONDS} seconds"), b""
+        return (done.returncode, done.stdout), done.stderr
+
+    # -- growths and threads
+
+    def sweep_case(self, pool, name, script, printed, window):
+        """Each growth and each start of a thread is refused."""
+        words = ["--window", str(window)]
+        reads = (lambda text: text) if script.count("client") < 2 else settled
+        is_right = lambda ended: ended[0] == 0 and reads(ended[1].decode()) == printed
+        calls, folder = {"growth": 0, "thread": 0}, self.folder()
+        # (how many growths there are hangs on the threads)
+        for _ in range(3):
+            ended, _ = self.run(script, words, CALLS=os.path.join(folder, "calls"))
+            if not is_right(ended):
+                self.fail(f"{name}, window {window}, no fault: {ended}")
+            found = dict(line.split() for line in contents(os.path.join(folder, "calls")).decode().splitlines())
+            calls = {kind: max(count, int(found[kind])) for kind, count in calls.items()}
+        told = {}
+        plans = [f"{kind}:{number}" for kind, count in calls.items() for number in range(1, count + 1)]
+        for plan, (ended, errors) in zip(plans, pool.map(lambda plan: self.run(script, words, FAULT=plan), plans)):
+            refused = ended == NO_MEMORY and b"out_of_memory" in errors and errors.count(b"\n") == 1
+            if not refused and not (plan.startswith("growth") and is_right(ended)):
+                self.fail(f"{name}, window {window}, {plan}: {ended}, {errors!r}")
+            told[refused] = told.get(refused, 0) + 1
+        if calls["thread"] == 0:
+            self.fail(f"{name}, window {window}: no thread was started")
+        ends = f"{told.get(True, 0)} ended it, {told.get(False, 0)} changed nothing"
+        print(f"run, {name}, window {window}: {calls['growth']} growths, {calls['thread']} threads ({ends})", flush=True)
+
+    # -- saves and loads
+
+    def place(self, start):
+        """A folder of its own with what the files hold before a run."""
+        folder = self.folder()
+        for name, holds in zip(("saved", "saved.new"), start):
+            if holds is not None:
+                with open(os.path.join(folder, name), "wb") as file:
+                    file.write(holds)
+        return folder
+
+    def saving(self, folder, **plan):
+        return self.run(CASES[0][1], ["--progress", "saved"], folder, **plan)
+
+    def calls_of(self, start, short):
+        """The calls of a good run, as they come: each with its kind, its number among these, what it is done to, and how many
+        records were saved before it."""
+        folder = self.place(start)
+        trace = os.path.join(folder, "trace")
+        self.saving(folder, TRACE=trace, FAULT=short.strip())
+        counts, saved, found = {}, 0, []
+        for line in contents(trace).decode().splitlines():
+            what, path = line.split(" ")[:2]
+            kind = KIND_OF.get(what)
+            if kind:
+                counts[kind] = counts.get(kind, 0) + 1
+                found.append((kind, counts[kind], os.path.basename(path), saved))
+            saved += what == "rename"
+        if saved != len(MOMENTS):
+            self.fail(f"a run saves {saved} records, not {len(MOMENTS)}")
+        return found
+
+    def failing_call(self, name, start, call, how, short):
+        """One call of a run that saves fails: what is answered, what the files hold, and that the next run goes on."""
+        kind, number, path, saved = call
+        folder, plan = self.place(start), f"{kind}:{number}{how}{short}"
+        ended, errors = self.saving(folder, FAULT=plan)
+        session = int(RECORD.fullmatch(start[0])[1]) + 1 if start[0] else 1
+        records = [start[0], *(record(session, moment) for moment in MOMENTS)]
+        wanted = records[saved + (kind == "rename" and "after" in how)]
+        holds, beside = (contents(os.path.join(folder, it)) for it in ("saved", "saved.new"))
+        if "end" in how:
+            right = ended == ENDED
+        else:
+            right = ended == STORE and b"store: " in errors and errors.count(b"\n") == 1
+        if not right or holds != wanted or not (beside is None or BEGINNING.fullmatch(beside)):
+            self.fail(f"{name}, {plan} of {path}: {ended}, {errors!r}; saved: {holds!r}, wanted {wanted!r}; beside it {beside!r}")
+            return
+        before = RECORD.fullmatch(holds) if holds else None
+        moment = int(before[2]) if before else 0
+        ended, _ = self.saving(folder)
+        left = [contents(os.path.join(folder, it)) for it in ("saved", "saved.new")]
+        last = record(int(before[1]) + 1 if before else 1, MOMENTS[-1])
+        if ended != (0, LATER[moment].encode()) or left != [last, None]:
+            self.fail(f"{name}, {plan} of {path}, the next run: {ended}, {left}")
+
+    def sweep_saves(self, pool, name, start):
+        """Each call of a run that saves its progress fails."""
+        of_file = [it for it in self.calls_of(start, "") if it[2] in ("saved", "saved.new")]
+        tries = [(it, how, "") for it in of_file for how in HOW]
+        if start == STARTS["an old record"]:
+            writes = [it for it in self.calls_of(start, " short") if it[0] == "write" and it[2] == "saved.new"]
+            tries += [(it, how, " short") for it in writes for how in ("", " after end")]
+        list(pool.map(lambda it: self.failing_call(name, start, *it), tries))
+        for kind in ("open", "read", "write", "sync", "rename"):
+            if kind not in {it[0] for it in of_file}:
+                self.fail(f"{name}: a run that saves does no {kind}")
+        print(f"run, {name}: {len(of_file)} calls of the file of progress, {len(tries)} tries", flush=True)
+
+    def sweep(self, pool):
+        for name, script, printed, windows in CASES:
+            for window in windows:
+                self.sweep_case(pool, name, script, printed, window)
+        for name, start in STARTS.items():
+            self.sweep_saves(pool, name, start)
