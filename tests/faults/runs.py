@@ -223,8 +223,8 @@ class Sweep:
         if start == STARTS["an old record"]:
             writes = [it for it in self.calls_of(start, " short") if it[0] == "write" and it[2] == "saved.new"]
             tries += [(it, how, " short") for it in writes for how in ("", " after end")]
-        list(pool.map(lambda it: self.failing_call(name, start, *it), tries))
             self.sweep_growths(pool, name, start)
+        list(pool.map(lambda it: self.failing_call(name, start, *it), tries))
         for kind in ("open", "read", "write", "sync", "rename"):
             if kind not in {it[0] for it in of_file}:
                 self.fail(f"{name}: a run that saves does no {kind}")
