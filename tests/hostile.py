@@ -7,8 +7,9 @@ Each case has a folder of its own, and each run 20 seconds. A run that is refuse
 names the file on standard error, and leaves the folder as it was; one that isn't leaves the record, in the file that was named,
 and nothing beside it. Where it is run as root, the program is run as nobody, so that modes and owners count.
 
-Runs that may not have all their threads want memory. Then runs are ended in the middle, by SIGTERM and by a standard output that nobody reads any more: the file holds a whole record,
-or isn't there; what is beside it is at most the beginning of a record, which the next run takes away.
+Runs that may not have all their threads want memory. Then runs are ended in the middle, by SIGTERM and by a standard output that
+nobody reads any more: the file holds a whole record, or isn't there; what is beside it is at most the beginning of a record,
+which the next run takes away.
 
 The last line is `hostile: N passed, M failed`; the status is 1 where one failed.
 """
