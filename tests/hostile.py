@@ -7,8 +7,9 @@ Each case has a folder of its own, and each run 20 seconds. A run that is refuse
 names the file on standard error, and leaves the folder as it was; one that isn't leaves the record, in the file that was named,
 and nothing beside it. Where it is run as root, the program is run as nobody, so that modes and owners count.
 
-Then runs are ended in the middle, by SIGTERM and by a standard output that nobody reads any more: the file holds a whole record,
-or isn't there; what is beside it is at most the beginning of a record, which the next run takes away.
+Runs that may not have all their threads want memory. Then runs are ended in the middle, by SIGTERM and by a standard output that
+nobody reads any more: the file holds a whole record, or isn't there; what is beside it is at most the beginning of a record,
+which the next run takes away.
 
 The last line is `hostile: N passed, M failed`; the status is 1 where one failed.
 """
@@ -16,6 +17,7 @@ import contextlib
 import os
 import random
 import re
+import resource
 import shutil
 import signal
 import stat
@@ -42,6 +44,7 @@ BATCHES = b"batch 1: 0 0\nbatch 2: 0\n"
 PRINTED = BATCHES + b"subscriber 1 applied 1 last 2000 ended yes closed no\naccount 1 0 100 0 0\naccount 2 0 0 0 100\n"
 PRINTED_LATER = BATCHES + b"subscriber 1 applied 0 last 0 ended yes closed no\n"
 STORE = b"fault: store\n"
+NO_MEMORY = b"fault: out_of_memory\n"
 EXHAUSTED = b"fault: sessions_exhausted\n"
 GREATEST = 2**64 - 1
 RECORD = re.compile(rb"tb-cdc 1 (0|[1-9][0-9]*) (0|[1-9][0-9]*)\n")
@@ -55,11 +58,14 @@ def record(session, timestamp):
     return b"tb-cdc 1 %d %d\n" % (session, timestamp)
 
 
-def as_nobody():
+def as_nobody(processes=None):
+    """Makes a process nobody's, who may have so many processes and threads."""
     if os.geteuid() == 0:
         os.setgroups([])
         os.setgid(NOBODY)
         os.setuid(NOBODY)
+    if processes is not None:
+        resource.setrlimit(resource.RLIMIT_NPROC, (processes, processes))
 
 
 class Hostile:
@@ -109,10 +115,10 @@ class Hostile:
 
     # -- runs
 
-    def start(self, folder, saved, script="script", **how):
+    def start(self, folder, saved, script="script", processes=None):
         words = [self.program, "run", script, "--progress", saved]
-        how = {"stdin": subprocess.DEVNULL, "stdout": subprocess.PIPE, "stderr": subprocess.PIPE, **how}
-        return subprocess.Popen(words, cwd=folder, preexec_fn=as_nobody, **how)
+        how = {"stdin": subprocess.DEVNULL, "stdout": subprocess.PIPE, "stderr": subprocess.PIPE}
+        return subprocess.Popen(words, cwd=folder, preexec_fn=lambda: as_nobody(processes), **how)
 
     def end(self, run):
         """How a run ended: its status, and what it printed; and what it said on standard error."""
@@ -257,6 +263,21 @@ def kept(hostile):
 
 
 # ---------------------------------------------------------------------------------------------------------------------
+# Too few threads.
+
+
+def few_threads(hostile):
+    """A run that may not have all its threads wants memory; how many others nobody has, nobody knows."""
+    for processes in range(1, 9):
+        folder = hostile.folder()
+        ended, errors = hostile.end(hostile.start(folder, "saved", processes=processes))
+        right = ended == (0, PRINTED) or ended == (1, NO_MEMORY) and b"out_of_memory" in errors
+        hostile.check(f"at most {processes} threads", True, right or (ended, errors))
+        held = contents(folder).get("saved")
+        hostile.check(f"at most {processes} threads: the record", True, not held or bool(RECORD.fullmatch(held[1])))
+
+
+# ---------------------------------------------------------------------------------------------------------------------
 # Two runs over one file, and runs that are ended.
 
 
@@ -340,7 +361,7 @@ def main():
     program = os.path.realpath(sys.argv[1] if len(sys.argv) > 1 else f"{HERE}/../crates/cdc_app/out/cdc_app")
     with rooms.room("hostile-") as room:
         hostile = Hostile(program, room)
-        for part in (unreachable, unwritable, no_record, in_the_way, kept, two_runs, ended_runs):
+        for part in (unreachable, unwritable, no_record, in_the_way, kept, few_threads, two_runs, ended_runs):
             part(hostile)
     print(f"hostile: {hostile.passed} passed, {hostile.failed} failed")
     return 1 if hostile.failed else 0

@@ -223,11 +223,35 @@ class Sweep:
         if start == STARTS["an old record"]:
             writes = [it for it in self.calls_of(start, " short") if it[0] == "write" and it[2] == "saved.new"]
             tries += [(it, how, " short") for it in writes for how in ("", " after end")]
+            self.sweep_growths(pool, name, start)
         list(pool.map(lambda it: self.failing_call(name, start, *it), tries))
         for kind in ("open", "read", "write", "sync", "rename"):
             if kind not in {it[0] for it in of_file}:
                 self.fail(f"{name}: a run that saves does no {kind}")
         print(f"run, {name}: {len(of_file)} calls of the file of progress, {len(tries)} tries", flush=True)
+
+    def refused_growth(self, name, start, number):
+        """A growth of a run that saves is refused: the file holds a whole record, or what it held, and the next run goes on."""
+        folder = self.place(start)
+        ended, errors = self.saving(folder, FAULT=f"growth:{number}")
+        holds, beside = (contents(os.path.join(folder, it)) for it in ("saved", "saved.new"))
+        found = RECORD.fullmatch(holds)
+        right = ended == NO_MEMORY and b"out_of_memory" in errors or ended == (0, LATER[0].encode())
+        if not right or not found or int(found[2]) not in LATER or beside is not None:
+            self.fail(f"{name}, growth:{number}: {ended}, {errors!r}; saved: {holds!r}; beside it {beside!r}")
+            return
+        ended, _ = self.saving(folder)
+        if ended != (0, LATER[int(found[2])].encode()):
+            self.fail(f"{name}, growth:{number}, the next run: {ended}")
+
+    def sweep_growths(self, pool, name, start):
+        """Each growth of a run that saves its progress is refused."""
+        folder = self.place(start)
+        self.saving(folder, CALLS=os.path.join(folder, "calls"))
+        found = dict(line.split() for line in contents(os.path.join(folder, "calls")).decode().splitlines())
+        numbers = range(1, int(found["growth"]) + 1)
+        list(pool.map(lambda number: self.refused_growth(name, start, number), numbers))
+        print(f"run, {name}: {len(numbers)} growths", flush=True)
 
     def sweep(self, pool):
         for name, script, printed, windows in CASES:

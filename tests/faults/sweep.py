@@ -1,9 +1,8 @@
 #!/usr/bin/env python3
 """Makes each growth, each read and each write of the program fail in turn, and looks how it ends.
 
-  tests/faults/sweep.py [--as-built] [PROGRAM [SAVES [CALLS]]]    PROGRAM: crates/cdc_app/out/cdc_app
-                                                                  SAVES: cdc_saves, from the same tree as PROGRAM
-                                                                  CALLS: cdc_calls, from there too
+  tests/faults/sweep.py [--as-built] [PROGRAM [CALLS]]    PROGRAM: crates/cdc_app/out/cdc_app
+                                                          CALLS: cdc_calls, from the same tree as PROGRAM
 
 A small library, faults.c, is built and loaded before the C library; it refuses the call that a plan names. For every
 run below, and for every call of it in turn:
@@ -14,10 +13,10 @@ run below, and for every call of it in turn:
 - a write that is refused ends it with status 1, a beginning of what it prints, and the write_fault on standard error;
   one of standard error's changes nothing that is printed, nor the status;
 - reads and writes that fall short change nothing.
-Then the same of saves and loads of progress, by the program cdc_saves: saves.py; and each growth of
-the calls that no command makes is refused, by the program cdc_calls: calls.py.
-With --as-built a part whose program, cdc_saves or cdc_calls, isn't built is left out, and a line says so; `rt ci` builds
-both, and `rt run` in their crates, and `relayplum` builds neither.
+Then the same of runs on threads, with each start of a thread and each call beneath a save or a load of progress: runs.py;
+and each growth of the calls that no command makes is refused, by the program cdc_calls: calls.py.
+With --as-built the part of cdc_calls is left out where that isn't built, and a line says so; `rt ci` builds it, and `rt run`
+in its crate, and `relayplum` doesn't.
 It needs a C compiler, `cc`. The last line is 'faults: N runs, M failed'; the status is 0 where none failed.
 """
 import os
@@ -25,14 +24,15 @@ import re
 import shutil
 import subprocess
 import sys
-import tempfile
 import threading
 from collections import Counter
 from concurrent.futures import ThreadPoolExecutor
 
 sys.dont_write_bytecode = True
+sys.path.append(os.path.dirname(os.path.dirname(os.path.realpath(__file__))))
 import calls
-import saves
+import rooms
+import runs
 
 HERE = os.path.dirname(os.path.realpath(__file__))
 TOP = os.path.dirname(os.path.dirname(HERE))
@@ -199,13 +199,13 @@ as_built = "--as-built" in sys.argv[1:]
 given = [it for it in sys.argv[1:] if it != "--as-built"]
 program = os.path.realpath(given[0] if given else f"{TOP}/crates/cdc_app/out/cdc_app")
 crates = os.path.dirname(os.path.dirname(os.path.dirname(program)))
-saver, caller = program_of(1, "cdc_saves"), program_of(2, "cdc_calls")
-with tempfile.TemporaryDirectory() as room:
+caller = program_of(1, "cdc_calls")
+with rooms.room("faults-") as room:
     library = built_library(room)
     with ThreadPoolExecutor(JOBS) as pool:
         for number, (words, stdin) in enumerate(CASES):
             Case(number, words, stdin).sweep(pool)
-        parts = [saves.Sweep(saver, library, room)] if saver else []
+        parts = [runs.Sweep(program, library, room)]
         parts += [calls.Sweep(caller, library, room)] if caller else []
         for part in parts:
             part.sweep(pool)

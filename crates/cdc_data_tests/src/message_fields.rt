@@ -20,6 +20,16 @@ const LARGE_32: &str = "4294967296";
 
 const LARGE_16: &str = "65536";
 
+// Values that are no whole number, in digits or as a decimal string.
+const NO_NUMBERS: [&str; 10] = [
+    "true", "null", "[]", "{}", "\"\"", "\"x\"", "\"+1\"", "-1", "1.0", "1e2",
+];
+
+// Values that are no text, and values that are no object.
+const NO_TEXTS: [&str; 5] = ["1", "true", "null", "[]", "{}"];
+
+const NO_OBJECTS: [&str; 5] = ["1", "true", "null", "[]", "\"\""];
+
 const TRANSFER: [Number; 10] = [
     (FieldName::Id, "\"1\"", LARGE_128),
     (FieldName::Amount, "\"100\"", LARGE_128),
@@ -135,8 +145,20 @@ fn check_numbers(
     for (name, _, large) in members {
         let field = field(part, *name);
         check(rt, field, None, DecodeError::Missing(field))?;
-        check(rt, field, Some("true"), DecodeError::WrongType(field))?;
+        check_kinds(rt, field, &NO_NUMBERS)?;
         check(rt, field, Some(*large), DecodeError::OutOfRange(field))?;
+    }
+    Ok(())
+}
+
+// Each of these values is of a wrong kind.
+fn check_kinds(
+    rt: &(impl Abort + AllocGlobal),
+    field: Field,
+    values: &[&'static str],
+) -> Result<(), AllocError> {
+    for value in values {
+        check(rt, field, Some(*value), DecodeError::WrongType(field))?;
     }
     Ok(())
 }
@@ -153,15 +175,15 @@ fn each_spoilt_field_is_named(rt: HostRuntime) -> Result<(), Fail> {
     ];
     check_numbers(&rt, Part::Top, &top)?;
     let others = [
-        (FieldName::Kind, "1"),
-        (FieldName::TransferPart, "[]"),
-        (FieldName::DebitAccount, "\"\""),
-        (FieldName::CreditAccount, "null"),
+        (FieldName::Kind, NO_TEXTS),
+        (FieldName::TransferPart, NO_OBJECTS),
+        (FieldName::DebitAccount, NO_OBJECTS),
+        (FieldName::CreditAccount, NO_OBJECTS),
     ];
     for (name, wrong) in others {
         let field = field(Part::Top, name);
         check(&rt, field, None, DecodeError::Missing(field))?;
-        check(&rt, field, Some(wrong), DecodeError::WrongType(field))?;
+        check_kinds(&rt, field, &wrong)?;
     }
     Ok(())
 }

@@ -86,6 +86,15 @@ fn scratch(rt: &HostRuntime) -> Result<String, Fail> {
     Ok(folder)
 }
 
+#[test]
+fn each_beginning_of_a_record_is_none(rt: HostRuntime) {
+    for (_, _, text) in RECORDS {
+        for end in 0..text.len() {
+            assert_eq!(rt; parse(&text.as_bytes()[..end]), None);
+        }
+    }
+}
+
 // What a store in this file answers, made anew for each call.
 fn save_at(rt: &HostRuntime, path: &str, progress: Progress) -> Result<(), StoreError> {
     FileStore::at(rt, path).save(progress)
@@ -115,22 +124,30 @@ fn a_file_gives_back_what_was_saved(rt: HostRuntime) -> Result<(), Fail> {
     Ok(())
 }
 
-// A file that a broken save has left beside the store's is written anew.
+// What a broken save has left beside the store's file is written anew, and anything else is left alone.
 #[test]
 fn a_save_goes_by_way_of_a_new_file(rt: HostRuntime) -> Result<(), Fail> {
     let folder = scratch(&rt)?;
     let path = format!(in rt.alloc(); "{folder}/saved")?;
     let beside = format!(in rt.alloc(); "{folder}/saved.new")?;
-    let stale = "half of a record that is longer than any record";
-    fs::write(&rt, beside.as_str(), stale)?;
-    assert_eq!(rt; save_at(&rt, path.as_str(), Progress::new(3, 2000, 0)), Ok(()));
+    for left in ["", "tb", "tb-cdc 1 4", "tb-cdc 2 4 20"] {
+        fs::write(&rt, beside.as_str(), left)?;
+        assert_eq!(rt; save_at(&rt, path.as_str(), Progress::new(3, 2000, 0)), Ok(()));
+        assert_eq!(rt; text_at(&rt, path.as_str())?.as_str(), "tb-cdc 2 3 2000 0\n");
+        assert!(rt; !fs::exists(&rt, beside.as_str())?);
+    }
+    let other = "subscriber all\n";
+    fs::write(&rt, beside.as_str(), other)?;
+    let answer = save_at(&rt, path.as_str(), Progress::new(4, 2000, 0));
+    assert_eq!(rt; answer, Err(StoreError::WriteFault));
     assert_eq!(rt; text_at(&rt, path.as_str())?.as_str(), "tb-cdc 2 3 2000 0\n");
-    assert!(rt; !fs::exists(&rt, beside.as_str())?);
+    assert_eq!(rt; text_at(&rt, beside.as_str())?.as_str(), other);
     fs::remove_dir_all(&rt, folder.as_str())?;
     Ok(())
 }
 
-// A store gives what the file holds, whoever wrote it, and writes what it is told to, whatever it knows.
+// While a store has a file, another one is refused; and a store that finds another record than its own replaces nothing
+// until it has loaded that.
 #[test]
 fn a_store_goes_by_its_file(rt: HostRuntime) -> Result<(), Fail> {
     let folder = scratch(&rt)?;
@@ -139,11 +156,16 @@ fn a_store_goes_by_its_file(rt: HostRuntime) -> Result<(), Fail> {
     let second = Progress::new(2, 20, 10);
     let mut store = FileStore::at(&rt, path.as_str());
     assert_eq!(rt; store.save(first), Ok(()));
-    assert_eq!(rt; save_at(&rt, path.as_str(), second), Ok(()));
+    assert_eq!(rt; load_at(&rt, path.as_str()), Err(StoreError::ReadFault));
+    let answer = save_at(&rt, path.as_str(), second);
+    assert_eq!(rt; answer, Err(StoreError::WriteFault));
+    assert_eq!(rt; store.load(), Ok(Some(first)));
+    fs::write(&rt, path.as_str(), "tb-cdc 2 2 20 10\n")?;
+    assert_eq!(rt; store.save(first), Err(StoreError::WriteFault));
     assert_eq!(rt; store.load(), Ok(Some(second)));
     fs::remove_file(&rt, path.as_str())?;
     assert_eq!(rt; store.save(second), Ok(()));
-    assert_eq!(rt; load_at(&rt, path.as_str()), Ok(Some(second)));
+    assert_eq!(rt; text_at(&rt, path.as_str())?.as_str(), "tb-cdc 2 2 20 10\n");
     fs::remove_dir_all(&rt, folder.as_str())?;
     Ok(())
 }
@@ -219,6 +241,7 @@ fn a_file_that_cannot_be_reached_is_a_fault(rt: HostRuntime) -> Result<(), Fail>
         (Err(StoreError::ReadFault), Err(StoreError::WriteFault), 2)
     );
     let beside = format!(in rt.alloc(); "{folder}.new")?;
+    fs::write(&rt, beside.as_str(), "")?;
     let below = format!(in rt.alloc(); "{beside}/kept")?;
     assert_eq!(rt;
         load_and_save(&rt, below.as_str()),
