@@ -6,9 +6,10 @@
 
 Each run is of one client, which hands in one of two scripts: a short one of two subscribers, or one of 2,000 transfers.
 Its plan loses confirms and publishes, restarts the connector and lets queues go back, at random counts, on two
-processors or on four; its sessions wait for one event, or for up to 64. None of it may show: the output has to be what `books` prints for the script. Half of the runs
-save their progress to a file; from the record that is left, the plan did what it says, where the window is 1. A run that takes longer than
-SECONDS hangs, and has failed. One run more is held for a while, by a pipe in the place of its saved progress, and must
+processors or on four; its sessions wait for one event, or for up to 64. None of it may show: the output has to be what
+`books` prints for the script. One run of three starts after a moment: its output has to be what the outside model
+(model.py) has of the events after it. Half of the runs save their progress to a file; from the record that is left, the
+plan did what it says, where the window is 1. A run that takes longer than SECONDS hangs, and has failed. One run more is held for a while, by a pipe in the place of its saved progress, and must
 take no processor time meanwhile.
 
 With --times there are no random plans: each of a few runs is done so often in a row, and has to come to what the
@@ -23,7 +24,6 @@ import random
 import subprocess
 import sys
 import time
-from types import SimpleNamespace
 
 import model
 import rooms
@@ -143,15 +143,15 @@ def shortened(outcome):
 
 
 class Stress:
-    """A script, its book, and how many events it makes."""
+    """A script, its book, and the events that it makes."""
 
     def __init__(self, name, script, runner):
         self.name = name
         self.script = script
         self.book = runner.run(['books', '-'], script)
-        # The first subscriber is one of all events: `subscriber 1 applied N last T ..`.
-        told = [line for line in self.book.split('\n') if line.startswith('subscriber 1 ')][0].split(' ')
-        self.events, self.last = int(told[3]), int(told[5])
+        self.bindings = model.read_script(script.encode('ascii')).bindings
+        ledger, self.batches = model.run_batches(model.read_script(script.encode('ascii')))
+        self.events = ledger.events
 
     def plan(self, rng):
         """The words of a plan that doesn't show."""
@@ -161,25 +161,43 @@ class Stress:
                 words += [option, str(self.count(rng))]
         for _ in range(rng.choice([0, 1, 2, 5, 20])):
             words += ['--repeat', f'{rng.randint(1, 2)}:{self.count(rng)}']
+        if rng.random() < 1 / 3:
+            words += ['--start-after', str(self.start(rng))]
         return words
+
+    def start(self, rng):
+        """A moment to start after: that of an event, the one before it, the last one's, or a later one."""
+        last = self.events[-1].timestamp
+        return rng.choice([0, rng.choice(self.events).timestamp, rng.choice(self.events).timestamp - 1, last, last + 1])
+
+    def wanted(self, words):
+        """What a run under this plan prints."""
+        plan = model.plan_of(words)
+        if plan.start is None:
+            return self.book
+        later = [event for event in self.events if event.timestamp > plan.start]
+        text = model.batch_lines(self.batches)
+        for number, binding in enumerate(self.bindings, start=1):
+            text += model.subscriber_lines(number, model.heard([*later, model.END_MARK], binding, None))
+        return text
 
     def count(self, rng):
         """Of a packet, or a position: anywhere, at the beginning, or about the end."""
-        most = self.events + 2
+        most = len(self.events) + 2
         return rng.choice([rng.randint(1, most), rng.randint(1, min(most, 5)), rng.randint(max(1, most - 3), most)])
 
     def records(self, words):
         """The bytes of the progress that a run under this plan may save last: one record where its window is 1."""
         plan = model.plan_of(words)
-        if plan.window > 1:
-            return [self.record(1 + more) for more in range(plan.breaks() + 1)]
-        line = [SimpleNamespace(timestamp=place) for place in range(1, self.events + 1)]
-        _, (session, _) = model.published(line, plan, None)
-        return [self.record(session)]
+        if plan.window == 1:
+            return [record_of(model.published(self.events, plan, None)[1])]
+        _, (session, moment, start) = model.published(self.events, model.Plan(start=plan.start), None)
+        return [record_of((session + more, moment, start)) for more in range(plan.breaks() + 1)]
 
-    def record(self, session):
-        """The bytes of the progress of this session, once all is confirmed."""
-        return b'tb-cdc 1 %d %d\n' % (session, self.last)
+
+def record_of(progress):
+    """The bytes of progress: session, timestamp and start."""
+    return b'tb-cdc 2 %d %d %d\n' % progress
 
 
 def run_stress(options, runner):
@@ -197,7 +215,8 @@ def run_stress(options, runner):
         begun = time.monotonic()
         found = runner.run(words, stress.script, processors)
         times.setdefault((stress.name, processors), []).append(time.monotonic() - begun)
-        wanted = [(stress.book, record) for record in (stress.records(plan) if saves else [None])]
+        text = stress.wanted(plan)
+        wanted = [(text, record) for record in (stress.records(plan) if saves else [None])]
         left = progress.read_bytes() if progress.exists() else None
         what = f'run {number} of seed {options.seed}, the {stress.name} script on {processors} processors: '
         runner.note(what + ' '.join(words), wanted, (found, left))
@@ -238,7 +257,7 @@ def run_waiting(stress, runner):
             rested = has_rested(run)
             # Without a reader this is refused, and doesn't wait.
             with open(os.open(pipe, os.O_WRONLY | os.O_NONBLOCK), 'wb') as saved:
-                saved.write(b'tb-cdc 1 4 0\n')
+                saved.write(record_of((4, 0, 0)))
             found = run.communicate(timeout=SECONDS)[0].decode('utf-8', 'backslashreplace')
         except (OSError, subprocess.TimeoutExpired) as error:
             run.kill()
