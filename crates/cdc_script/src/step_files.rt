@@ -99,7 +99,11 @@ fn read_moment(words: &[u8]) -> Result<Act, FaultKind>
     }
     let number = read_number(word, u128::from(Limits::TIMESTAMP))?;
     let moment = Moment::new(number as u64).ok_or(FaultKind::NumberOutOfRange)?;
-    at_end(rest, FaultKind::WrongCount, Act::Step(Step::StartAt(moment)))
+    at_end(
+        rest,
+        FaultKind::WrongCount,
+        Act::Step(Step::StartAt(moment)),
+    )
 }
 
 /// An acknowledgement: the number of a subscriber, and that of the acknowledgement.
