@@ -3,12 +3,22 @@ use Rattle.std.proofs.Common.{◌≡◌, true, false, refl}
 use Rattle.std.specs.Prelude.{Some, None, codes}
 use Rattle.std.specs.Fmt.{digits}
 use Rattle.cdc_progress.specs.Memory.{Memory, fails_next, failures_of, called, after_save}
-use Rattle.cdc_progress.specs.Records.{text_of}
+use Rattle.cdc_progress.specs.Records.{first_text_of, saved, text_of}
 
 -- the text of session 3 at timestamp 2000
-third_as_text : text_of (record { session = 3; timestamp = 2000 }) ≡ codes "tb-cdc 1 3 2000\n"
+third_as_text : text_of (saved 3 2000) ≡ codes "tb-cdc 2 3 2000 0\n"
 unfolding digits
 third_as_text = refl
+
+-- the text of the first version, which is still read
+third_as_first_text : first_text_of (saved 3 2000) ≡ codes "tb-cdc 1 3 2000\n"
+unfolding digits
+third_as_first_text = refl
+
+-- the text of session 4 at timestamp 2001 of a publisher that began after 2000
+late_as_text : text_of (record { session = 4; timestamp = 2001; start = 2000 }) ≡ codes "tb-cdc 2 4 2001 2000\n"
+unfolding digits
+late_as_text = refl
 
 -- a store that holds nothing, and fails at its second call but keeps the new record then
 abbrev planned : Memory
@@ -24,8 +34,7 @@ second_call_fails = refl
 
 -- where that call is a save, it fails and the new record is held all the same
 failing_save_keeps_the_new_record :
-    (after_save (called planned) (record { session = 1; timestamp = 0 })).held
-    ≡ Some (record { session = 1; timestamp = 0 })
+    (after_save (called planned) (saved 1 0)).held ≡ Some (saved 1 0)
 failing_save_keeps_the_new_record = refl
 
 -- the failure is counted

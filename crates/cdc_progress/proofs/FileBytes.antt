@@ -1,6 +1,6 @@
 -- What was read of a file, piece by piece, and what its bytes say, where as many were read as a record can have, and
 -- one more.
-use Rattle.std.proofs.Common.{◌≡◌, ℕ, ◌+◌, ◌<◌, ◌≤◌, List, [], ◌∷◌, ◌++◌, Option, Some, None, length, take, drop, sym, ap, ◌∙◌, le_refl, drop_at, length-take-le, arith, length-append}
+use Rattle.std.proofs.Common.{◌≡◌, ℕ, ◌+◌, ◌<◌, ◌≤◌, List, [], ◌∷◌, ◌++◌, Option, Some, None, length, take, drop, sym, ap, ◌∙◌, subst, inl, inr, le_refl, drop_at, length-take-le, arith, length-append}
 use Rattle.std.specs.Prelude.{IfSome, codes, decimal, Err}
 use Rattle.std.specs.Io.KnownBytes.{Consumes, IsAtEnd}
 use Rattle.std.proofs.lemmas.Fmt.{length-decimal-le}
@@ -8,7 +8,7 @@ use Rattle.std.proofs.lemmas.List.{append-nil}
 use Rattle.std.proofs.lemmas.Slice.{take-put_mid_below}
 use borrow.Rule.Slice.PartMut.{post_of, put_mid}
 use lib.Seq.{take-add, take-append-le}
-use Rattle.cdc_progress.specs.Records.{Fits, Saved, numbers_text, text_of}
+use Rattle.cdc_progress.specs.Records.{Fits, IsTextOf, Saved, first_text_of, numbers_text, text_of}
 use Rattle.cdc_progress.specs.Stores.{ReadsAs}
 use Rattle.cdc_progress.specs.declared.errors.StoreError.TheVariants.{BadRecord}
 
@@ -22,8 +22,25 @@ filled_more a k n xs ys within fits =
     ∙ ap (λ l. take a xs ++ l) (take-append-le n ys (post_of a k xs) fits)
 
 -- a record's text is short
-text_is_short : (saved : Saved) → Fits saved → length (text_of saved) ≤ 128
-text_is_short saved fits =
+line_is_short : (saved : Saved) → Fits saved → length (text_of saved) ≤ 128
+line_is_short saved fits =
+    omega (
+      arith,
+      length-append (codes "tb-cdc 2 ")
+          ((decimal saved.session ++ 32 ∷ numbers_text saved.timestamp saved.start) ++ codes "\n"),
+      length-append (decimal saved.session ++ 32 ∷ numbers_text saved.timestamp saved.start) (codes "\n"),
+      length-append (decimal saved.session) (32 ∷ numbers_text saved.timestamp saved.start),
+      length-append (decimal saved.timestamp) (32 ∷ decimal saved.start),
+      length-decimal-le 20 saved.session (omega arith) (omega (arith, fits.session)) fits.session,
+      length-decimal-le 20 saved.timestamp (omega arith) (omega (arith, fits.timestamp))
+          (omega (arith, fits.timestamp)),
+      length-decimal-le 20 saved.start (omega arith) (omega (arith, fits.timestamp, fits.start))
+          (omega (arith, fits.timestamp, fits.start)),
+    )
+
+-- and so is that of the first version
+first_line_is_short : (saved : Saved) → Fits saved → length (first_text_of saved) ≤ 128
+first_line_is_short saved fits =
     omega (
       arith,
       length-append (codes "tb-cdc 1 ") (numbers_text saved.session saved.timestamp ++ codes "\n"),
@@ -34,30 +51,35 @@ text_is_short saved fits =
           (omega (arith, fits.timestamp)),
     )
 
+-- so whatever says a record is short
+text_is_short : (saved : Saved) (bytes : List ℕ) → Fits saved → IsTextOf saved bytes → length bytes ≤ 128
+text_is_short saved bytes fits (inl is) = omega (arith, ap length is, line_is_short saved fits)
+text_is_short saved bytes fits (inr (none, is)) = omega (arith, ap length is, first_line_is_short saved fits)
+
 -- nothing behind it
 with_none_behind : (xs rest : List ℕ) → rest ≡ [] → xs ++ rest ≡ xs
 with_none_behind xs rest none = ap (λ ys. xs ++ ys) none ∙ append-nil xs
 
 -- the bytes that were read are a record's text: so they are all, since it is short
-pub record_read : (old new : Option (List ℕ)) (xs : List ℕ) (saved : Saved) → Fits saved → xs ≡ text_of saved
-    → Consumes old new xs → (length xs < 129 → IsAtEnd new) → IfSome old (λ bytes. bytes ≡ text_of saved)
+pub record_read : (old new : Option (List ℕ)) (xs : List ℕ) (saved : Saved) → Fits saved → IsTextOf saved xs
+    → Consumes old new xs → (length xs < 129 → IsAtEnd new) → IfSome old (λ bytes. IsTextOf saved bytes)
 record_read None new xs saved fits is consumed whole = tt
 record_read (Some bytes) None xs saved fits is consumed whole = absurd consumed
 record_read (Some bytes) (Some rest) xs saved fits is consumed whole =
-    consumed ∙ with_none_behind xs rest (whole (omega (arith, ap length is, text_is_short saved fits))) ∙ is
+    subst (IsTextOf saved)
+    (sym (consumed ∙ with_none_behind xs rest (whole (omega (arith, text_is_short saved xs fits is))))) is
 
 -- they are none: so all bytes are none, be they these or more than a record has
 pub none_read : (old new : Option (List ℕ)) (xs : List ℕ)
-    → ((saved : Saved) → Fits saved → xs ≡ text_of saved → ⊥)
+    → ((saved : Saved) → Fits saved → IsTextOf saved xs → ⊥)
     → Consumes old new xs → (length xs < 129 → IsAtEnd new) → IfSome old (λ bytes. ReadsAs bytes (Err BadRecord))
 none_read None new xs isnt consumed whole = tt
 none_read (Some bytes) None xs isnt consumed whole = absurd consumed
 none_read (Some bytes) (Some rest) xs isnt consumed whole = λ saved fits is.
     isnt saved fits
-    (sym (with_none_behind xs rest (whole (omega (
+    (subst (IsTextOf saved) (consumed ∙ with_none_behind xs rest (whole (omega (
       arith,
       length-append xs rest,
       ap length consumed,
-      ap length is,
-      text_is_short saved fits,
-    )))) ∙ sym consumed ∙ is)
+      text_is_short saved bytes fits is,
+    )))) is)

@@ -80,11 +80,20 @@ same_numbers m n m' n' m_fits n_fits m'_fits n'_fits same =
     (decimal_has_no_space m' m'_fits) same in
     (decimal_same m m' m_fits m'_fits parts.0, decimal_same n n' n_fits n'_fits parts.1)
 
+-- the same of a text of three
+pub same_three : (m n k m' n' k' : ℕ) → m < 2 ^ 64 → n < 2 ^ 64 → k < 2 ^ 64 → m' < 2 ^ 64 → n' < 2 ^ 64 → k' < 2 ^ 64
+    → decimal m ++ 32 ∷ numbers_text n k ≡ decimal m' ++ 32 ∷ numbers_text n' k' → (m ≡ m') × (n ≡ n') × (k ≡ k')
+same_three m n k m' n' k' m_fits n_fits k_fits m'_fits n'_fits k'_fits same =
+    let parts = same_parts (decimal m) (numbers_text n k) (decimal m') (numbers_text n' k')
+    (decimal_has_no_space m m_fits) (decimal_has_no_space m' m'_fits) same in
+    let rest = same_numbers n k n' k' n_fits k_fits n'_fits k'_fits parts.1 in
+    (decimal_same m m' m_fits m'_fits parts.0, rest.0, rest.1)
+
 -- the middle of a record's text, where the head is taken off
-pub middle_of : (bytes after : List ℕ) (r : Option (Bor (List ℕ))) → bytes ≡ codes "tb-cdc 1 " ++ after
+pub middle_of : (bytes text after : List ℕ) (r : Option (Bor (List ℕ))) → bytes ≡ text ++ after
     → MatchOption r ((front : List ℕ) → after ≢ front ++ codes "\n") (λ x. after ≡ x.now ++ codes "\n")
-    → MatchOption r ((middle : List ℕ) → bytes ≢ codes "tb-cdc 1 " ++ (middle ++ codes "\n"))
-    (λ x. bytes ≡ codes "tb-cdc 1 " ++ (x.now ++ codes "\n"))
-middle_of bytes after None head none =
-    λ middle same. none middle (append_cancel_left (codes "tb-cdc 1 ") _ _ (sym head ∙ same))
-middle_of bytes after (Some x) head some = head ∙ ap (λ text. codes "tb-cdc 1 " ++ text) some
+    → MatchOption r ((middle : List ℕ) → bytes ≢ text ++ (middle ++ codes "\n"))
+    (λ x. bytes ≡ text ++ (x.now ++ codes "\n"))
+middle_of bytes text after None front none =
+    λ middle same. none middle (append_cancel_left text _ _ (sym front ∙ same))
+middle_of bytes text after (Some x) front some = front ∙ ap (λ rest. text ++ rest) some

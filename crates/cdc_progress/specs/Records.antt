@@ -1,21 +1,37 @@
 -- What is saved of a publisher's way, and the text of it.
-use Rattle.std.specs.Prelude.{ℕ, ◌<◌, ◌≤◌, ◌^◌, List, ◌∷◌, ◌++◌, codes, decimal}
+use Rattle.std.specs.Prelude.{◌≡◌, ◌⊎◌, ℕ, ◌<◌, ◌≤◌, ◌^◌, List, ◌∷◌, ◌++◌, codes, decimal}
 use Rattle.cdc_types.specs.declared.bounds.TheConstants.Limits.{TIMESTAMP}
 
--- the number of the last session, and the timestamp up to which every event is confirmed
+-- the number of the last session; the timestamp up to which every event after the start is confirmed; and the start, the
+-- moment after which the first session began: a publisher never tells what came up to it
 pub record Saved : Type 0 where
   pub session : ℕ
   pub timestamp : ℕ
+  pub start : ℕ
 
--- the numbers fit: 64 bits, and the greatest timestamp
+-- what is saved of a publisher that began at the very start
+abbrev pub saved : ℕ → ℕ → Saved
+saved session timestamp = record { session = session; timestamp = timestamp; start = 0 }
+
+-- the numbers fit: 64 bits, and the greatest timestamp; and the start is no later than the timestamp
 pub record Fits (saved : Saved) : Type 0 where
   pub session : saved.session < 2 ^ 64
   pub timestamp : saved.timestamp ≤ TIMESTAMP
+  pub start : saved.start ≤ saved.timestamp
 
 -- two numbers with a space between them
 abbrev pub numbers_text : ℕ → ℕ → List ℕ
-numbers_text session timestamp = decimal session ++ 32 ∷ decimal timestamp
+numbers_text first second = decimal first ++ 32 ∷ decimal second
 
--- the line of a record: what it is, its version, the session and the timestamp
+-- the line of a record: what it is, its version, the session, the timestamp and the start
 abbrev pub text_of : Saved → List ℕ
-text_of saved = codes "tb-cdc 1 " ++ (numbers_text saved.session saved.timestamp ++ codes "\n")
+text_of saved =
+    codes "tb-cdc 2 " ++ ((decimal saved.session ++ 32 ∷ numbers_text saved.timestamp saved.start) ++ codes "\n")
+
+-- the line of the first version, which knew of no start
+abbrev pub first_text_of : Saved → List ℕ
+first_text_of saved = codes "tb-cdc 1 " ++ (numbers_text saved.session saved.timestamp ++ codes "\n")
+
+-- these bytes say the record: in its own line, or where its start is 0 in that of the first version
+abbrev pub IsTextOf : Saved → List ℕ → Type 0
+IsTextOf saved bytes = (bytes ≡ text_of saved) ⊎ ((saved.start ≡ 0) × (bytes ≡ first_text_of saved))

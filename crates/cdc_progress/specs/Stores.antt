@@ -1,7 +1,7 @@
 -- What a store may answer.
 use Rattle.std.specs.Prelude.{◌≡◌, ◌⊎◌, ℕ, ◌<◌, Bool, false, IsTrue, Option, Result, Ok, Err, List}
 use Rattle.cdc_types.specs.Widths.{max_64}
-use Rattle.cdc_progress.specs.Records.{Fits, Saved, text_of}
+use Rattle.cdc_progress.specs.Records.{Fits, IsTextOf, Saved}
 use Rattle.cdc_progress.specs.declared.errors.StoreError.{StoreError}
 use Rattle.cdc_progress.specs.declared.errors.StoreError.TheVariants.{ReadFault, WriteFault, BadRecord, OutOfMemory}
 
@@ -56,8 +56,8 @@ IsLoadFault error = (error ≡ ReadFault) ⊎ (error ≡ BadRecord)
 
 -- all bytes of a file are read as this: as the record that they are the text of, or as no record, where they are none
 abbrev pub ReadsAs : List ℕ → Result Saved StoreError → Type 0
-ReadsAs bytes (Ok saved) = bytes ≡ text_of saved
-ReadsAs bytes (Err BadRecord) = (saved : Saved) → Fits saved → bytes ≡ text_of saved → ⊥
+ReadsAs bytes (Ok saved) = IsTextOf saved bytes
+ReadsAs bytes (Err BadRecord) = (saved : Saved) → Fits saved → IsTextOf saved bytes → ⊥
 ReadsAs bytes (Err ReadFault) = Unit {0}
 ReadsAs bytes (Err WriteFault) = Unit {0}
 ReadsAs bytes (Err OutOfMemory) = Unit {0}

@@ -5,12 +5,14 @@ ghost use Rattle.std.specs.Prelude.{◌≡◌, ◌≤◌};
 use cdc_types::Limits;
 use std::marker::Model;
 
-/// How far a publisher has come: the number of its last session, and the timestamp up to which every event is
-/// confirmed (TigerBeetle, Change Data Capture, progress tracking). A clause sees both numbers.
+/// How far a publisher has come: the number of its last session, the timestamp up to which every event is confirmed
+/// (TigerBeetle, Change Data Capture, progress tracking), and its start, the moment after which its first session began,
+/// which is no later. A clause sees the three numbers.
 #[derive(Clone, Copy, Debug, PartialEq, Eq)]
 pub struct Progress {
     session: u64,
     timestamp: u64,
+    start: u64,
 }
 
 impl Model for Progress {
@@ -23,23 +25,34 @@ impl Model for Progress {
     ghost view = { λ progress. record {
       session = progress.session;
       timestamp = progress.timestamp;
+      start = progress.start;
     } };
 
-    ghost invariant = { λ progress. progress.timestamp ≤ TIMESTAMP };
+    ghost invariant = { λ progress. (progress.start ≤ progress.timestamp) × (progress.timestamp ≤ TIMESTAMP) };
 
-    ghost inverse = { λ saved. record { session = saved.session; timestamp = saved.timestamp } };
+    ghost inverse = { λ saved. record {
+      session = saved.session;
+      timestamp = saved.timestamp;
+      start = saved.start;
+    } };
 }
 
 impl Progress {
     /// The greatest timestamp, in nanoseconds: 2^63-1.
     pub const MAX_TIMESTAMP: u64 = Limits::TIMESTAMP;
 
-    /// The progress of a session, with a timestamp in nanoseconds, at most `MAX_TIMESTAMP`.
-    pub fn new(session: u64, timestamp: u64) -> Progress
-        requires { timestamp ≤ Limits.TIMESTAMP }
-        ensures { result ≡ record { session = session; timestamp = timestamp } }
+    /// The progress of a session: all is confirmed up to the timestamp, which is at most `MAX_TIMESTAMP`, and the first
+    /// session began after the start, which is no later; both in nanoseconds.
+    pub fn new(session: u64, timestamp: u64, start: u64) -> Progress
+        requires order { start ≤ timestamp }
+        requires fits { timestamp ≤ Limits.TIMESTAMP }
+        ensures { result ≡ record { session = session; timestamp = timestamp; start = start } }
     {
-        Progress { session, timestamp }
+        Progress {
+            session,
+            timestamp,
+            start,
+        }
     }
 
     /// The number of the last session.
@@ -49,11 +62,19 @@ impl Progress {
         self.session
     }
 
-    /// The timestamp up to which every event is confirmed, in nanoseconds.
+    /// The timestamp up to which every event after the start is confirmed, in nanoseconds.
     pub fn timestamp(self) -> u64
         ensures value { result ≡ self.timestamp }
         ensures fits { self.timestamp ≤ Limits.TIMESTAMP }
     {
         self.timestamp
+    }
+
+    /// The moment after which the first session began, in nanoseconds: no event up to it is told.
+    pub fn start(self) -> u64
+        ensures value { result ≡ self.start }
+        ensures order { self.start ≤ self.timestamp }
+    {
+        self.start
     }
 }

@@ -1,14 +1,17 @@
 //! The text of a record of progress.
 
 ghost use Rattle.std.specs.Prelude.{◌≡◌, ◌==◌, ◌<◌, ◌^◌, ◌++◌, ◌∷◌, ℕ, List, All, IfOk, IfSome, MatchOption, codes, decimal, false, string_bytes};
-ghost use Rattle.cdc_progress.specs.Records.{Saved, Fits, numbers_text, text_of};
+ghost use Rattle.cdc_progress.specs.Records.{Saved, Fits, IsTextOf, first_text_of, numbers_text, text_of};
 
 use crate::progress::Progress;
 use itoa::Buffer;
 use std::alloc::{AllocError, Global};
 
 // What stands before the numbers: the name of the format and its version.
-const HEAD: &[u8] = b"tb-cdc 1 ";
+const HEAD: &[u8] = b"tb-cdc 2 ";
+
+// The same of the first version.
+const FIRST_HEAD: &[u8] = b"tb-cdc 1 ";
 
 fn push_number(text: &mut String, number: u64) -> Result<(), AllocError>
     ensures { IfOk result (λ _. string_bytes text.new ≡ string_bytes text.old ++ decimal number) }
@@ -16,15 +19,17 @@ fn push_number(text: &mut String, number: u64) -> Result<(), AllocError>
     text.push_str(Buffer::new().format(number))
 }
 
-/// The text of a record: `tb-cdc 1 SESSION TIMESTAMP` and a line feed, in decimal digits without leading zeros.
+/// The text of a record: `tb-cdc 2 SESSION TIMESTAMP START` and a line feed, in decimal digits without leading zeros.
 pub fn print(alloc: Global, progress: Progress) -> Result<String, AllocError>
     ensures { IfOk result (λ text. string_bytes text ≡ text_of progress) }
 {
     let mut text = String::new(alloc);
-    text.push_str("tb-cdc 1 ")?;
+    text.push_str("tb-cdc 2 ")?;
     push_number(&mut text, progress.session())?;
     text.push_str(" ")?;
     push_number(&mut text, progress.timestamp())?;
+    text.push_str(" ")?;
+    push_number(&mut text, progress.start())?;
     text.push_str("\n")?;
     Ok(text)
 }
@@ -57,37 +62,81 @@ fn split_at_space(bytes: &[u8]) -> Option<(&[u8], &[u8])>
     Some((&bytes[..space], &bytes[space + 1..]))
 }
 
-// The two numbers of a record.
+// Two numbers with a space between them.
 fn numbers_in(bytes: &[u8]) -> Option<(u64, u64)>
     ensures { MatchOption result
-        ((session timestamp : ℕ) → session < 2 ^ 64 → timestamp < 2 ^ 64
-        → ¬ (bytes.now ≡ numbers_text session timestamp))
+        ((first second : ℕ) → first < 2 ^ 64 → second < 2 ^ 64
+        → ¬ (bytes.now ≡ numbers_text first second))
         (λ found. (found.0 < 2 ^ 64) × (found.1 < 2 ^ 64)
         × (bytes.now ≡ numbers_text found.0 found.1)) }
 {
-    let (session, timestamp) = split_at_space(bytes)?;
-    Some((number_in(session)?, number_in(timestamp)?))
+    let (first, second) = split_at_space(bytes)?;
+    Some((number_in(first)?, number_in(second)?))
 }
 
-// What stands between the head of a record and its line feed.
-fn inner(bytes: &[u8]) -> Option<&[u8]>
+// Three numbers with a space between each two.
+fn three_in(bytes: &[u8]) -> Option<(u64, u64, u64)>
     ensures { MatchOption result
-        ((middle : List ℕ) → ¬ (bytes.now ≡ codes "tb-cdc 1 " ++ (middle ++ codes "\n")))
-        (λ middle. bytes.now ≡ codes "tb-cdc 1 " ++ (middle.now ++ codes "\n")) }
+        ((first second third : ℕ) → first < 2 ^ 64 → second < 2 ^ 64 → third < 2 ^ 64
+        → ¬ (bytes.now ≡ decimal first ++ 32 ∷ numbers_text second third))
+        (λ found. (found.0 < 2 ^ 64) × (found.1 < 2 ^ 64) × (found.2 < 2 ^ 64)
+        × (bytes.now ≡ decimal found.0 ++ 32 ∷ numbers_text found.1 found.2)) }
 {
-    bytes.strip_prefix(HEAD)?.strip_suffix(b"\n")
+    let (first, rest) = split_at_space(bytes)?;
+    let (second, third) = numbers_in(rest)?;
+    Some((number_in(first)?, second, third))
 }
 
-/// The record that these bytes are the text of, to the last byte; any other bytes are none.
-pub fn parse(bytes: &[u8]) -> Option<Progress>
+// What stands between this head and the line feed behind it.
+fn inner<'a>(bytes: &'a [u8], head: &[u8]) -> Option<&'a [u8]>
+    ensures { MatchOption result
+        ((middle : List ℕ) → ¬ (bytes.now ≡ head.now ++ (middle ++ codes "\n")))
+        (λ middle. bytes.now ≡ head.now ++ (middle.now ++ codes "\n")) }
+{
+    bytes.strip_prefix(head)?.strip_suffix(b"\n")
+}
+
+// The record that these bytes are the line of.
+fn line_in(bytes: &[u8]) -> Option<Progress>
     ensures record { MatchOption result
         ((saved : Saved) → Fits saved → ¬ (bytes.now ≡ text_of saved))
         (λ saved. bytes.now ≡ text_of saved) }
     ensures fits { IfSome result Fits }
 {
-    let (session, timestamp) = numbers_in(inner(bytes)?)?;
+    let (session, timestamp, start) = three_in(inner(bytes, HEAD)?)?;
     if timestamp > Progress::MAX_TIMESTAMP {
         return None;
     }
-    Some(Progress::new(session, timestamp))
+    if start > timestamp {
+        return None;
+    }
+    Some(Progress::new(session, timestamp, start))
+}
+
+// The record that these bytes are the line of in the first version: its start is 0.
+fn first_line_in(bytes: &[u8]) -> Option<Progress>
+    ensures record { MatchOption result
+        ((saved : Saved) → Fits saved → saved.start ≡ 0 → ¬ (bytes.now ≡ first_text_of saved))
+        (λ saved. (saved.start ≡ 0) × (bytes.now ≡ first_text_of saved)) }
+    ensures fits { IfSome result Fits }
+{
+    let (session, timestamp) = numbers_in(inner(bytes, FIRST_HEAD)?)?;
+    if timestamp > Progress::MAX_TIMESTAMP {
+        return None;
+    }
+    Some(Progress::new(session, timestamp, 0))
+}
+
+/// The record that these bytes are the text of, to the last byte, be it of this version or of the first one, which has
+/// no start and is read as one of 0; any other bytes are none.
+pub fn parse(bytes: &[u8]) -> Option<Progress>
+    ensures record { MatchOption result
+        ((saved : Saved) → Fits saved → ¬ (IsTextOf saved bytes.now))
+        (λ saved. IsTextOf saved bytes.now) }
+    ensures fits { IfSome result Fits }
+{
+    match line_in(bytes) {
+        Some(progress) => Some(progress),
+        None => first_line_in(bytes),
+    }
 }

@@ -9,7 +9,7 @@ use Rattle.cdc_types.proofs.Rising.{last_timestamp_from-slice_get}
 use Rattle.cdc_publisher.specs.declared.session.Unconfirmed.{Unconfirmed}
 use Rattle.cdc_publisher.specs.Kept.{Kept, poll_of, without_tag}
 use Rattle.cdc_publisher.specs.Offers.{IsOffered}
-use Rattle.cdc_publisher.specs.Stands.{HasBounds}
+use Rattle.cdc_publisher.specs.Stands.{HasBounds, IsFrom}
 use Rattle.cdc_publisher.specs.Turns.{tagged}
 use Rattle.cdc_publisher.proofs.Moves.{is_free}
 use Rattle.cdc_publisher.proofs.Rings.{length-without_tag}
@@ -30,11 +30,21 @@ rises_by moment (event ∷ events) rising =
     omega arith
 
 -- and its last moment is the first one or an event's
-last_fits : (moment : ℕ) (events : List Event) → moment ≤ TIMESTAMP
-    → All (λ event. event.timestamp ≤ TIMESTAMP) events → last_timestamp_from moment events ≤ TIMESTAMP
-last_fits moment [] fits all = fits
-last_fits moment (event ∷ events) fits all =
-    last_fits event.timestamp events (all 0 event (omega arith)) (λ k d lt. all (suc k) d (omega arith))
+last_fits : (start moment : ℕ) (events : List Event) → IsFrom start moment
+    → All (λ event. IsFrom start event.timestamp) events → IsFrom start (last_timestamp_from moment events)
+last_fits start moment [] fits all = fits
+last_fits start moment (event ∷ events) fits all =
+    last_fits start event.timestamp events (all 0 event (omega arith)) (λ k d lt. all (suc k) d (omega arith))
+
+-- events that rise from a moment after the start are after the start
+from_start : (start moment : ℕ) (events : List Event) → start ≤ moment → RiseFrom moment events
+    → All (λ event. event.timestamp ≤ TIMESTAMP) events → All (λ event. IsFrom start event.timestamp) events
+from_start start moment [] late rising fits k d lt = absurd (omega (arith, lt))
+from_start start moment (event ∷ events) late rising fits zero d lt =
+    (omega (arith, late, rising.0), fits 0 event (omega arith))
+from_start start moment (event ∷ events) late rising fits (suc k) d lt =
+    from_start start event.timestamp events (omega (arith, late, rising.0)) rising.1
+    (λ i x low. fits (suc i) x (omega (arith, low))) k d (omega (arith, lt))
 
 -- where events are offered
 pub offered_bounds : (kept : Kept) (events : List Event) (complete : Bool) → HasBounds kept
@@ -52,11 +62,13 @@ offered_bounds kept events complete bounds offer =
     let room = bounds.room in
     let long = length-append kept.unsent events in
     let further = rises_by kept.last events free.reply.rising in
+    let late : All (λ event. IsFrom kept.start event.timestamp) events =
+    from_start kept.start kept.last events bounds.last.0 free.reply.rising free.reply.fits in
     record {
       base = bounds.base;
-      last = last_fits kept.last events bounds.last free.reply.fits;
+      last = last_fits kept.start kept.last events bounds.last late;
       last_sent = bounds.last_sent;
-      unsent = All-append (λ event. event.timestamp ≤ TIMESTAMP) kept.unsent events bounds.unsent free.reply.fits;
+      unsent = All-append (λ event. IsFrom kept.start event.timestamp) kept.unsent events bounds.unsent late;
       before = bounds.before;
       sent = omega arith;
       connected = omega arith;
@@ -75,7 +87,7 @@ confirmed_bounds kept tag bounds =
       last = bounds.last;
       last_sent = bounds.last_sent;
       unsent = bounds.unsent;
-      before = All-filter (λ entry. not (entry.tag == tag)) (λ entry. entry.before ≤ TIMESTAMP) kept.unconfirmed
+      before = All-filter (λ entry. not (entry.tag == tag)) (λ entry. IsFrom kept.start entry.before) kept.unconfirmed
           bounds.before;
       sent = bounds.sent;
       connected = bounds.connected;
@@ -90,8 +102,8 @@ pub published_bounds : (kept : Kept) (event : Event) (events : List Event) → H
 published_bounds kept event events bounds is =
     let long : length kept.unsent ≡ suc (length events) = ap length is in
     let entry : Unconfirmed = record { tag = kept.sent; before = kept.last_sent } in
-    let all : All (λ event. event.timestamp ≤ TIMESTAMP) (event ∷ events) =
-    subst (λ (es : List Event). All (λ event. event.timestamp ≤ TIMESTAMP) es) is bounds.unsent in
+    let all : All (λ event. IsFrom kept.start event.timestamp) (event ∷ events) =
+    subst (λ (es : List Event). All (λ event. IsFrom kept.start event.timestamp) es) is bounds.unsent in
     let sent = bounds.sent in
     let room = bounds.room in
     let connected = bounds.connected in
@@ -100,7 +112,7 @@ published_bounds kept event events bounds is =
       last = bounds.last;
       last_sent = all 0 event (omega arith);
       unsent = λ k d lt. all (suc k) d (omega arith);
-      before = All-append (λ entry. entry.before ≤ TIMESTAMP) kept.unconfirmed
+      before = All-append (λ entry. IsFrom kept.start entry.before) kept.unconfirmed
           (record { tag = kept.sent; before = kept.last_sent } ∷ []) bounds.before (λ k d lt. one k d lt);
       sent = omega arith;
       connected = omega arith;
@@ -109,7 +121,7 @@ published_bounds kept event events bounds is =
     }
   where
     one : (k : ℕ) (d : Unconfirmed) → k < 1
-        → (get_or (record { tag = kept.sent; before = kept.last_sent } ∷ []) k d).before ≤ TIMESTAMP
+        → IsFrom kept.start (get_or (record { tag = kept.sent; before = kept.last_sent } ∷ []) k d).before
     one zero d lt = bounds.last_sent
     one (suc k) d lt = absurd (omega arith)
 

@@ -1,13 +1,14 @@
 -- The definitions at work: a course with room for three events, whose confirms come out of order.
-use Rattle.std.specs.Prelude.{◌≡◌, ℕ, true, false, [], ◌∷◌, Some, None}
+use Rattle.std.specs.Prelude.{◌≡◌, ℕ, true, false, [], ◌∷◌, Some, None, Ok, Err}
 use Rattle.std.proofs.Common.{refl}
 use Rattle.cdc_types.specs.declared.events.Event.{Event}
 use Rattle.cdc_types.specs.declared.events.EventAccount.{EventAccount}
 use Rattle.cdc_types.specs.declared.events.EventKind.TheVariants.{SinglePhase}
 use Rattle.cdc_message.specs.declared.items.Item.TheVariants.{Event as OfEvent, EndMark}
 use Rattle.cdc_message.specs.declared.packets.Packet.TheVariants.{Connect, Publish}
-use Rattle.cdc_progress.specs.Records.{Saved}
-use Rattle.cdc_publisher.specs.Courses.{Course, begun, confirmed_timestamp, is_done, new_course, next_packet, next_poll, takes_confirm, unconfirmed, with_confirm, with_offer, with_sent}
+use Rattle.cdc_progress.specs.Records.{saved}
+use Rattle.cdc_publisher.specs.declared.errors.StartError.TheVariants.{SessionsExhausted, StartNotAllowed}
+use Rattle.cdc_publisher.specs.Courses.{Course, begun, confirmed_timestamp, is_done, new_course, next_packet, next_poll, progress_of, takes_confirm, unconfirmed, with_confirm, with_offer, with_sent}
 
 -- an account as an event shows it
 abbrev side : ℕ → EventAccount
@@ -47,17 +48,29 @@ event timestamp = record {
   credit_account = side 2;
 }
 
--- what is held of this session, confirmed up to this timestamp
-abbrev saved : ℕ → ℕ → Saved
-saved session timestamp = record { session = session; timestamp = timestamp }
-
--- the session after the sixth, and after the greatest
-next_number : begun (Some (saved 6 2000)) ≡ Some (saved 7 2000)
+-- the session after the sixth
+next_number : begun (Some (saved 6 2000)) None ≡ Ok (saved 7 2000)
 next_number = refl
 
 -- after the greatest number no session begins
-no_next_number : begun (Some (saved 18446744073709551615 2000)) ≡ None
+no_next_number : begun (Some (saved 18446744073709551615 2000)) None ≡ Err SessionsExhausted
 no_next_number = refl
+
+-- where nothing is held the first session begins at the very start
+first_number : begun None None ≡ Ok (saved 1 0)
+first_number = refl
+
+-- or after the moment that is asked for, up to which all counts as confirmed
+late_start : begun None (Some 2000) ≡ Ok (record { session = 1; timestamp = 2000; start = 2000 })
+late_start = refl
+
+-- once progress is held none may be asked for, not even the one that there was
+no_other_start : begun (Some (record { session = 1; timestamp = 2000; start = 2000 })) (Some 2000) ≡ Err StartNotAllowed
+no_other_start = refl
+
+-- and this is found before the want of a number
+no_start_comes_first : begun (Some (saved 18446744073709551615 2000)) (Some 5) ≡ Err StartNotAllowed
+no_start_comes_first = refl
 
 -- one more packet is sent
 abbrev sent_one : Course → Course
@@ -130,3 +143,12 @@ the_end_is_sent_once = refl
 -- the session is done once the end mark is confirmed
 done_when_it_is_confirmed : is_done (with_confirm 7 3 (sent_one both_confirmed)) ≡ true
 done_when_it_is_confirmed = refl
+
+-- a late start is kept by every save
+abbrev late : Course
+late = new_course (record { session = 1; timestamp = 2000; start = 2000 }) 3
+
+-- as it stands before anything is confirmed, and once event 3000 is
+late_saves : progress_of (with_confirm 1 1 (sent_one (sent_one (with_offer (event 3000 ∷ []) false late))))
+    ≡ record { session = 1; timestamp = 3000; start = 2000 }
+late_saves = refl

@@ -39,6 +39,7 @@ connect_stands kept course stands none =
     let same : course.sent + 1 - 1 ≡ course.sent - 1 = omega arith in
     record {
       number = stands.number;
+      start = stands.start;
       base = stands.base;
       window = stands.window;
       sent = omega arith;
@@ -92,6 +93,7 @@ tag_stands kept course unsent last_sent ended stands connected left last count e
     let before : course.sent - 1 ≡ 1 + (course.sent - 1) - 1 = omega arith in
     record {
       number = stands.number;
+      start = stands.start;
       base = stands.base;
       window = stands.window;
       sent = omega arith;
@@ -231,6 +233,7 @@ settle_stands kept course tag stands was_sent =
     let after : Course = record course { confirmed = course.confirmed ++ tag ∷ [] } in
     record {
       number = stands.number;
+      start = stands.start;
       base = stands.base;
       window = stands.window;
       sent = stands.sent;
@@ -354,6 +357,7 @@ offered_stands kept course events complete stands offer =
     let all : tags_sent course ≤ length course.offered = omega arith in
     record {
       number = stands.number;
+      start = stands.start;
       base = stands.base;
       window = stands.window;
       sent = stands.sent;

@@ -1,6 +1,6 @@
 -- The course of a session: what it was offered, what it has sent of that, and what was confirmed (TigerBeetle, Change
 -- Data Capture; RabbitMQ, Publisher Confirms, for tags).
-use Rattle.std.specs.Prelude.{ℕ, zero, suc, ◌+◌, ◌-◌, ◌==◌, ◌&&◌, not, nat_lt, nat_le, Bool, true, false, Option, Some, None, List, [], ◌∷◌, ◌++◌, length, filter, slice_get, if◌then◌else◌}
+use Rattle.std.specs.Prelude.{ℕ, zero, suc, ◌+◌, ◌-◌, ◌==◌, ◌&&◌, not, nat_lt, nat_le, Bool, true, false, Option, Some, None, Result, Ok, Err, List, [], ◌∷◌, ◌++◌, length, filter, slice_get, unwrap_or, if◌then◌else◌}
 use Rattle.std.specs.List.{list_all, list_any}
 use Rattle.cdc_types.specs.declared.bounds.TheConstants.Limits.{SESSION}
 use Rattle.cdc_types.specs.declared.events.Event.{Event}
@@ -11,12 +11,16 @@ use Rattle.cdc_message.specs.declared.packets.Packet.{Packet}
 use Rattle.cdc_message.specs.declared.packets.Packet.TheVariants.{Connect, Publish}
 use Rattle.cdc_types.specs.Timestamps.{last_timestamp_from}
 use Rattle.cdc_progress.specs.Records.{Saved}
+use Rattle.cdc_publisher.specs.declared.errors.StartError.{StartError}
+use Rattle.cdc_publisher.specs.declared.errors.StartError.TheVariants.{SessionsExhausted, StartNotAllowed}
 use Rattle.cdc_publisher.specs.declared.session.Poll.{Poll}
 
--- a session: its number; the timestamp that it begins after; for how many events it waits at a time; the events that it
--- was offered, in order; whether none follow them; how many packets it has sent; and the tags that were confirmed to it
+-- a session: its number; the start, the moment that the first session began after; the timestamp that this one begins
+-- after; for how many events it waits at a time; the events that it was offered, in order; whether none follow them; how
+-- many packets it has sent; and the tags that were confirmed to it
 pub record Course : Type 0 where
   pub number : ℕ
+  pub start : ℕ
   pub base : ℕ
   pub window : ℕ
   pub offered : List Event
@@ -28,6 +32,7 @@ pub record Course : Type 0 where
 abbrev pub new_course : Saved → ℕ → Course
 new_course saved window = record {
   number = saved.session;
+  start = saved.start;
   base = saved.timestamp;
   window = window;
   offered = [];
@@ -40,13 +45,24 @@ new_course saved window = record {
 abbrev pub last_session : ℕ
 last_session = SESSION
 
--- what is saved when a session starts where this is held: the next number, with the same timestamp; nothing where
--- there is no further number
-abbrev pub begun : Option Saved → Option Saved
-begun None = Some (record { session = 1; timestamp = 0 })
-begun (Some held) =
-    if held.session == last_session then None
-    else Some (record { session = held.session + 1; timestamp = held.timestamp })
+-- what is saved when the first session starts, after this moment, or after 0 where none is asked for: all up to there
+-- counts as confirmed
+abbrev pub first_saved : Option ℕ → Saved
+first_saved at = record { session = 1; timestamp = unwrap_or at 0; start = unwrap_or at 0 }
+
+-- what is saved when a later session starts: the next number, with the same timestamp and start; there has to be a
+-- further number
+abbrev pub next_saved : Saved → Result Saved StartError
+next_saved held =
+    if held.session == last_session then Err SessionsExhausted
+    else Ok (record held { session = held.session + 1 })
+
+-- what is saved when a session starts where this is held, and a moment to start after is asked for or not; or why none
+-- starts: a moment may be asked for only where nothing is held
+abbrev pub begun : Option Saved → Option ℕ → Result Saved StartError
+begun None at = Ok (first_saved at)
+begun (Some held) (Some moment) = Err StartNotAllowed
+begun (Some held) None = next_saved held
 
 -- the tags that were sent: the first packet has none, and the others have those from 1 on
 abbrev pub tags_sent : Course → ℕ
@@ -153,7 +169,11 @@ confirmed_timestamp course = confirmed_from course course.base 1 course.offered
 
 -- what is saved of a session
 abbrev pub progress_of : Course → Saved
-progress_of course = record { session = course.number; timestamp = confirmed_timestamp course }
+progress_of course = record {
+  session = course.number;
+  timestamp = confirmed_timestamp course;
+  start = course.start;
+}
 
 -- the end mark is confirmed
 abbrev pub is_done : Course → Bool

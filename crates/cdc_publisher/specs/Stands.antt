@@ -25,6 +25,7 @@ entry_of base offered tag = record { tag = tag; before = timestamp_after base of
 -- confirmed, and the end mark is sent once all events are
 pub record StandsFor (kept : Kept) (course : Course) : Type 0 where
   pub number : kept.number ≡ course.number
+  pub start : kept.start ≡ course.start
   pub base : kept.base ≡ course.base
   pub window : kept.window ≡ course.window
   pub sent : kept.sent ≡ course.sent
@@ -40,14 +41,18 @@ pub record StandsFor (kept : Kept) (course : Course) : Type 0 where
   pub end_waits : IsTrue kept.ended
       → IsTrue (list_all (is_confirmed course) (numbers_from 1 (length course.offered)))
 
--- what bounds the numbers that are kept: timestamps by the greatest one, packets by how far timestamps have risen, and
--- what waits by the window
+-- a timestamp isn't before the start, nor past the greatest one
+abbrev pub IsFrom : ℕ → ℕ → Type 0
+IsFrom start moment = (start ≤ moment) × (moment ≤ TIMESTAMP)
+
+-- what bounds the numbers that are kept: timestamps by the start and the greatest one, packets by how far timestamps have
+-- risen, and what waits by the window
 pub record HasBounds (kept : Kept) : Type 0 where
   pub base : kept.base ≤ TIMESTAMP
-  pub last : kept.last ≤ TIMESTAMP
-  pub last_sent : kept.last_sent ≤ TIMESTAMP
-  pub unsent : All (λ event. event.timestamp ≤ TIMESTAMP) kept.unsent
-  pub before : All (λ entry. entry.before ≤ TIMESTAMP) kept.unconfirmed
+  pub last : IsFrom kept.start kept.last
+  pub last_sent : IsFrom kept.start kept.last_sent
+  pub unsent : All (λ event. IsFrom kept.start event.timestamp) kept.unsent
+  pub before : All (λ entry. IsFrom kept.start entry.before) kept.unconfirmed
   pub sent : kept.sent + length kept.unsent ≤ kept.last + 1 + flag_count kept.ended
   pub connected : length kept.unsent ≤ kept.last
   pub room : length kept.unsent + length kept.unconfirmed ≤ kept.window

@@ -8,6 +8,7 @@ use Rattle.cdc_publisher.specs.Stands.{HasBounds}
 abbrev pub kept_of : Inside → Kept
 kept_of session = record {
   number = session.number;
+  start = session.start;
   base = session.base;
   window = session.unconfirmed.capacity;
   last = session.last;

@@ -19,6 +19,9 @@ pub enum StartError {
     /// There was no memory, here or in the store.
     #[error("out of memory")]
     OutOfMemory,
+    /// A moment to start after was asked for, though progress is saved already.
+    #[error("progress is saved, so no start may be asked for")]
+    StartNotAllowed,
 }
 
 impl From<StoreError> for StartError {
@@ -47,7 +50,7 @@ impl From<AllocError> for StartError {
 }
 
 impl StartError {
-    /// The error's number, from 1 to 3.
+    /// The error's number, from 1 to 4.
     pub fn number(self) -> u8
         ensures { result ≡ start_error_number self }
     {
@@ -55,6 +58,7 @@ impl StartError {
             StartError::Store(_) => 1,
             StartError::SessionsExhausted => 2,
             StartError::OutOfMemory => 3,
+            StartError::StartNotAllowed => 4,
         }
     }
 
@@ -66,6 +70,7 @@ impl StartError {
             StartError::Store(_) => "store",
             StartError::SessionsExhausted => "sessions_exhausted",
             StartError::OutOfMemory => "out_of_memory",
+            StartError::StartNotAllowed => "start_not_allowed",
         }
     }
 }

@@ -1,11 +1,11 @@
 //! The session itself.
 
-ghost use Rattle.std.specs.Prelude.{◌≡◌, ◌⊎◌, ◌≤◌, IsTrue, Some, Err, IfOk, IfErr, OnOk, OnErr, is_some, option_map};
+ghost use Rattle.std.specs.Prelude.{◌≡◌, ◌⊎◌, ◌≤◌, IsTrue, Some, Err, IfOk, IfErr, OnOk, OnErr, is_some, option_map, unwrap_or};
 ghost use Rattle.circular_buffer.specs.Buffer.{buffer};
 ghost use Rattle.cdc_progress.specs.Stores.{IsRisked, MayRefuseSave};
 ghost use Rattle.cdc_types.specs.Timestamps.{last_timestamp_from};
 ghost use Rattle.cdc_types.specs.Windows.{IsWindow};
-ghost use Rattle.cdc_publisher.specs.Courses.{Course, begun, confirmed_timestamp, has_event, is_done, next_packet, next_poll, progress_of, takes_confirm, with_confirm, with_offer, with_sent};
+ghost use Rattle.cdc_publisher.specs.Courses.{Course, begun, confirmed_timestamp, first_saved, has_event, is_done, next_packet, next_poll, next_saved, progress_of, takes_confirm, with_confirm, with_offer, with_sent};
 ghost use Rattle.cdc_publisher.specs.Kept.{holds_tag, poll_of, without_tag};
 ghost use Rattle.cdc_publisher.specs.Offers.{IsOffered};
 ghost use Rattle.cdc_publisher.specs.Stands.{StandsFor};
@@ -15,7 +15,7 @@ ghost use Rattle.cdc_publisher.specs.Turns.{advanced, ends, packet_of};
 use crate::errors::StartError;
 use cdc_message::{Item, Message, Packet};
 use cdc_progress::{Progress, ProgressStore, StoreError};
-use cdc_types::{Event, Limits};
+use cdc_types::{Event, Limits, Moment};
 use circular_buffer::HeapCircularBuffer;
 use std::alloc::{AllocError, Global};
 use std::marker::Model;
@@ -47,6 +47,8 @@ struct Unconfirmed {
 /// which one it is then.
 pub struct Session {
     number: u64,
+    /// The moment that the first session began after.
+    start: u64,
     base: u64,
     /// The timestamp of the event that it was offered last, or the base.
     last: u64,
@@ -66,6 +68,7 @@ impl Drop for Session {
     fn drop(self) {
         let Session {
             number: _,
+            start: _,
             base: _,
             last: _,
             last_sent: _,
@@ -118,25 +121,50 @@ fn take_out(unconfirmed: &mut HeapCircularBuffer<Unconfirmed>, tag: u64) -> bool
     taken
 }
 
-/// What is saved as a session begins: the next number, with the same timestamp; none where there is no further number.
-fn begin(held: Option<Progress>) -> Option<Progress>
-    ensures { result ≡ begun held }
+/// What is saved as the first session begins, after this moment or, where none is asked for, after 0.
+fn first_progress(at: Option<Moment>) -> Progress
+    ensures { result ≡ first_saved at }
 {
-    let Some(progress) = held else {
-        return Some(Progress::new(1, 0));
+    match at {
+        Some(moment) => Progress::new(1, moment.nanoseconds(), moment.nanoseconds()),
+        None => Progress::new(1, 0, 0),
+    }
+}
+
+/// What is saved as a later session begins: the next number, with the same timestamp and start.
+fn next_progress(held: Progress) -> Result<Progress, StartError>
+    ensures { result ≡ next_saved held }
+{
+    let Some(number) = held.session().checked_add(1) else {
+        return Err(StartError::SessionsExhausted);
     };
-    let number = progress.session().checked_add(1)?;
-    Some(Progress::new(number, progress.timestamp()))
+    Ok(Progress::new(number, held.timestamp(), held.start()))
+}
+
+/// What is saved as a session begins where this is held. A moment to start after is lawful only where nothing is.
+fn begin(held: Option<Progress>, at: Option<Moment>) -> Result<Progress, StartError>
+    ensures { result ≡ begun held at }
+{
+    match held {
+        None => Ok(first_progress(at)),
+        Some(_) if at.is_some() => Err(StartError::StartNotAllowed),
+        Some(progress) => next_progress(progress),
+    }
 }
 
 impl Session {
     /// The session after the one whose progress a store holds. It begins after the timestamp that is held, once the
     /// store has saved its number; so no later session has the same one. `window` is for how many events it may wait at
     /// a time; it makes room for these before it turns to the store.
+    ///
+    /// Where nothing is held it begins after `at`, or after 0 where that is none, and the store keeps this as the start.
+    /// Where progress is held, `at` has to be none: `StartNotAllowed`, found once the store has loaded, and before
+    /// `SessionsExhausted`; nothing is saved then.
     pub fn start<S: ProgressStore>(
         alloc: Global,
         store: &mut S,
         window: usize,
+        at: Option<Moment>,
     ) -> Result<Session, StartError>
         requires { IsWindow window }
         ensures ok { IfOk result (HasStarted (record {
@@ -145,24 +173,25 @@ impl Session {
           after = S.held store.new;
           failed_before = S.failed store.old;
           failed_after = S.failed store.new;
-        }) window) }
+        }) at window) }
         ensures err { IfErr result (MayRefuseStart (record {
           honest = S.is_honest store.old;
           before = S.held store.old;
           after = S.held store.new;
           failed_before = S.failed store.old;
           failed_after = S.failed store.new;
-        })) }
+        }) at) }
         ensures risked { IfErr result (IsStartRisked (S.risks store.old)) }
         ensures honest { S.is_honest store.new ≡ S.is_honest store.old }
         ensures same_risks { S.risks store.new ≡ S.risks store.old }
     {
         let unsent = HeapCircularBuffer::with_capacity(alloc, window)?;
         let unconfirmed = HeapCircularBuffer::with_capacity(alloc, window)?;
-        let saved = begin(store.load()?).ok_or(StartError::SessionsExhausted)?;
+        let saved = begin(store.load()?, at)?;
         store.save(saved)?;
         Ok(Session {
             number: saved.session(),
+            start: saved.start(),
             base: saved.timestamp(),
             last: saved.timestamp(),
             last_sent: saved.timestamp(),
@@ -255,6 +284,7 @@ impl Session {
         ensures confirmed { (course : Course) → StandsFor self.now course
             → result ≡ confirmed_timestamp course }
         ensures fits { result ≤ Limits.TIMESTAMP }
+        ensures order { self.now.start ≤ result }
     {
         match self.unconfirmed.front() {
             Some(first) => first.before,
@@ -262,7 +292,7 @@ impl Session {
         }
     }
 
-    /// Saves the session's number, and how far its events are confirmed.
+    /// Saves the session's number, how far its events are confirmed, and the start as it was.
     pub fn save<S: ProgressStore>(&self, store: &mut S) -> Result<(), StoreError>
         ensures saved { (course : Course) → StandsFor self.now course
             → OnOk result (S.held store.new ≡ Some (progress_of course)) }
@@ -277,7 +307,7 @@ impl Session {
         ensures honest { S.is_honest store.new ≡ S.is_honest store.old }
         ensures same_risks { S.risks store.new ≡ S.risks store.old }
     {
-        store.save(Progress::new(self.number, self.confirmed()))
+        store.save(Progress::new(self.number, self.confirmed(), self.start))
     }
 
     /// Whether the end mark is confirmed.
