@@ -13,9 +13,8 @@ hundred lines.
                             [--close SUBSCRIBER:N].. [--window N] [--prefetch N] [--start-after N]
 
 FILE may be `-`. Output and exit status are those of `relayplum` with the same words; under `run`, of a script with
-batches of two clients, what it prints where they come to the ledger in the order of the file.
+batches of several clients, what it prints where they come to the ledger in the order of the file.
 """
-import itertools
 import json
 import sys
 from dataclasses import dataclass, field, fields, replace
@@ -24,8 +23,7 @@ MOST_BYTES = 1_048_576
 MOST_ITEMS = 1_000
 MOST_PAIRS = 10
 MOST_SUBSCRIBERS = 8
-CLIENTS = (1, 2)
-MOST_SUBSCRIBERS_OF_A_RUN = 2
+CLIENTS = (1, 2, 3, 4)
 GREATEST_128 = 2**128 - 1
 GREATEST_MOMENT = 2**63 - 1
 SECOND = 1_000_000_000
@@ -1046,20 +1044,6 @@ def heard(items, binding, close_after):
     return subscriber
 
 
-def orders(batches):
-    """Each order in which the batches of two clients can come to the ledger, as places in the file; its own first."""
-    places = range(len(batches))
-    of_first = [place for place in places if batches[place].client == CLIENTS[0]]
-    of_others = [place for place in places if batches[place].client != CLIENTS[0]]
-    found = [list(places)]
-    for turns in itertools.combinations(places, len(of_first)):
-        first, others = iter(of_first), iter(of_others)
-        order = [next(first) if turn in turns else next(others) for turn in places]
-        if order != found[0]:
-            found.append(order)
-    return found
-
-
 # ---------------------------------------------------------------- Scripts and step files
 
 SCRIPT_FAULTS = [
@@ -1408,20 +1392,14 @@ def play(world, steps, report):
             return
 
 
-def run(script_data, plan=Plan(), progress=None):
-    """What a run may print, and save: a report for each order in which the batches can come to the ledger."""
+def run(script_data, plan=Plan(), progress=None, order=None):
+    """What a run prints and saves where the batches come to the ledger in the order of the file, or of these places."""
     try:
         script = read_script(script_data)
     except Fault as fault:
-        return [report_of_fault('script', fault)]
-    if len(script.bindings) > MOST_SUBSCRIBERS_OF_A_RUN:
-        return [Report('fault: too_many_subscribers\n', 2)]
+        return report_of_fault('script', fault)
     if plan.start is not None and progress is not None:
-        return [Report('fault: start_not_allowed\n', 1)]
-    return [run_in_order(script, order, plan, progress) for order in orders(script.batches)]
-
-
-def run_in_order(script, order, plan, progress):
+        return Report('fault: start_not_allowed\n', 1)
     ledger, batches = run_batches(script, order)
     more = 0
     if plan.window == 1:
@@ -1465,7 +1443,7 @@ def bytes_of(name):
 def main(words):
     window = 1
     if words[:1] == ['run'] and len(words) >= 2:
-        report = run(bytes_of(words[1]), plan_of(words[2:]))[0]
+        report = run(bytes_of(words[1]), plan_of(words[2:]))
         sys.stdout.write(report.text)
         return report.status
     if len(words) >= 2 and words[-2] == '--window':

@@ -6,10 +6,11 @@
 
 A case is a script, a step file and the words of a run, made of the seed and the case's number alone. The program runs
 on it under `books`, `messages`, `simulate` and `run`; output and exit status have to be the model's, and under `run`
-the progress that is saved. Batches of two clients may come to the ledger in any order that keeps each client's: `run`
-then has to do what the model does in one of them. Where they differ, lines are left out while the difference stays, and
-what is left is printed with the words that bring it back; of a run it may take some tries. In the end, and where the
-soak is stopped (SIGTERM, Ctrl-C), it prints how often each result, fault, step and answer came up, and which never did.
+the progress that is saved. Batches of several clients may come to the ledger in any order that keeps each client's:
+which it was is taken from what `run` printed (orders.py), and that has to be what the model does in this order. Where
+they differ, lines are left out while the difference stays, and what is left is printed with the words that bring it
+back; of a run it may take some tries. In the end, and where the soak is stopped (SIGTERM, Ctrl-C), it prints how often
+each result, fault, step and answer came up, and which never did.
 
 Without --count it goes on for --seconds; with neither, 1,000 cases. Exit status 1 where there was a difference.
 """
@@ -25,6 +26,7 @@ import time
 from dataclasses import asdict, dataclass, replace
 
 import model
+import orders
 import rooms
 
 CHUNK = 20  # cases that a worker takes at once
@@ -65,19 +67,19 @@ class ScriptMaker:
         self.has_huge_amounts = rng.random() < 0.35
         self.is_late = rng.random() < 0.2
         self.limited = rng.choice([0.1, 0.1, 0.7])  # the share of accounts with flags
-        self.has_two_clients = rng.random() < 0.3
+        self.clients = rng.choice([1, 1, 1, 2, 3, 4])  # the greatest number that a client may have
         self.has_chains = rng.random() < 0.5
 
     def chance(self, share):
         return self.rng.random() < share
 
     def script(self):
-        for _ in range(self.rng.choice([1, 1, 1, 2, 2, 2, 3, 8])):
+        for _ in range(self.rng.choice([1, 1, 1, 1, 2, 2, 2, 3, 4, 5, 6, 7, 8])):
             self.lines.append(self.subscriber())
         self.batch('accounts', self.rng.randint(2, 6))
-        for _ in range(self.rng.choice([1, 2, 3, 4, 5] if self.has_two_clients else [0, 1, 2, 2, 3, 3, 4, 5, 7])):
-            if self.has_two_clients and self.chance(0.6):
-                self.lines.append(f'client {self.rng.choice([1, 2, 2])}')
+        for _ in range(self.rng.choice([0, 1, 2, 2, 3, 3, 4, 5, 7] if self.clients == 1 else [1, 2, 3, 4, 5, 6, 7])):
+            if self.clients > 1 and self.chance(0.6):
+                self.lines.append(f'client {self.rng.randint(1, self.clients)}')
             kind = self.rng.choices(['transfers', 'pulse', 'accounts'], [8, 3, 1])[0]
             self.batch(kind, self.rng.choice([0, 1, 1, 2, 2, 3, 3, 4, 5, 6, 8, 12]))
             if self.chance(0.03) and self.subscribers() < model.MOST_SUBSCRIBERS:
@@ -706,7 +708,7 @@ class Spoiler:
         no_number = self.rng.choice(NO_NUMBERS)
         line = self.rng.choice(
             [
-                ['client 0', 'client 3', f'client {2**64 - 1}', f'client {2**64}', 'client', 'client x', 'client 9 9'],
+                ['client 0', 'client 5', f'client {2**64 - 1}', f'client {2**64}', 'client', 'client x', 'client 9 9'],
                 ['subscriber', 'subscriber some', 'subscriber all ledger', 'subscriber any code=1', 'subscriber ALL'],
                 ['subscriber all ' + 'ledger=1 ' * 11, 'subscriber all ledger=4294967296', 'subscriber all =1'],
                 [f'subscriber all transfer_code={no_number}', 'subscriber all transfer_code=65536'],
@@ -844,14 +846,19 @@ def script_of(lines):
     return model.read_script('\n'.join(lines).encode('ascii'))
 
 
-def reports_of(case):
-    """What the model says, by command: one report, under `run` of two clients one for each order of their batches."""
-    return {
-        'books': [model.books(case.script)],
-        'messages': [model.messages(case.script)],
-        'simulate': [model.simulate(case.script, case.steps, number_of(case.words_of_window))],
-        'run': model.run(case.script, model.plan_of(case.plan), case.progress),
-    }
+COMMANDS = ('books', 'messages', 'simulate', 'run')
+
+
+def report_of(command, case, found):
+    """What the model says of a command; of a run in the order of batches that what it printed allows."""
+    if command == 'books':
+        return model.books(case.script)
+    if command == 'messages':
+        return model.messages(case.script)
+    if command == 'simulate':
+        return model.simulate(case.script, case.steps, number_of(case.words_of_window))
+    printed = found.text.decode('ascii', 'replace')
+    return orders.report_of_run(case.script, model.plan_of(case.plan), case.progress, printed)
 
 
 def words_of(command, case):
@@ -924,10 +931,6 @@ def wanted(report, case):
     ]
 
 
-def is_allowed(reports, case, found):
-    return any(found in wanted(report, case) for report in reports)
-
-
 # ---------------------------------------------------------------- A difference made small
 
 
@@ -941,7 +944,8 @@ def shrunk(runner, command, case):
         if tries[0] < 0 or time.monotonic() > until:
             return False
         runner.write(candidate)
-        return not is_allowed(reports_of(candidate)[command], candidate, runner.run(command, candidate))
+        found = runner.run(command, candidate)
+        return found not in wanted(report_of(command, candidate, found), candidate)
 
     plain = replace(case, script=without_layout(case.script), steps=without_layout(case.steps))
     if differs(plain):
@@ -999,7 +1003,7 @@ def file_in_words(name, data):
     return f"printf '{escaped}' >{name}\n"
 
 
-def told(seed, number, command, case, reports, found):
+def told(seed, number, command, case, report, found):
     """A difference, and how to bring it back."""
     text = f'case {number} of seed {seed} differs under {command}; it comes back with\n'
     text += f'    tests/soak.py --seed {seed} --case {number}\n'
@@ -1010,8 +1014,9 @@ def told(seed, number, command, case, reports, found):
     if command == 'run' and case.progress is not None:
         text += file_in_words('soak.progress', record_of(case.progress, case.version))
     text += ' '.join(['relayplum', *words_of(command, case)]) + '\n'
-    outcomes = dict.fromkeys(outcome for report in reports for outcome in wanted(report, case))
-    for name, outcome in [('wanted', one) for one in outcomes] + [('found', found)]:
+    if command == 'run':
+        text += 'no order of the batches allows what was found; wanted in the order of the file\n'
+    for name, outcome in [('wanted', one) for one in wanted(report, case)] + [('found', found)]:
         text += f'{name}, with exit status {outcome.status}'
         text += f' and progress {outcome.record}' if command == 'run' else ''
         text += f':\n{outcome.text.decode("utf-8", "backslashreplace")}'
@@ -1078,17 +1083,16 @@ EXPECTED = {
     'plays': ['done to the end', 'refused'],
     'subscribers after a play': ['ended', 'closed', 'with all events', 'with some events', 'with none'],
     'runs': [
-        'of one client',
-        'of two clients with one outcome',
-        'of two clients with several outcomes',
-        'in another order than the file',
+        'in the order of the file',
+        'in another order',
         'of one session',
         'of several sessions',
         'from saved progress',
         'from saved progress with a start',
         'of a start that is not allowed',
-        'of too many subscribers',
     ],
+    'clients of runs': [str(number) for number in model.CLIENTS],
+    'subscribers of runs': [str(number) for number in range(1, model.MOST_SUBSCRIBERS + 1)],
     'options of runs': [
         '--window',
         '--prefetch',
@@ -1108,11 +1112,11 @@ for word in model.STEPS:
 
 def count(reports, counts):
     """Adds what came up in a case."""
-    for batch, results in reports['books'][0].batches:
+    for batch, results in reports['books'].batches:
         count_batch(batch, results, counts)
     for kind in model.EVENT_TYPES:
-        counts['events', kind] += reports['messages'][0].text.count(f'event_type={kind} ')
-    report = reports['simulate'][0]
+        counts['events', kind] += reports['messages'].text.count(f'event_type={kind} ')
+    report = reports['simulate']
     if report.fault is not None:
         file, name = report.fault
         counts['faults of scripts' if file == 'script' else 'faults of step files', name] += 1
@@ -1162,22 +1166,19 @@ def count_subscriber(binding, subscriber, ledger, counts):
         counts[group, 'with all events' if subscriber.applied == feed else 'with some events'] += 1
 
 
-def count_run(case, reports, found, counts):
+def count_run(case, report, found, counts):
     """Adds what came up in a run."""
-    report = reports[0]
-    if 'too_many_subscribers' in report.text and report.fault is None:
-        counts['runs', 'of too many subscribers'] += 1
     counts['runs', 'of a start that is not allowed'] += 'start_not_allowed' in report.text
     if report.status != 0:
         return
     for option in case.plan[::2] + ('--progress',) * case.saves:
         counts['options of runs', option] += 1
-    outcomes = {one.text for one in reports}
-    clients = 'one client'
-    if len(reports) > 1:
-        clients = 'two clients with ' + ('one outcome' if len(outcomes) == 1 else 'several outcomes')
-    counts['runs', f'of {clients}'] += 1
-    counts['runs', 'in another order than the file'] += found not in wanted(report, case)
+    script = model.read_script(case.script)
+    counts['clients of runs', str(len({batch.client for batch in script.batches}) or 1)] += 1
+    counts['subscribers of runs', str(len(script.bindings))] += 1
+    plan = model.plan_of(case.plan)
+    is_of_file = report.text == model.run(case.script, plan, case.progress).text
+    counts['runs', 'in the order of the file' if is_of_file else 'in another order'] += 1
     sessions = report.progress[0] - (case.progress[0] if case.progress else 0)
     counts['runs', 'of one session' if sessions == 1 else 'of several sessions'] += 1
     counts['runs', 'from saved progress'] += case.progress is not None
@@ -1210,16 +1211,16 @@ def run_chunk(program, room, seed, numbers):
         runner = Runner(program, folder)
         for number in numbers:
             case = case_of(seed, number)
-            reports = reports_of(case)
-            count(reports, counts)
+            reports = {}
             runner.write(case)
-            for command, allowed in reports.items():
+            for command in COMMANDS:
                 runs += 1
                 found = runner.run(command, case)
-                if command == 'run':
-                    count_run(case, allowed, found, counts)
-                if not is_allowed(allowed, case, found):
+                report = reports[command] = report_of(command, case, found)
+                if found not in wanted(report, case):
                     differing.append((number, command))
+            count(reports, counts)
+            count_run(case, report, found, counts)
     return counts, runs, differing
 
 
@@ -1229,8 +1230,8 @@ def show(program, room, seed, number, command):
         runner = Runner(program, folder)
         case = shrunk(runner, command, case_of(seed, number))
         runner.write(case)
-        reports = reports_of(case)[command]
-        print(told(seed, number, command, case, reports, runner.run(command, case)), flush=True)
+        found = runner.run(command, case)
+        print(told(seed, number, command, case, report_of(command, case, found), found), flush=True)
 
 
 class Stopped(Exception):
@@ -1307,7 +1308,7 @@ def run_case(options):
     record = record_of(case.progress, case.version)
     files = {'soak.script': case.script, 'soak.steps': case.steps, 'soak.progress': record}
     print(''.join(file_in_words(name, data) for name, data in files.items() if data is not None))
-    print('\n'.join(' '.join(['relayplum', *words_of(command, case)]) for command in reports_of(case)) + '\n')
+    print('\n'.join(' '.join(['relayplum', *words_of(command, case)]) for command in COMMANDS) + '\n')
     _, runs, differing = run_chunk(options.program, None, options.seed, [options.case])
     for number, command in differing:
         show(options.program, None, options.seed, number, command)

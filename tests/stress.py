@@ -1,38 +1,50 @@
 #!/usr/bin/env python3
 """Runs scripts on threads again and again, under random faults, and compares what is printed and saved.
 
-    tests/stress.py [--program PATH] [--runs N] [--seed S]
-    tests/stress.py [--program PATH] --times N [--tests PATH]
+    tests/stress.py [--program PATH] [--runs N] [--seed S] [--processors P]
+    tests/stress.py [--program PATH] --times N [--tests PATH] [--processors P]
 
-Each run is of one client, which hands in one of two scripts: a short one of two subscribers, or one of 2,000 transfers.
-Its plan loses confirms and publishes, restarts the connector and lets queues go back, at random counts, on two
-processors or on four; its sessions wait for one event, or for up to 64. None of it may show: the output has to be what
-`books` prints for the script. One run of three starts after a moment: its output has to be what the outside model
-(model.py) has of the events after it. Half of the runs save their progress to a file; from the record that is left, the
-plan did what it says, where the window is 1. A run that takes longer than SECONDS hangs, and has failed. One run more is held for a while, by a pipe in the place of its saved progress, and must
-take no processor time meanwhile.
+Each run is of a script of 1 to 4 clients and 1 to 8 subscribers: a short one, drawn anew, or one of 1,000 transfers. Its
+plan loses confirms and publishes, restarts the connector, lets queues go back and closes subscribers, at random counts,
+on two processors and on four in turn, or on P; its sessions wait for one event, or for up to 64. Of a short one the
+output has to be what the outside model (model.py) has for the order of batches that the output allows (orders.py); two of
+three start after a moment. A long one closes nothing, and its first book tells the order of its batches: the output has to be what `books` prints of a
+script in this order. Half of the runs save their progress to a file; from the record that is left, the plan did what it
+says, where the window is 1. A run that takes longer than SECONDS hangs, and has failed. One run more is held for a while,
+by a pipe in the place of its saved progress, and must take no processor time meanwhile.
+
+Then four clients hand in 1,000 transfers each, a batch a transfer, and it is printed how many batches of one client came
+to the ledger in a row, at the most: nothing is claimed of that.
 
 With --times there are no random plans: each of a few runs is done so often in a row, and has to come to what the
-outside model (model.py) allows; and where --tests names the tests of cdc_run_tests, as `rt test` builds them, the one
-that shows that the ends work at the same time is run as often.
+outside model allows; and where --tests names the tests of cdc_run_tests, as `rt test` builds them, those that show that
+the ends work at the same time are run as often.
 
 The last line is `stress: N passed, M failed`; exit status 1 where one failed.
 """
+import itertools
 import os
 import pathlib
 import random
+import re
 import subprocess
 import sys
 import time
 
 import model
+import orders
 import rooms
 
-SECONDS = 30  # that a run may take
+SECONDS = 60  # that a run may take
 HOLD = 1  # seconds for which a run that waits is looked at
 MOST_HOLDS = 20
 PROCESSORS = (2, 4)
 MOST_SHOWN = 3  # failures that are shown
+TRANSFERS = 1000  # of a long script, about
+# Lines of a report: how many events the first subscriber has applied, the last one's moment; a batch.
+FIRST = re.compile(r'(?m)^subscriber 1 applied (\d+) last (\d+) ')
+LAST = re.compile(r'(?m)(?<= )last \d+')
+BATCH = re.compile(r'^batch \d+')
 
 ACCOUNTS = """accounts 1000
 account id=1 ledger=700 code=10
@@ -61,13 +73,41 @@ client 2
 transfers 2000
 transfer id=2 debit_account_id=3 credit_account_id=4 amount=7 ledger=800 code=1
 """
+# One client, and two subscribers of all events.
+TWO_OF_ALL = f"""subscriber all
+subscriber all
+{ACCOUNTS}transfers 2000
+transfer id=1 debit_account_id=1 credit_account_id=2 amount=5 ledger=700 code=1
+transfers 3000
+transfer id=2 debit_account_id=1 credit_account_id=2 amount=7 ledger=700 code=1
+"""
+
+
+def four_clients():
+    """Four clients, each with two accounts and a transfer on a ledger of its own; eight subscribers: one of each ledger,
+    and four of all."""
+    lines = [f'subscriber all ledger={700 + client}' for client in model.CLIENTS] + ['subscriber all'] * 4
+    for client in model.CLIENTS:
+        debit, credit, ledger = 2 * client - 1, 2 * client, 700 + client
+        lines += [f'client {client}', 'accounts 1000']
+        lines += [f'account id={account} ledger={ledger} code=10' for account in (debit, credit)]
+        lines.append('transfers 2000')
+        lines.append(
+            f'transfer id={client} debit_account_id={debit} credit_account_id={credit} amount={client}'
+            f' ledger={ledger} code=1'
+        )
+    return '\n'.join(lines) + '\n'
+
+
 # The runs that are repeated, by name.
 REPEATED = {
-    'a lost confirm and a restart': (SHORT, ['--window', '1', '--lose-confirm', '1', '--restart-after', '2']),
+    'a lost confirm and a restart': (SHORT, ['--window', '2', '--lose-confirm', '1', '--restart-after', '2']),
+    'one client and two subscribers of all events': (TWO_OF_ALL, []),
     'two clients': (TWO_CLIENTS, []),
+    'four clients and eight subscribers': (four_clients(), ['--window', '64', '--restart-after', '2']),
     'a subscriber closes': (SHORT, ['--close', '1:2']),
 }
-TEST = 'overlap::two_ends_at_once'
+TESTS = ('overlap::two_ends_at_once', 'overlap::twelve_ends_at_once')
 
 
 def long_script(transfers, a_batch):
@@ -139,92 +179,259 @@ def shortened(outcome):
     return text if len(text) < 1000 else f'{text[:300]} .. {text[-600:]}'
 
 
+# ---------------------------------------------------------------- Random scripts
+
+
+class Script:
+    """Bindings, and the batches of clients, by their lines. Each batch but the first of a client, which opens its accounts,
+    moves something off an account that no other one touches; so the order in which accounts appear in a book of all events
+    is the order of the batches. The first subscriber keeps such a book."""
+
+    def __init__(self, bindings):
+        self.bindings = ['all', *bindings]
+        self.batches = []  # each with its client, the account that is its own or 0, and its lines
+
+    def add(self, client, account, lines):
+        self.batches.append((client, account, lines))
+
+    def text(self):
+        lines = [f'subscriber {binding}' for binding in self.bindings]
+        whose = 1
+        for client, _, of_batch in self.batches:
+            lines += [f'client {client}'] * (client != whose) + of_batch
+            whose = client
+        return '\n'.join(lines) + '\n'
+
+    def of_one_client(self, order):
+        """The same with the batches in this order, all of them client 1's."""
+        lines = [f'subscriber {binding}' for binding in self.bindings]
+        return '\n'.join(sum((self.batches[place][2] for place in order), lines)) + '\n'
+
+    def order_in(self, printed):
+        """The places of the batches in the order that the first book of a run tells; those that open accounts come first.
+        None where it tells no order."""
+        told = orders.told_of(printed)
+        places = {account: place for place, (_, account, _) in enumerate(self.batches) if account}
+        if told is None or not told[1]:
+            return None
+        found = [places[account] for account in told[1][0].accounts if account in places]
+        openers = [place for place, (_, account, _) in enumerate(self.batches) if not account]
+        return openers + found if len(found) == len(places) else None
+
+
+def opening(client, accounts):
+    """The lines that open a client's accounts."""
+    ledger = 700 + client
+    return ['accounts 1000'] + [f'account id={account} ledger={ledger} code=10' for account in accounts]
+
+
+def bindings_of(rng, clients, subscribers):
+    """What so many subscribers less one may want."""
+    some = ['all', 'all', 'any', 'any event_type=two_phase_posted transfer_code=2', 'all event_type=single_phase']
+    some += [f'all ledger={700 + client}' for client in range(1, clients + 1)]
+    return [rng.choice(some) for _ in range(subscribers - 1)]
+
+
+def transfer_of(rng, number, client, debit, credit, pending):
+    """A line: a transfer, a pending one, whose number is added to the list, or a post of a part of one of those."""
+    if pending and rng.random() < 0.3:
+        return f'transfer id={number} pending_id={pending.pop()} amount=1 flags=4'
+    flags = ''
+    if rng.random() < 0.2:
+        pending.append(number)
+        flags = ' flags=2'
+    return (
+        f'transfer id={number} debit_account_id={debit} credit_account_id={credit} amount={rng.randint(1, 90)}'
+        f' ledger={700 + client} code={rng.randint(1, 3)}{flags}'
+    )
+
+
+def script_of(rng, clients, subscribers, batches, most_items, moments):
+    """A script of so many clients and subscribers, each client with so many batches of transfers, at such moments."""
+    script = Script(bindings_of(rng, clients, subscribers))
+    turns = [client for client in range(1, clients + 1) for _ in range(batches + 1)]
+    rng.shuffle(turns)
+    handed = dict.fromkeys(turns, 0)
+    pending = {client: [] for client in turns}
+    number = 0
+    for client in turns:
+        first = 10_000 * client
+        if handed[client] == 0:
+            # A batch has 1,000 items at most.
+            script.add(client, 0, opening(client, range(first, first + min(batches + 1, model.MOST_ITEMS))))
+        else:
+            own, others = first + handed[client], first + 1 + rng.randrange(handed[client])
+            lines = [f'transfers {rng.choice(moments)}']
+            for item in range(rng.randint(1, most_items)):
+                number += 1
+                # The first one is never a post, which moves nothing off the batch's own account.
+                waiting = pending[client] if item else []
+                debit, credit = (own, first) if item == 0 else rng.sample([first, own, others, first], 2)
+                credit = credit if credit != debit else first + (debit == first)
+                lines.append(transfer_of(rng, number, client, debit, credit, waiting))
+            script.add(client, own, lines)
+        handed[client] += 1
+    return script
+
+
 # ---------------------------------------------------------------- Random plans
 
 
-class Stress:
-    """A script, its book, and the events that it makes."""
+def count_of(rng, events):
+    """Of a packet, or a position: anywhere, at the beginning, or about the end."""
+    most = events + 2
+    return rng.choice([rng.randint(1, most), rng.randint(1, min(most, 5)), rng.randint(max(1, most - 3), most)])
 
-    def __init__(self, name, script, runner):
-        self.name = name
-        self.script = script
-        self.book = runner.run(['books', '-'], script)
-        self.bindings = model.read_script(script.encode('ascii')).bindings
-        ledger, self.batches = model.run_batches(model.read_script(script.encode('ascii')))
-        self.events = ledger.events
 
-    def plan(self, rng):
-        """The words of a plan that doesn't show."""
-        words = ['--window', str(rng.choice([1, 1, 1, 2, 8, 64])), '--prefetch', str(rng.choice([1, 2, 3, 8, 8, 64]))]
-        for option in ('--lose-confirm', '--lose-publish', '--restart-after'):
-            for _ in range(rng.choice([0, 1, 2, 5, 20])):
-                words += [option, str(self.count(rng))]
+def plan_of(rng, events, subscribers, closes):
+    """The words of a plan for so many events; it may close subscribers, but for the first."""
+    words = ['--window', str(rng.choice([1, 1, 1, 2, 8, 64])), '--prefetch', str(rng.choice([1, 2, 3, 8, 8, 64]))]
+    for option in ('--lose-confirm', '--lose-publish', '--restart-after'):
         for _ in range(rng.choice([0, 1, 2, 5, 20])):
-            words += ['--repeat', f'{rng.randint(1, 2)}:{self.count(rng)}']
-        if rng.random() < 1 / 3:
-            words += ['--start-after', str(self.start(rng))]
-        return words
-
-    def start(self, rng):
-        """A moment to start after: that of an event, the one before it, the last one's, or a later one."""
-        last = self.events[-1].timestamp
-        return rng.choice([0, rng.choice(self.events).timestamp, rng.choice(self.events).timestamp - 1, last, last + 1])
-
-    def wanted(self, words):
-        """What a run under this plan prints."""
-        plan = model.plan_of(words)
-        if plan.start is None:
-            return self.book
-        later = [event for event in self.events if event.timestamp > plan.start]
-        text = model.batch_lines(self.batches)
-        for number, binding in enumerate(self.bindings, start=1):
-            text += model.subscriber_lines(number, model.heard([*later, model.END_MARK], binding, None))
-        return text
-
-    def count(self, rng):
-        """Of a packet, or a position: anywhere, at the beginning, or about the end."""
-        most = len(self.events) + 2
-        return rng.choice([rng.randint(1, most), rng.randint(1, min(most, 5)), rng.randint(max(1, most - 3), most)])
-
-    def records(self, words):
-        """The bytes of the progress that a run under this plan may save last: one record where its window is 1."""
-        plan = model.plan_of(words)
-        if plan.window == 1:
-            return [record_of(model.published(self.events, plan, None)[1])]
-        _, (session, moment, start) = model.published(self.events, model.Plan(start=plan.start), None)
-        return [record_of((session + more, moment, start)) for more in range(plan.breaks() + 1)]
+            words += [option, str(count_of(rng, events))]
+    for _ in range(rng.choice([0, 1, 2, 5, 20])):
+        words += ['--repeat', f'{rng.randint(1, subscribers)}:{count_of(rng, events)}']
+    for _ in range(rng.choice([0, 0, 1, 2, 4]) if closes and subscribers > 1 else 0):
+        words += ['--close', f'{rng.randint(2, subscribers)}:{count_of(rng, events)}']
+    return words
 
 
-def record_of(progress):
-    """The bytes of progress: session, timestamp and start."""
-    return b'tb-cdc 2 %d %d %d\n' % progress
+def records_of(report):
+    """The bytes of the progress that a run may save last, by a report of the model."""
+    session, moment, start = report.progress
+    return [b'tb-cdc 2 %d %d %d\n' % (session + more, moment, start) for more in range(report.more_sessions + 1)]
+
+
+class Stress:
+    """A kind of script, and what a run of one may come to."""
+
+    def __init__(self, runner, rng):
+        self.runner = runner
+        self.rng = rng
+
+    def drawn(self):
+        """A script, and the words of a plan for it."""
+        clients, subscribers = self.rng.randint(1, 4), self.rng.randint(1, 8)
+        script = self.script(clients, subscribers)
+        self.told = f'{clients} clients, {subscribers} subscribers'
+        events = len(re.findall('(?m)^transfer ', script.text()))
+        return script, plan_of(self.rng, events, subscribers, self.closes) + self.start()
+
+    def start(self):
+        """The words for where the first session starts."""
+        return []
+
+
+class Short(Stress):
+    """Few transfers, at moments of any order; the model judges them."""
+
+    name, closes = 'short', True
+
+    def script(self, clients, subscribers):
+        return script_of(self.rng, clients, subscribers, self.rng.randint(1, 3), 3, [1000, 2000, 5000])
+
+    def start(self):
+        if self.rng.random() < 1 / 3:
+            return []
+        moment = self.rng.choice([0, 1000, 2000, 5000]) + self.rng.randint(-1, 8)
+        return ['--start-after', str(max(moment, 0))]
+
+    def wanted(self, script, plan, saves, printed):
+        report = orders.report_of_run(script.text().encode('ascii'), model.plan_of(plan), None, printed)
+        return [(report.text, record) for record in (records_of(report) if saves else [None])]
+
+    def shown(self, printed):
+        return printed
+
+
+class Long(Stress):
+    """TRANSFERS in all, a batch each ten; `books` judges them. Which moment the last event of a subscriber of some events
+    has hangs on when the accounts of the other clients were opened, so that isn't looked at."""
+
+    name, closes = 'long', False
+
+    def script(self, clients, subscribers):
+        return script_of(self.rng, clients, subscribers, TRANSFERS // 6 // clients, 11, [1000])
+
+    def wanted(self, script, plan, saves, printed):
+        order = script.order_in(printed)
+        if order is None:
+            return [('an order of the batches in the first book', None)]
+        book = in_order_of_file(self.runner.run(['books', '-'], script.of_one_client(order)), order)
+        records = [None]
+        if saves:
+            applied, last = (int(number) for number in FIRST.search(book).groups())
+            events = [SimpleNamespace(timestamp=place) for place in range(1, applied)] + [SimpleNamespace(timestamp=last)]
+            records = records_of(saved(events, model.plan_of(plan)))
+        return [(self.shown(book), record) for record in records]
+
+    def shown(self, printed):
+        first, *others = printed.split('subscriber 2 ')
+        return 'subscriber 2 '.join([first, *(LAST.sub('last', other) for other in others)])
+
+
+def in_order_of_file(book, order):
+    """What `books` printed of batches in this order, with their lines in the order of the places."""
+    lines = book.splitlines(keepends=True)
+    head, rest = lines[: len(order)], lines[len(order) :]
+    placed = dict(zip(order, head))
+    numbered = [f'batch {place + 1}' + BATCH.sub('', placed[place]) for place in range(len(order)) if place in placed]
+    return ''.join(numbered + rest)
+
+
+def saved(events, plan):
+    """What a run of these events may save last: one record where its window is 1."""
+    if plan.window > 1:
+        _, progress = model.published(events, model.Plan(), None)
+        return SimpleNamespace(progress=progress, more_sessions=plan.breaks())
+    return SimpleNamespace(progress=model.published(events, plan, None)[1], more_sessions=0)
 
 
 def run_stress(options, runner):
     rng = random.Random(options.seed)
-    scripts = [Stress('short', SHORT, runner), Stress('long', long_script(2000, 100), runner)]
+    kinds = [Short(runner, rng), Short(runner, rng), Short(runner, rng), Long(runner, rng)]
     times = {}
     for number in range(1, options.runs + 1):
-        stress = scripts[number % len(scripts)]
-        processors = PROCESSORS[number // len(scripts) % len(PROCESSORS)]
-        plan = stress.plan(rng)
+        stress = kinds[number % len(kinds)]
+        processors = options.processors or PROCESSORS[number // len(kinds) % len(PROCESSORS)]
+        script, plan = stress.drawn()
         saves = rng.random() < 0.5
         progress = runner.folder / 'stress.progress'
         progress.unlink(missing_ok=True)
         words = ['run', '-', *plan, *(['--progress', progress.name] if saves else [])]
         begun = time.monotonic()
-        found = runner.run(words, stress.script, processors)
+        printed = runner.run(words, script.text(), processors)
         times.setdefault((stress.name, processors), []).append(time.monotonic() - begun)
-        text = stress.wanted(plan)
-        wanted = [(text, record) for record in (stress.records(plan) if saves else [None])]
         left = progress.read_bytes() if progress.exists() else None
-        what = f'run {number} of seed {options.seed}, the {stress.name} script on {processors} processors: '
-        runner.note(what + ' '.join(words), wanted, (found, left))
-    run_waiting(scripts[-1], runner)
+        what = f'run {number} of seed {options.seed}, a {stress.name} script on {processors} processors, {stress.told}: '
+        wanted = stress.wanted(script, plan, saves, printed)
+        runner.note(what + ' '.join(words), wanted, (stress.shown(printed), left))
+    run_waiting(runner)
     for (name, processors), seconds in sorted(times.items()):
         mean = sum(seconds) / len(seconds)
-        print(f'the {name} script on {processors} processors: {len(seconds)} runs, {mean:.3f} s each,', end=' ')
+        print(f'a {name} script on {processors} processors: {len(seconds)} runs, {mean:.3f} s each,', end=' ')
         print(f'{max(seconds):.3f} s at most')
+    run_fair(options, runner)
+
+
+# ---------------------------------------------------------------- Which client comes
+
+
+def run_fair(options, runner):
+    """Four clients with a thousand transfers each, a batch a transfer: whose batches come to the ledger in a row."""
+    stress = Long(runner, random.Random(options.seed))
+    script = script_of(stress.rng, 4, 1, model.MOST_ITEMS - 1, 1, [1000])
+    for processors in [options.processors] if options.processors else PROCESSORS:
+        printed = runner.run(['run', '-'], script.text(), processors)
+        wanted = stress.wanted(script, [], False, printed)
+        runner.note(f'four clients on {processors} processors', wanted, (stress.shown(printed), None))
+        clients = [script.batches[place][0] for place in script.order_in(printed) or []]
+        rows = [(len(list(row)), client) for client, row in itertools.groupby(clients[4:])]
+        most, client = max(rows, default=(0, 0))
+        print(
+            f'four clients of {model.MOST_ITEMS - 1} transfers each on {processors} processors: the longest run of batches of'
+            f' one client is {most}, of client {client}; there are {len(rows)} such runs'
+        )
 
 
 # ---------------------------------------------------------------- A run that waits
@@ -246,11 +453,13 @@ def has_rested(process):
     return False
 
 
-def run_waiting(stress, runner):
+def run_waiting(runner):
     """A run whose connector waits for its progress, and all others with it."""
+    script = long_script(2000, 100)
+    book = runner.run(['books', '-'], script)
     pipe = runner.folder / 'stress.pipe'
     os.mkfifo(pipe)
-    (runner.folder / 'stress.script').write_text(stress.script)
+    (runner.folder / 'stress.script').write_text(script)
     words = [runner.program, 'run', 'stress.script', '--progress', pipe.name]
     with subprocess.Popen(words, cwd=runner.folder, stdout=subprocess.PIPE) as run:
         try:
@@ -262,32 +471,39 @@ def run_waiting(stress, runner):
         except (OSError, subprocess.TimeoutExpired) as error:
             run.kill()
             rested, found = False, repr(error)
-    runner.note('a run that waits', [(True, stress.book)], (rested, found))
+    runner.note('a run that waits', [(True, book)], (rested, found))
 
 
 # ---------------------------------------------------------------- The same again and again
 
 
 def run_repeated(options, runner):
+    processors = options.processors or max(PROCESSORS)
     for name, (script, words) in REPEATED.items():
-        allowed = [report.text for report in model.run(script.encode('ascii'), model.plan_of(words))]
+        plan = model.plan_of(words)
+        wanted = {}  # what the model has, by what was found
         seen = {}
         for time_ in range(1, options.times + 1):
-            found = runner.run(['run', '-', *words], script)
+            found = runner.run(['run', '-', *words], script, processors)
             seen[found] = seen.get(found, 0) + 1
-            runner.note(f'{name}, time {time_}', allowed, found)
+            if found not in wanted:
+                wanted[found] = orders.report_of_run(script.encode('ascii'), plan, None, found).text
+            runner.note(f'{name}, time {time_}', [wanted[found]], found)
         counts = ', '.join(str(count) for count in sorted(seen.values(), reverse=True))
-        print(f'{name}: {options.times} times; of {len(set(allowed))} outcomes {len(seen)} came up: {counts}')
+        print(f'{name}: {options.times} times on {processors} processors; {len(seen)} outcomes: {counts}', flush=True)
     if options.tests is not None:
-        run_test(options, runner)
+        for test in TESTS:
+            run_test(test, options, runner, processors)
 
 
-def run_test(options, runner):
+def run_test(test, options, runner, processors):
+    leave = on_processors(processors)
     for time_ in range(1, options.times + 1):
-        ran = subprocess.run([options.tests, TEST], cwd=runner.folder, capture_output=True, timeout=60)
+        words = [options.tests, test]
+        ran = subprocess.run(words, cwd=runner.folder, capture_output=True, timeout=60, preexec_fn=leave)
         found = ran.returncode if ran.returncode == 0 else (ran.returncode, ran.stdout[-500:], ran.stderr[-500:])
-        runner.note(f'{TEST}, time {time_}', [0], found)
-    print(f'{TEST}: {options.times} times', flush=True)
+        runner.note(f'{test}, time {time_}', [0], found)
+    print(f'{test}: {options.times} times on {processors} processors', flush=True)
 
 
 def options_of(words):
@@ -296,6 +512,7 @@ def options_of(words):
     parser.add_argument('--seed', type=int, default=1)
     parser.add_argument('--times', type=int)
     parser.add_argument('--tests')
+    parser.add_argument('--processors', type=int)
     options = rooms.options_of(parser, words)
     options.tests = options.tests and str(pathlib.Path(options.tests).resolve())
     return options

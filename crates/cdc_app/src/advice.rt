@@ -2,7 +2,6 @@
 
 use crate::sources::STANDARD_INPUT;
 use cdc_commands::{Ending, ProgramFault};
-use cdc_run::RunLimits;
 use cdc_script::ScriptFault;
 use cdc_telling::{Sentence, script_sentence, steps_sentence};
 use std::io;
@@ -40,10 +39,6 @@ fn advice(rt: &HostRuntime, place: &str, ending: Ending) -> io::Result<()> {
         Ending::Done | Ending::BadWords => Ok(()),
         Ending::BadScript(fault) => advice_on_file(rt, place, fault, script_sentence(fault.kind)),
         Ending::BadSteps(fault) => advice_on_file(rt, place, fault, steps_sentence(fault.kind)),
-        Ending::TooManySubscribers => {
-            let most = RunLimits::SUBSCRIBERS;
-            eprintln!(rt; "{place}: too_many_subscribers: a run has at most {most} subscribers")
-        }
         Ending::Refused(refusal) => {
             let name = refusal.name();
             eprintln!(rt; "relayplum: a step was refused: {name}")

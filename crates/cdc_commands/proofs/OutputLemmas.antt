@@ -4,7 +4,7 @@ use Rattle.std.specs.Prelude.{Option, Result, IfErr, IfOk, IfSome}
 use Rattle.cdc_script.specs.Scripts.{script_of}
 use Rattle.cdc_script.specs.StepFiles.{acts_of}
 use Rattle.cdc_commands.specs.declared.endings.Ending.{Ending}
-use Rattle.cdc_commands.specs.declared.endings.Ending.TheVariants.{Done, Failed, Refused, BadScript, BadSteps, TooManySubscribers, BadWords}
+use Rattle.cdc_commands.specs.declared.endings.Ending.TheVariants.{Done, Failed, Refused, BadScript, BadSteps, BadWords}
 use Rattle.cdc_commands.specs.declared.faults.ProgramFault.{ProgramFault}
 use Rattle.cdc_commands.specs.declared.faults.ProgramFault.TheVariants as fault
 use Rattle.cdc_commands.specs.declared.output.Output.{Output}
@@ -31,7 +31,6 @@ made_outcome outcome (Some bytes) output (BadScript at) is same made =
 made_outcome outcome script output (Failed why) is same made = absurd is
 made_outcome outcome script output (Refused why) is same made = absurd is
 made_outcome outcome script output (BadSteps at) is same made = absurd is
-made_outcome outcome script output TooManySubscribers is same made = absurd is
 made_outcome outcome script output BadWords is same made = absurd is
 
 -- a command over a script writes what it made of the script, or why it made nothing
@@ -112,7 +111,6 @@ of_script window script None steps (BadSteps at) printed same prints = (prints.0
 of_script window script (Some all) steps (BadSteps at) printed same prints =
     (prints.0, ((prints.1.0.0, sym same ∙ prints.1.0.1), prints.1.1))
 of_script window script bytes steps (Failed why) printed same prints = prints
-of_script window script bytes steps TooManySubscribers printed same prints = absurd prints
 of_script window script bytes steps BadWords printed same prints = absurd prints
 
 -- what is printed for a text of steps is printed for all its bytes
@@ -133,7 +131,6 @@ of_steps window script steps None (BadSteps at) printed same prints = (prints.0,
 of_steps window script steps (Some all) (BadSteps at) printed same prints =
     (prints.0, (prints.1.0, sym same ∙ prints.1.1))
 of_steps window script steps bytes (Failed why) printed same prints = prints
-of_steps window script steps bytes TooManySubscribers printed same prints = absurd prints
 of_steps window script steps bytes BadWords printed same prints = absurd prints
 
 -- the same of what a command made of the text of a script, which may be none

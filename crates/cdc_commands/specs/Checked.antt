@@ -1,7 +1,7 @@
 -- All that a command prints that only judges its files (`--check`).
 use Rattle.std.specs.Prelude.{◌≡◌, ℕ, List, [], Option, IfSome, Ok, Err}
 use Rattle.cdc_commands.specs.declared.endings.Ending.{Ending}
-use Rattle.cdc_commands.specs.declared.endings.Ending.TheVariants.{Done, Failed, Refused, BadScript, BadSteps, TooManySubscribers, BadWords}
+use Rattle.cdc_commands.specs.declared.endings.Ending.TheVariants.{Done, Failed, Refused, BadScript, BadSteps, BadWords}
 use Rattle.cdc_script.specs.declared.step_files.Act.{Act}
 use Rattle.cdc_script.specs.Scripts.{script_of}
 use Rattle.cdc_script.specs.StepFiles.{acts_of}
@@ -30,5 +30,4 @@ CheckPrints script steps (BadSteps at) printed =
     × (IfSome script IsGoodScript × IfSome steps (λ bytes. acts_of bytes ≡ Err at))
 CheckPrints script steps (Failed why) printed = MayFailScript why × (printed ≡ program_fault_line why)
 CheckPrints script steps (Refused why) printed = ⊥
-CheckPrints script steps TooManySubscribers printed = ⊥
 CheckPrints script steps BadWords printed = ⊥

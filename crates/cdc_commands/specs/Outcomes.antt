@@ -2,7 +2,7 @@
 use Rattle.std.specs.Prelude.{◌≡◌, ◌⊎◌, ℕ, List, Option, IfSome}
 use Rattle.std.specs.Io.KnownBytes.{Appends}
 use Rattle.cdc_commands.specs.declared.endings.Ending.{Ending}
-use Rattle.cdc_commands.specs.declared.endings.Ending.TheVariants.{Done, Failed, Refused, BadScript, BadSteps, TooManySubscribers, BadWords}
+use Rattle.cdc_commands.specs.declared.endings.Ending.TheVariants.{Done, Failed, Refused, BadScript, BadSteps, BadWords}
 use Rattle.cdc_commands.specs.declared.faults.ProgramFault.{ProgramFault}
 use Rattle.cdc_commands.specs.declared.faults.ProgramFault.TheVariants as fault
 use Rattle.cdc_commands.specs.declared.output.Output.{Output}
@@ -15,7 +15,6 @@ status_of (Failed why) = 1
 status_of (Refused why) = 1
 status_of (BadScript at) = 2
 status_of (BadSteps at) = 2
-status_of TooManySubscribers = 2
 status_of BadWords = 2
 
 -- what is printed, and how the command ends
@@ -48,7 +47,6 @@ IsScriptEnding (Failed why) = ⊥
 IsScriptEnding (Refused why) = ⊥
 IsScriptEnding (BadScript at) = Unit {0}
 IsScriptEnding (BadSteps at) = ⊥
-IsScriptEnding TooManySubscribers = ⊥
 IsScriptEnding BadWords = ⊥
 
 -- a command that reads a script, alone or with steps, gives up where a read or memory failed
@@ -72,5 +70,4 @@ PrintsOutcome outcome script (BadScript at) printed =
 PrintsOutcome outcome script (Failed why) printed = MayFailScript why × (printed ≡ program_fault_line why)
 PrintsOutcome outcome script (Refused why) printed = ⊥
 PrintsOutcome outcome script (BadSteps at) printed = ⊥
-PrintsOutcome outcome script TooManySubscribers printed = ⊥
 PrintsOutcome outcome script BadWords printed = ⊥

@@ -7,7 +7,7 @@ use Rattle.cdc_types.specs.Results.{account_number, transfer_number}
 use Rattle.cdc_ledger.specs.declared.errors.BatchError.{BatchError}
 use Rattle.cdc_ledger.specs.BatchErrors.{batch_error_number, batch_error_name}
 use Rattle.cdc_commands.specs.declared.endings.Ending.{Ending}
-use Rattle.cdc_commands.specs.declared.endings.Ending.TheVariants.{BadScript, BadSteps, TooManySubscribers}
+use Rattle.cdc_commands.specs.declared.endings.Ending.TheVariants.{BadScript, BadSteps}
 use Rattle.cdc_commands.specs.declared.faults.ProgramFault.{ProgramFault}
 use Rattle.cdc_commands.specs.declared.faults.ProgramFault.TheVariants as fault
 use Rattle.cdc_script.specs.declared.faults.ScriptFault.{ScriptFault}
@@ -35,15 +35,10 @@ abbrev pub steps_fault_line : ScriptFault → List ℕ
 steps_fault_line at = codes "fault: steps line"
     ++ (spaced at.line ++ (codes ": " ++ (kind_name at.kind ++ codes "\n")))
 
--- the line of a script that has more subscribers than a run may have
-abbrev pub subscribers_fault_line : List ℕ
-subscribers_fault_line = codes "fault: too_many_subscribers\n"
-
 -- the line of the file that a command doesn't take
 abbrev pub file_fault_line : Ending → List ℕ
 file_fault_line (BadScript at) = script_fault_line at
 file_fault_line (BadSteps at) = steps_fault_line at
-file_fault_line TooManySubscribers = subscribers_fault_line
 file_fault_line _ = []
 
 -- the line of a command that gave up

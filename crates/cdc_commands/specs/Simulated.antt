@@ -2,7 +2,7 @@
 use Rattle.std.specs.Prelude.{◌≡◌, ℕ, List, Option, Some, None, IfSome, Ok, Err}
 use Rattle.cdc_world.specs.declared.steps.StepError.{StepError}
 use Rattle.cdc_commands.specs.declared.endings.Ending.{Ending}
-use Rattle.cdc_commands.specs.declared.endings.Ending.TheVariants.{Done, Failed, Refused, BadScript, BadSteps, TooManySubscribers, BadWords}
+use Rattle.cdc_commands.specs.declared.endings.Ending.TheVariants.{Done, Failed, Refused, BadScript, BadSteps, BadWords}
 use Rattle.cdc_script.specs.declared.scripts.Script.{Script}
 use Rattle.cdc_commands.specs.Outcomes.{MayFailScript}
 use Rattle.cdc_commands.specs.Report.{script_fault_line, steps_fault_line, program_fault_line}
@@ -41,5 +41,4 @@ SimulationPrints input (BadSteps at) printed =
     (printed ≡ steps_fault_line at)
     × (IfSome input.script IsGoodScript × IfSome input.steps (λ steps. acts_of steps ≡ Err at))
 SimulationPrints input (Failed why) printed = MayFailScript why × (printed ≡ program_fault_line why)
-SimulationPrints input TooManySubscribers printed = ⊥
 SimulationPrints input BadWords printed = ⊥

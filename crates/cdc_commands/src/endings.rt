@@ -20,8 +20,6 @@ pub enum Ending {
     BadScript(ScriptFault),
     /// The step file is bad.
     BadSteps(ScriptFault),
-    /// The script has more subscribers than a run may have.
-    TooManySubscribers,
     /// The words of the command line ask for nothing that there is.
     BadWords,
 }
@@ -34,10 +32,7 @@ impl Ending {
         match self {
             Ending::Done => 0,
             Ending::Failed(_) | Ending::Refused(_) => 1,
-            Ending::BadScript(_)
-            | Ending::BadSteps(_)
-            | Ending::TooManySubscribers
-            | Ending::BadWords => 2,
+            Ending::BadScript(_) | Ending::BadSteps(_) | Ending::BadWords => 2,
         }
     }
 }

@@ -110,7 +110,6 @@ pub fn push_file_fault(text: &mut String, ending: Ending) -> Result<(), AllocErr
     match ending {
         Ending::BadScript(fault) => push_fault(text, "fault: script line", fault),
         Ending::BadSteps(fault) => push_fault(text, "fault: steps line", fault),
-        Ending::TooManySubscribers => text.push_str("fault: too_many_subscribers\n"),
         _ => Ok(()),
     }
 }

@@ -1,8 +1,7 @@
 -- Of what a run can be made.
 use Rattle.std.specs.Prelude.{◌≤◌, vec_len}
 use Rattle.cdc_run.specs.declared.configs.Config.{Config}
-use Rattle.cdc_run.specs.declared.limits.TheConstants.RunLimits.{SUBSCRIBERS}
-use Rattle.cdc_types.specs.declared.bounds.TheConstants.Limits.{CLIENTS, PREFETCH}
+use Rattle.cdc_types.specs.declared.bounds.TheConstants.Limits.{CLIENTS, PREFETCH, SUBSCRIBERS}
 use Rattle.cdc_types.specs.Windows.{IsWindow}
 
 -- a run can be made of it: it has a client and a subscriber, and nothing is above its limit

@@ -3,7 +3,6 @@
 ghost use Rattle.std.specs.Prelude.{◌↔◌, IsTrue};
 ghost use Rattle.cdc_run.specs.Configs.{Fits};
 
-use crate::limits::RunLimits;
 use cdc_match::Binding;
 use cdc_types::Limits;
 
@@ -24,7 +23,7 @@ pub struct Config {
 }
 
 impl Config {
-    /// Whether a run can be made of it: of 1 to 2 clients, 1 to 2 subscribers, window and prefetch 1 to 64.
+    /// Whether a run can be made of it: of 1 to 4 clients, 1 to 8 subscribers, window and prefetch 1 to 64.
     pub fn fits(&self) -> bool
         ensures { IsTrue result ↔ Fits self.now }
     {
@@ -32,7 +31,7 @@ impl Config {
         1 <= self.clients
             && self.clients <= Limits::CLIENTS
             && 1 <= subscribers
-            && subscribers <= RunLimits::SUBSCRIBERS
+            && subscribers <= Limits::SUBSCRIBERS
             && 1 <= self.window
             && self.window <= Limits::WINDOW
             && 1 <= self.prefetch

@@ -14,12 +14,12 @@ use Rattle.cdc_traffic.specs.declared.requests.Reply.{Reply}
 use Rattle.cdc_types.specs.declared.batches.Batch.{Batch}
 use Rattle.cdc_types.specs.declared.bounds.TheConstants.Limits.{CLIENTS}
 use Rattle.cdc_commands.specs.declared.endings.Ending.{Ending}
-use Rattle.cdc_commands.specs.declared.endings.Ending.TheVariants.{Done, Failed, Refused, BadScript, BadSteps, TooManySubscribers, BadWords}
+use Rattle.cdc_commands.specs.declared.endings.Ending.TheVariants.{Done, Failed, Refused, BadScript, BadSteps, BadWords}
 use Rattle.cdc_commands.specs.declared.faults.ProgramFault.{ProgramFault}
 use Rattle.cdc_commands.specs.declared.output.Output.{Output}
 use Rattle.cdc_run_command.specs.Private.Merging.{IsOrderOf, times_in}
 use Rattle.cdc_run_command.specs.Private.Runnable.{IsClient, IsRunnable}
-use Rattle.cdc_run_command.specs.RunPrinted.{HasTooMany, PrintsRun, RunCommandPrints}
+use Rattle.cdc_run_command.specs.RunPrinted.{PrintsRun, RunCommandPrints}
 use Rattle.cdc_run_command.specs.Runs.{Setting, client_count, entries_of, own_of, owners_of, shares_from}
 use Rattle.cdc_commands.proofs.Places.{found_at}
 use Rattle.cdc_run_command.proofs.ReplyLemmas.{found_as}
@@ -112,11 +112,6 @@ all_bytes setting text (Some all) Done printed same prints =
     record { script = prints.script; said = sym same ∙ prints.said; runs = prints.runs }
 all_bytes setting text None (BadScript at) printed same prints = (prints.0, tt)
 all_bytes setting text (Some all) (BadScript at) printed same prints = (prints.0, sym same ∙ prints.1)
-all_bytes setting text None TooManySubscribers printed same prints = (prints.0, tt)
-all_bytes setting text (Some all) TooManySubscribers printed same prints = (
-  prints.0,
-  record { script = prints.1.script; said = sym same ∙ prints.1.said; many = prints.1.many },
-)
 all_bytes setting text bytes (Failed why) printed same prints = prints
 all_bytes setting text bytes (Refused why) printed same prints = absurd prints
 all_bytes setting text bytes (BadSteps at) printed same prints = absurd prints

@@ -1,13 +1,12 @@
 -- All that `run` prints for a script.
-use Rattle.std.specs.Prelude.{◌≡◌, ℕ, ◌<◌, List, Option, IfSome, Ok, Err, length}
-use Rattle.cdc_run.specs.declared.limits.TheConstants.RunLimits.{SUBSCRIBERS}
+use Rattle.std.specs.Prelude.{◌≡◌, ℕ, List, Option, IfSome, Ok, Err}
 use Rattle.cdc_script.specs.Scripts.{script_of}
 use Rattle.cdc_script.specs.declared.scripts.Script.{Script}
 use Rattle.cdc_commands.specs.declared.endings.Ending.{Ending}
-use Rattle.cdc_commands.specs.declared.endings.Ending.TheVariants.{Done, Failed, Refused, BadScript, BadSteps, TooManySubscribers, BadWords}
+use Rattle.cdc_commands.specs.declared.endings.Ending.TheVariants.{Done, Failed, Refused, BadScript, BadSteps, BadWords}
 use Rattle.cdc_commands.specs.declared.faults.ProgramFault.{ProgramFault}
 use Rattle.cdc_commands.specs.declared.faults.ProgramFault.TheVariants as fault
-use Rattle.cdc_commands.specs.Report.{script_fault_line, subscribers_fault_line, program_fault_line}
+use Rattle.cdc_commands.specs.Report.{script_fault_line, program_fault_line}
 use Rattle.cdc_run_command.specs.Runs.{RunsTo, Setting}
 
 -- a command that runs a script on threads gives up where a read, memory or the run failed
@@ -26,19 +25,11 @@ pub record PrintsRun (setting : Setting) (bytes printed : List ℕ) : Type 0 whe
   pub said : script_of bytes ≡ Ok script
   pub runs : RunsTo setting script printed
 
--- these bytes are a script that has more subscribers than a run may have
-pub record HasTooMany (bytes : List ℕ) : Type 0 where
-  pub script : Script
-  pub said : script_of bytes ≡ Ok script
-  pub many : SUBSCRIBERS < length script.bindings
-
 -- this is printed by a command that runs such a script, whose bytes are known or not, and ends so
 abbrev pub RunCommandPrints : Setting → Option (List ℕ) → Ending → List ℕ → Type 0
 RunCommandPrints setting script Done printed = IfSome script (λ bytes. PrintsRun setting bytes printed)
 RunCommandPrints setting script (BadScript at) printed =
     (printed ≡ script_fault_line at) × IfSome script (λ bytes. script_of bytes ≡ Err at)
-RunCommandPrints setting script TooManySubscribers printed =
-    (printed ≡ subscribers_fault_line) × IfSome script HasTooMany
 RunCommandPrints setting script (Failed why) printed = MayFailRun why × (printed ≡ program_fault_line why)
 RunCommandPrints setting script (Refused why) printed = ⊥
 RunCommandPrints setting script (BadSteps at) printed = ⊥

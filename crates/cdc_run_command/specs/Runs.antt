@@ -1,10 +1,9 @@
 -- What a script comes to that is run on threads: each client hands in its own batches, whatever the others do.
-use Rattle.std.specs.Prelude.{◌≡◌, ◌==◌, ℕ, ◌+◌, ◌≤◌, zero, suc, true, Bool, List, [], ◌∷◌, ◌++◌, Option, filter, fold, length, map, max}
+use Rattle.std.specs.Prelude.{◌≡◌, ◌==◌, ℕ, ◌+◌, zero, suc, true, Bool, List, [], ◌∷◌, ◌++◌, Option, filter, fold, length, map, max}
 use Rattle.cdc_laws.specs.Connectors.{held_timestamp}
 use Rattle.cdc_progress.specs.Records.{Saved}
 use Rattle.cdc_run.specs.Made.{AreCloses}
 use Rattle.cdc_run.specs.Reports.{AreSubscribed, HasRun, replies_of}
-use Rattle.cdc_run.specs.declared.limits.TheConstants.RunLimits.{SUBSCRIBERS}
 use Rattle.cdc_run.specs.declared.reports.Report.{Report}
 use Rattle.cdc_script.specs.declared.scripts.ClientBatch.{ClientBatch}
 use Rattle.cdc_script.specs.declared.scripts.Script.{Script}
@@ -79,7 +78,6 @@ pub record MayComeTo (setting : Setting) (script : Script) (report : Report) : T
 
 -- a run of this script prints this, of some report that it may come to
 pub record RunsTo (setting : Setting) (script : Script) (printed : List ℕ) : Type 0 where
-  pub few : length script.bindings ≤ SUBSCRIBERS
   pub report : Report
   pub comes : MayComeTo setting script report
   pub prints : PrintsReport (owners_of script.batches) report printed

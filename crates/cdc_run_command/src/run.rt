@@ -1,7 +1,7 @@
 //! The command `run`: a script's batches, handed in by clients on threads, and the books of its subscribers, to which
 //! the events come over a connector and a broker on threads of their own.
 
-ghost use Rattle.std.specs.Prelude.{◌≡◌, ◌+◌, ◌≤◌, ℕ, List, IfErr, IfOk, Ok, Some, length};
+ghost use Rattle.std.specs.Prelude.{◌≡◌, ◌+◌, ℕ, List, IfErr, IfOk, Ok, Some};
 ghost use Rattle.cdc_script.specs.Reading.{ConsumesAtMost};
 ghost use Rattle.cdc_script.specs.Scripts.{max_bytes, script_of};
 ghost use Rattle.cdc_run_command.specs.LoneRuns.{LoneRunsPrintBooks};
@@ -18,7 +18,7 @@ use crate::run_report::print_run;
 use crate::shares::{Parted, part_batches};
 use cdc_commands::{Ending, Output, ProgramFault, file_fault, print_output};
 use cdc_progress::ProgressStore;
-use cdc_run::{Config, Gate, RunLimits, run};
+use cdc_run::{Config, Gate, run};
 use cdc_script::{Script, ScriptError, parse_script, read_text};
 use std::alloc::Global;
 use std::io::{Read, Write};
@@ -29,8 +29,8 @@ use std::thread::Threads;
 const SYSTEM: u64 = 1;
 
 /// What `run` prints for the bytes of a script, and how it ends: what the ledger answered to each batch, in the order
-/// of the script, and what each subscriber holds at the end of the run; of a bad script its fault, and of one that has
-/// more subscribers than a run may have that. There is none where the run met a fault.
+/// of the script, and what each subscriber holds at the end of the run; of a bad script its fault. There is none where
+/// the run met a fault.
 pub fn run_of<T: Threads + Wait + Sync, S: ProgressStore + Send + Drop, G: Gate + Sync>(
     rt: &T,
     alloc: Global,
@@ -73,16 +73,13 @@ fn run_script<T: Threads + Wait + Sync, S: ProgressStore + Send + Drop, G: Gate 
         }) (Some bytes) output.ending output.text.items) }
     ensures fault { IfErr result MayFailRun }
 {
-    if script.bindings.as_slice().len() > RunLimits::SUBSCRIBERS {
-        return Ok(file_fault(alloc, Ending::TooManySubscribers)?);
-    }
     Ok(Output {
         text: run_clients(rt, alloc, script, plan, store, gate)?,
         ending: Ending::Done,
     })
 }
 
-/// What is printed of a run of a script that hasn't too many subscribers.
+/// What is printed of a run of a script.
 fn run_clients<T: Threads + Wait + Sync, S: ProgressStore + Send + Drop, G: Gate + Sync>(
     rt: &T,
     alloc: Global,
@@ -93,7 +90,6 @@ fn run_clients<T: Threads + Wait + Sync, S: ProgressStore + Send + Drop, G: Gate
 ) -> Result<Vec<u8>, ProgramFault>
     requires plan { IsPlan plan }
     requires script { IsRunnable script }
-    requires few { length script.bindings ≤ RunLimits.SUBSCRIBERS }
     ensures text { IfOk result (λ text. RunsTo (record {
       closes = plan.faults.close.items;
       held = S.held store;

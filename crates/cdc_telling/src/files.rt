@@ -35,7 +35,9 @@ pub fn script_sentence(kind: FaultKind) -> Sentence {
             Limits::SUBSCRIBERS as u128,
             " subscriber lines at most",
         ),
-        FaultKind::BadClient => Sentence::Plain("a client's number is 1 or 2"),
+        FaultKind::BadClient => {
+            Sentence::One("a client's number is 1 to ", Limits::CLIENTS as u128, "")
+        }
         FaultKind::NoSubscriber => Sentence::Plain(
             "a script has a line subscriber BINDING, as subscriber all",
         ),

@@ -24,7 +24,7 @@ run-requires-clause-fits g c κs within =
       some_client = omega (arith, counted, fit.0);
       clients = omega (arith, counted, fit.1);
       some_binding = omega (arith, bindings.ok.0, so_many, c.requires.script.some);
-      bindings = omega (arith, bindings.ok.0, so_many, c.requires.few);
+      bindings = omega (arith, bindings.ok.0, so_many, c.requires.script.few);
       window = c.requires.plan.window;
       some_prefetch = c.requires.plan.prefetch.least;
       prefetch = c.requires.plan.prefetch.greatest;
@@ -54,7 +54,6 @@ pub returns-clause-text : goal.returns-clause-text
 returns-clause-text g c =
     let report = c.in-Ok.report in
     record {
-      few = c.requires.few;
       report = report;
       comes = record {
         run = subst (λ (scripts : List (List Batch)). HasRun scripts report)

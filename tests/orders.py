@@ -1,0 +1,120 @@
+"""In which order the batches of a run came to its ledger, taken from what the run printed.
+
+Each client's batches come in their order; which client is the next one hangs on the threads. What is printed tells: the
+results of each batch, and of each subscriber how many events it has applied, the timestamp of the last, and its accounts
+in the order in which they first appeared. So batches are handed to a ledger of the model (model.py) one after another,
+each the next one of its client, and a beginning that can't come to what was printed is given up at once. No list of all
+orders is made: four clients of four batches each have 63 million.
+"""
+from dataclasses import dataclass, field
+
+import model
+
+
+@dataclass
+class Told:
+    """What a run printed of a subscriber."""
+
+    applied: int
+    last: int
+    is_closed: bool
+    accounts: list = field(default_factory=list)  # by their ids, in the order of the lines
+
+
+def told_of(printed):
+    """The line of each batch, and what was printed of each subscriber; None where it is no report of a run."""
+    batches, subscribers = [], []
+    for line in printed.splitlines(keepends=True):
+        match line.split():
+            case ['batch', *_]:
+                batches.append(line)
+            case ['subscriber', _, 'applied', applied, 'last', last, 'ended', _, 'closed', closed]:
+                subscribers.append(Told(int(applied), int(last), closed == 'yes'))
+            case ['account', account, _, _, _, _] if subscribers:
+                subscribers[-1].accounts.append(int(account))
+            case _:
+                return None
+    return batches, subscribers
+
+
+def accounts_of(events):
+    """The accounts of events, in the order in which they first appear."""
+    sides = ((event.debit_account.request.id, event.credit_account.request.id) for event in events)
+    return list(dict.fromkeys(account for pair in sides for account in pair))
+
+
+class Search:
+    """The ledger of a run as far as its batches are handed in, and how many of each client's are."""
+
+    def __init__(self, script, batches, subscribers, moment):
+        self.script = script
+        self.printed = batches
+        self.subscribers = list(zip(script.bindings, subscribers))
+        self.moment = moment  # of the saved progress, after which events are published
+        self.left = {}  # of each client the places of its batches, in its order
+        for place, batch in enumerate(script.batches):
+            self.left.setdefault(batch.client, []).append(place)
+        self.ledger = model.Ledger()
+        self.order = []
+
+    def found(self):
+        """Each order that what was printed of batches and subscribers allows, one after another."""
+        if len(self.order) == len(self.script.batches):
+            yield list(self.order)
+            return
+        for places in self.left.values():
+            if places:
+                place = places.pop(0)
+                before, last = self.ledger.mark(), self.ledger.last
+                self.order.append(place)
+                if self.submits(place) and self.may_go_on():
+                    yield from self.found()
+                self.order.pop()
+                self.ledger.undo(before)
+                self.ledger.last = last
+                places.insert(0, place)
+
+    def submits(self, place):
+        """Hands in a batch; whether the results are those that were printed."""
+        batch = self.script.batches[place]
+        try:
+            results = self.ledger.submit(batch)
+        except model.BatchRefused as refusal:
+            results = refusal.name
+        return model.batch_line(place + 1, batch, results) == self.printed[place]
+
+    def may_go_on(self):
+        return all(self.may_become(binding, told) for binding, told in self.subscribers)
+
+    def may_become(self, binding, told):
+        """Whether a subscriber to whom the ledger's events come in turn may still come to what was printed of it."""
+        events = [event for event in self.ledger.events if event.timestamp > self.moment and binding.matches(event)]
+        if len(events) > told.applied and not told.is_closed:
+            return False
+        events = events[: told.applied]
+        accounts = accounts_of(events)
+        if accounts != told.accounts[: len(accounts)]:
+            return False
+        last = events[-1].timestamp if events else 0
+        return last == told.last if len(events) == told.applied else last < told.last
+
+
+def orders_of(script, printed, moment):
+    """Each order of a script's batches, as places in it, that this text of a run allows."""
+    told = told_of(printed)
+    if told is None or [len(part) for part in told] != [len(script.batches), len(script.bindings)]:
+        return iter(())
+    return Search(script, *told, moment).found()
+
+
+def report_of_run(script_data, plan, progress, printed):
+    """What the model says of a run that printed this: in an order that allows it, if there is one, else in the file's."""
+    report = model.run(script_data, plan, progress)
+    if report.status != 0 or report.text == printed:
+        return report
+    moment = plan.start or 0 if progress is None else progress[1]
+    for order in orders_of(model.read_script(script_data), printed, moment):
+        other = model.run(script_data, plan, progress, order)
+        if other.text == printed:
+            return other
+    return report
