@@ -466,7 +466,7 @@ def run_waiting(runner):
             rested = has_rested(run)
             # Without a reader this is refused, and doesn't wait.
             with open(os.open(pipe, os.O_WRONLY | os.O_NONBLOCK), 'wb') as saved:
-                saved.write(record_of((4, 0, 0)))
+                saved.write(b'tb-cdc 2 4 0 0\n')
             found = run.communicate(timeout=SECONDS)[0].decode('utf-8', 'backslashreplace')
         except (OSError, subprocess.TimeoutExpired) as error:
             run.kill()
