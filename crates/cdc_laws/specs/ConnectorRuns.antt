@@ -48,29 +48,29 @@ pub record IsConfirmedTo (confirms : List Confirm) (s : Shown) (moment : ℕ) : 
   pub at : event.timestamp ≡ moment
   pub confirmed : AreConfirmed confirms s.number (place + 1)
 
--- a session may begin after a moment where these came before it: after 0, after the moment of an earlier session, or
--- after one up to which an earlier session is confirmed
-abbrev pub IsBase : List Confirm → List Shown → ℕ → Type 0
-IsBase confirms earlier moment =
-    (moment ≡ 0) ⊎ ((s : Shown) × Contains earlier s × ((s.base ≡ moment) ⊎ IsConfirmedTo confirms s moment))
+-- a session may begin after a moment where these came before it: after the start, after the moment of an earlier session,
+-- or after one up to which an earlier session is confirmed
+abbrev pub IsBase : ℕ → List Confirm → List Shown → ℕ → Type 0
+IsBase start confirms earlier moment =
+    (moment ≡ start) ⊎ ((s : Shown) × Contains earlier s × ((s.base ≡ moment) ⊎ IsConfirmedTo confirms s moment))
 
 -- a session may come after these: its number is above theirs; it begins after such a moment; what it has published is
 -- what there is to tell after that, in order and without a gap; and the end mark only once every tag before it was
 -- confirmed
-pub record MayFollow (h : History) (confirms : List Confirm) (earlier : List Shown) (s : Shown) : Type 0 where
+pub record MayFollow (h : History) (start : ℕ) (confirms : List Confirm) (earlier : List Shown) (s : Shown) : Type 0 where
   pub above : (other : Shown) → Contains earlier other → other.number < s.number
-  pub base : IsBase confirms earlier s.base
+  pub base : IsBase start confirms earlier s.base
   pub items : IsPrefix s.items (line_after h s.base)
   pub end : (place : ℕ) → slice_get s.items place ≡ Some EndMark → AreConfirmed confirms s.number place
 
 -- each session may come after those before it, where the latest of them stands first
-abbrev pub AreSessions : History → List Confirm → List Shown → Type 0
-AreSessions h confirms [] = Unit {0}
-AreSessions h confirms (s ∷ earlier) = MayFollow h confirms earlier s × AreSessions h confirms earlier
+abbrev pub AreSessions : History → ℕ → List Confirm → List Shown → Type 0
+AreSessions h start confirms [] = Unit {0}
+AreSessions h start confirms (s ∷ earlier) = MayFollow h start confirms earlier s × AreSessions h start confirms earlier
 
--- a connector has sent these packets and received these confirms, over what the ledger of this history has to tell:
--- they are the packets of such sessions
-pub record IsConnectorRun (h : History) (sent : List Packet) (confirms : List Confirm) : Type 0 where
+-- a connector has sent these packets and received these confirms, over what the ledger of this history has to tell after
+-- the start: they are the packets of such sessions
+pub record IsConnectorRun (h : History) (start : ℕ) (sent : List Packet) (confirms : List Confirm) : Type 0 where
   pub sessions : List Shown
   pub makes : sent_by sessions ≡ sent
-  pub each : AreSessions h confirms sessions
+  pub each : AreSessions h start confirms sessions

@@ -30,6 +30,11 @@ abbrev pub held_timestamp : Option Saved → ℕ
 held_timestamp None = 0
 held_timestamp (Some saved) = saved.timestamp
 
+-- the start, the moment after which the first session began; 0 where none has begun
+abbrev pub held_start : Option Saved → ℕ
+held_start None = 0
+held_start (Some saved) = saved.start
+
 -- a session as it shows: what it was offered, and then the end mark, as far as it has sent them
 abbrev pub shown_of : Course → Shown
 shown_of course = record {
@@ -40,9 +45,9 @@ shown_of course = record {
 
 -- a session stands behind those that have sent something: it has sent nothing yet, and may come after them; or it is
 -- the latest of them
-abbrev pub StandsLast : List Confirm → List Shown → Course → Type 0
-StandsLast confirms sessions course =
-    ((course.sent ≡ 0) × IsBase confirms sessions course.base
+abbrev pub StandsLast : ℕ → List Confirm → List Shown → Course → Type 0
+StandsLast start confirms sessions course =
+    ((course.sent ≡ 0) × IsBase start confirms sessions course.base
     × ((s : Shown) → Contains sessions s → s.number < course.number))
     ⊎ ((0 < course.sent) × ((earlier : List Shown) × (sessions ≡ shown_of course ∷ earlier)))
 
@@ -53,29 +58,32 @@ SendsInTurn confirms course =
     (tags_sent course ≤ length course.offered)
     ⊎ ((course.complete ≡ true) × AreConfirmed confirms course.number (length course.offered))
 
--- the session that runs has the number that is held; it was offered the first events after its base, and all of them,
+-- the session that runs has the number and the start that are held; it was offered the first events after its base, and all of them,
 -- of a closed ledger, where none are to follow; the tags that were confirmed to it are of packets that it has sent, and
 -- among the confirms; and it stands behind all sessions before it
-pub record IsLive (h : History) (confirms : List Confirm) (sessions : List Shown) (number : ℕ) (course : Course)
-    : Type 0 where
+pub record IsLive (h : History) (start : ℕ) (confirms : List Confirm) (sessions : List Shown) (number : ℕ)
+    (course : Course) : Type 0 where
   pub its : course.number ≡ number
+  pub starts : course.start ≡ start
   pub offered : IsPrefix course.offered (events_after course.base (events h))
   pub complete : course.complete ≡ true → (h.closed ≡ true) × (course.offered ≡ events_after course.base (events h))
   pub confirmed : (tag : ℕ) → is_confirmed course tag ≡ true
       → (tag ≤ tags_sent course) × IsConfirmed confirms course.number tag
   pub in_turn : SendsInTurn confirms course
-  pub last : StandsLast confirms sessions course
+  pub last : StandsLast start confirms sessions course
 
 -- a connector keeps to a history: its packets are those of sessions that may follow one another, with numbers up to the
--- one that is held; the next one may begin after the timestamp that is held; and so does the session that runs
+-- one that is held, and none of them where nothing is held; the next one may begin after the timestamp that is held; and
+-- so does the session that runs
 pub record KeepsTo (h : History) (c : ConnectorState) : Type 0 where
   pub sessions : List Shown
   pub makes : sent_by sessions ≡ c.sent
-  pub each : AreSessions h c.confirms sessions
+  pub each : AreSessions h (held_start c.held) c.confirms sessions
   pub numbers : (s : Shown) → Contains sessions s → s.number ≤ held_number c.held
-  pub base : IsBase c.confirms sessions (held_timestamp c.held)
+  pub none_yet : c.held ≡ None → sessions ≡ []
+  pub base : IsBase (held_start c.held) c.confirms sessions (held_timestamp c.held)
   pub live : (course : Course) → c.session ≡ Some course
-      → IsLive h c.confirms sessions (held_number c.held) course
+      → IsLive h (held_start c.held) c.confirms sessions (held_number c.held) course
 
 -- ---- its steps
 

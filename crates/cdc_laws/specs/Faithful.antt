@@ -1,14 +1,15 @@
 -- What a subscriber may rely on: said of a ledger's history, its binding and what it has heard.
-use Rattle.std.specs.Prelude.{◌≡◌, ℕ, min, true, List, length, unwrap_or}
+use Rattle.std.specs.Prelude.{◌≡◌, ℕ, min, true, nat_le, List, length, map, filter, unwrap_or}
 use Rattle.cdc_ledger.specs.Balances.{as_of}
 use Rattle.cdc_ledger.specs.Events.{events}
 use Rattle.cdc_ledger.specs.History.{History}
-use Rattle.cdc_laws.specs.Line.{feed_of}
+use Rattle.cdc_laws.specs.Line.{feed_after}
+use Rattle.cdc_log.specs.Log.{events_after}
 use Rattle.cdc_match.specs.Arguments.{Arguments}
 use Rattle.cdc_message.specs.Items.{TimestampsRise, events_of, same_item}
 use Rattle.cdc_message.specs.Replays.{IsPrefix, firsts}
 use Rattle.cdc_subscriber.specs.declared.book.BookEntry.{BookEntry}
-use Rattle.cdc_subscriber.specs.Book.{balances_in, book_of}
+use Rattle.cdc_subscriber.specs.Book.{accounts_of, balances_in, book_of}
 use Rattle.cdc_subscriber.specs.Heard.{Heard, has_ended}
 use Rattle.cdc_subscriber.specs.Kept.{Kept}
 use Rattle.cdc_types.specs.declared.accounts.Balances.{Balances}
@@ -32,14 +33,33 @@ balances_held book id = unwrap_or (balances_in book id) no_balances
 abbrev pub HoldsBalances : History → List Event → Type 0
 HoldsBalances h told = (id : ℕ) → balances_held (book_of told) id ≡ as_of h (last_timestamp told) id
 
--- a subscriber has applied the first so many of the events that its binding takes, whose timestamps rise, so that none
--- came twice or out of order; once it has heard the end it has applied all, and the ledger is closed; and where its
--- binding takes every event, its book has the balances that the ledger had at the last one applied
-pub record IsFaithful (h : History) (binding : Arguments) (heard : Heard) : Type 0 where
-  pub prefix : IsPrefix (applied heard) (feed_of h binding)
+-- the events up to a moment
+abbrev pub events_until : ℕ → List Event → List Event
+events_until t es = filter (λ e. nat_le e.timestamp t) es
+
+-- the accounts that a ledger's events after the start and up to a moment have, in the order of their first appearance
+abbrev pub accounts_told : History → ℕ → ℕ → List ℕ
+accounts_told h start t = accounts_of (events_until t (events_after start (events h)))
+
+-- a book of events has just the accounts of the ledger's events after the start and up to the last of the book's, each with
+-- the ledger's balances as of that last one, whatever moved before the start
+abbrev pub HoldsAccounts : History → ℕ → List Event → Type 0
+HoldsAccounts h start told =
+    book_of told
+    ≡ map (λ id. record { id = id; balances = as_of h (last_timestamp told) id })
+    (accounts_told h start (last_timestamp told))
+
+-- a subscriber has applied the first so many of the events after the start that its binding takes, whose timestamps rise,
+-- so that none came twice or out of order; once it has heard the end it has applied all, and the ledger is closed; and
+-- where its binding takes every event after the start, its book has just their accounts, each with the balances that the
+-- ledger had at the last one applied; where the start is 0, so has every number
+pub record IsFaithful (h : History) (start : ℕ) (binding : Arguments) (heard : Heard) : Type 0 where
+  pub prefix : IsPrefix (applied heard) (feed_after h start binding)
   pub rising : TimestampsRise (applied heard)
-  pub whole : has_ended heard ≡ true → (h.closed ≡ true) × (applied heard ≡ feed_of h binding)
-  pub balances : feed_of h binding ≡ events h → HoldsBalances h (applied heard)
+  pub whole : has_ended heard ≡ true → (h.closed ≡ true) × (applied heard ≡ feed_after h start binding)
+  pub balances : feed_after h start binding ≡ events_after start (events h) → HoldsAccounts h start (applied heard)
+  pub every : start ≡ 0 → feed_after h start binding ≡ events_after start (events h)
+      → HoldsBalances h (applied heard)
 
 -- what a subscriber keeps, told by what it has applied; it counts up to 2^64-1
 abbrev pub kept_from : Heard → Kept

@@ -1,5 +1,5 @@
 -- What each step of a connector, a broker, a queue and a subscriber keeps.
-use Rattle.std.specs.Prelude.{◌≡◌, ℕ, ◌-◌, ◌<◌, true, false, Option, Some, None, List, [], ◌∷◌, ◌++◌, Contains, length}
+use Rattle.std.specs.Prelude.{◌≡◌, ℕ, ◌-◌, ◌<◌, true, false, Option, Some, None, Ok, List, [], ◌∷◌, ◌++◌, Contains, length}
 use Rattle.cdc_broker.specs.Broker.{BrokerState, after_packet, empty_broker, queue_of, takes_packet, with_queue}
 use Rattle.cdc_broker.specs.Queues.{QueueState, acknowledged, empty_queue, is_unknown, next_delivery, queued, rewound_queue, with_delivery}
 use Rattle.cdc_ledger.specs.History.{History}
@@ -7,7 +7,7 @@ use Rattle.cdc_ledger.specs.Sound.{IsSound}
 use Rattle.cdc_laws.specs.Arrivals.{taken_of}
 use Rattle.cdc_laws.specs.Brokers.{HasArrived, HasHandedOut}
 use Rattle.cdc_laws.specs.ConnectorRuns.{IsConnectorRun}
-use Rattle.cdc_laws.specs.Connectors.{ConnectorState, KeepsTo, after_confirm, held_timestamp}
+use Rattle.cdc_laws.specs.Connectors.{ConnectorState, KeepsTo, after_confirm, held_start, held_timestamp}
 use Rattle.cdc_laws.specs.GoingOn.{GoesOn}
 use Rattle.cdc_laws.specs.Hearing.{HasTaken}
 use Rattle.cdc_laws.specs.Readings.{IsOf, KeepsToReadings, Reading}
@@ -25,28 +25,30 @@ use Rattle.cdc_types.specs.Timestamps.{last_timestamp_from}
 
 -- ---- a connector
 
--- it begins over a store that holds nothing or the timestamp 0
+-- it begins over a store that holds nothing, or a timestamp that is its start
 abbrev pub ConnectorsBegin : Type 0
-ConnectorsBegin = (h : History) (held : Option Saved) → held_timestamp held ≡ 0
+ConnectorsBegin = (h : History) (held : Option Saved) → held_timestamp held ≡ held_start held
     → KeepsTo h (record { held = held; session = None; sent = []; confirms = [] })
 
 -- the ledger goes on
 abbrev pub ConnectorsGoOn : Type 0
-ConnectorsGoOn = (h g : History) (c : ConnectorState) → IsSound h → GoesOn h g → KeepsTo h c → KeepsTo g c
+ConnectorsGoOn = (h g : History) (c : ConnectorState) → GoesOn h g → KeepsTo h c → KeepsTo g c
 
 -- its session ends, however
 abbrev pub SessionsEnd : Type 0
 SessionsEnd = (h : History) (c : ConnectorState) → KeepsTo h c → KeepsTo h (record c { session = None })
 
--- a session starts under a number that is held then
+-- a session starts under a number that is held then, where nothing was held before perhaps after a moment that was asked
+-- for
 abbrev pub SessionsStart : Type 0
-SessionsStart = (h : History) (c : ConnectorState) (saved : Saved) (window : ℕ) → KeepsTo h c
-    → begun c.held ≡ Some saved
+SessionsStart = (h : History) (c : ConnectorState) (at : Option ℕ) (saved : Saved) (window : ℕ) → KeepsTo h c
+    → begun c.held at ≡ Ok saved
     → KeepsTo h (record c { held = Some saved; session = Some (new_course saved window) })
 
 -- none starts, though its number is held, as after a save that failed
 abbrev pub SessionsHalfStart : Type 0
-SessionsHalfStart = (h : History) (c : ConnectorState) (saved : Saved) → KeepsTo h c → begun c.held ≡ Some saved
+SessionsHalfStart = (h : History) (c : ConnectorState) (at : Option ℕ) (saved : Saved) → KeepsTo h c
+    → begun c.held at ≡ Ok saved
     → KeepsTo h (record c { held = Some saved; session = None })
 
 -- its session is offered what a reading of the ledger has after the last event that it was offered
@@ -73,7 +75,8 @@ ProgressIsSaved = (h : History) (c : ConnectorState) (course : Course) → Keeps
 
 -- what it has sent and received is a connector run
 abbrev pub ConnectorsMakeRuns : Type 0
-ConnectorsMakeRuns = (h : History) (c : ConnectorState) → KeepsTo h c → IsConnectorRun h c.sent c.confirms
+ConnectorsMakeRuns = (h : History) (c : ConnectorState) → KeepsTo h c
+    → IsConnectorRun h (held_start c.held) c.sent c.confirms
 
 -- a connector that doesn't know the history keeps to what it reads of it, as its session is offered one more reading
 abbrev pub ReadingsAreOffered : Type 0

@@ -3,6 +3,7 @@
 use Rattle.std.specs.Prelude.{ℕ, ◌≤◌, List, Contains}
 use Rattle.cdc_ledger.specs.Events.{events}
 use Rattle.cdc_ledger.specs.History.{History}
+use Rattle.cdc_log.specs.Log.{events_after}
 use Rattle.cdc_message.specs.declared.items.Item.{Item}
 use Rattle.cdc_message.specs.declared.items.Item.TheVariants.{Event as OfEvent}
 use Rattle.cdc_message.specs.declared.packets.Packet.{Packet}
@@ -14,7 +15,8 @@ abbrev pub session_of : Packet → ℕ
 session_of (Connect session) = session
 session_of (Publish session tag item) = session
 
--- every event of the history up to this moment was taken
-abbrev pub HasTakenUpTo : History → List Item → ℕ → Type 0
-HasTakenUpTo h taken t =
-    (event : Event) → Contains (events h) event → event.timestamp ≤ t → Contains taken (OfEvent event)
+-- every event of the history after the start and up to this moment was taken
+abbrev pub HasTakenUpTo : History → ℕ → List Item → ℕ → Type 0
+HasTakenUpTo h start taken t =
+    (event : Event) → Contains (events_after start (events h)) event → event.timestamp ≤ t
+    → Contains taken (OfEvent event)

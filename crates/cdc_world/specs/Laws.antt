@@ -11,20 +11,21 @@ use Rattle.cdc_world.specs.declared.steps.StepError.{StepError}
 use Rattle.cdc_world.specs.Moves.{IsPlay, IsPlayBy}
 use Rattle.cdc_world.specs.Next.{IsAtStart, IsReached, Next}
 use Rattle.cdc_world.specs.Tries.{NextPast}
-use Rattle.cdc_world.specs.Worlds.{Subscription, WorldState, new_world, numbered}
+use Rattle.cdc_world.specs.Worlds.{Subscription, WorldState, new_world, numbered, start_of}
 
 -- every subscriber is faithful in every world that steps lead to: crashes, packets and confirms that come late, again
 -- or never, deliveries that are repeated or broken off, and closes among them
 abbrev pub SubscribersAreFaithful : Type 0
 SubscribersAreFaithful = (w : WorldState) → IsReached w
-    → (i : ℕ) (s : Subscription) → numbered w.subscriptions i ≡ Some s → IsFaithful w.history s.binding s.heard
+    → (i : ℕ) (s : Subscription) → numbered w.subscriptions i ≡ Some s
+    → IsFaithful w.history (start_of w) s.binding s.heard
 
 -- no step changes what a closed subscriber has heard, nor the binding of any
 abbrev pub ClosedSubscribersStay : Type 0
 ClosedSubscribersStay = (w : WorldState) (step : Step) (answer : Result Did StepError)
     → (w' : WorldState) → Next w step answer w' → AllStay w w'
 
--- steps lead to a world in which nothing has happened, over a store that holds nothing or the timestamp 0
+-- steps lead to a world in which nothing has happened, over a store that holds nothing, or a timestamp that is its start
 abbrev pub NewWorldsAreReached : Type 0
 NewWorldsAreReached = (bindings : List Arguments) (window : ℕ) (held : Option Saved)
     → IsAtStart held → IsReached (new_world bindings window held)

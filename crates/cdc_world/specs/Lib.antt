@@ -5,12 +5,12 @@ pub mod Laws
 pub mod Moves
 pub mod Next
 pub mod Parts
+pub mod Refusals
 pub mod Stands
 pub mod Tries
 pub mod Worlds
 -- private: what private contracts, proofs and worked runs alone cite
 pub mod Orderly
-pub mod Refusals
 pub mod Runs
 pub mod Served
 pub mod Turns

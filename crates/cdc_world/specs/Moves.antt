@@ -7,7 +7,7 @@ use Rattle.cdc_types.specs.declared.steps.Step.{Step}
 use Rattle.cdc_world.specs.Closed.{AllStay}
 use Rattle.cdc_world.specs.declared.steps.Did.{Did}
 use Rattle.cdc_world.specs.declared.steps.StepError.{StepError}
-use Rattle.cdc_world.specs.declared.steps.StepError.TheVariants.{NotEnabled, Refused, Store, SessionsExhausted, OutOfMemory}
+use Rattle.cdc_world.specs.declared.steps.StepError.TheVariants.{NotEnabled, Refused, Store, SessionsExhausted, OutOfMemory, StartNotAllowed}
 use Rattle.cdc_world.specs.Next.{Next, NextOver, loads}
 use Rattle.cdc_world.specs.Parts.{Parts}
 use Rattle.cdc_world.specs.Stands.{Stands}
@@ -91,3 +91,4 @@ IsStoreCounted before after (Err NotEnabled) = after ≡ before
 IsStoreCounted before after (Err (Refused why)) = after ≡ before
 IsStoreCounted before after (Err SessionsExhausted) = after ≡ before
 IsStoreCounted before after (Err OutOfMemory) = after ≡ before
+IsStoreCounted before after (Err StartNotAllowed) = after ≡ before

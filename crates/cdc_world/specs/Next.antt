@@ -1,6 +1,7 @@
 -- What a step answers, and the world after it.
 use Rattle.std.specs.Prelude.{◌≡◌, ◌⊎◌, ℕ, Bool, true, false, IsTrue, Option, Some, None, Result, Ok, Err, List, [], ◌∷◌, ◌++◌, take}
 use Rattle.std.specs.Option.{option_map}
+use Rattle.core.specs.Result.{result_ok}
 use Rattle.cdc_broker.specs.Cursors.{after_ack, after_delivery, delivery_at, rewound}
 use Rattle.cdc_broker.specs.Packets.{is_taken}
 use Rattle.cdc_ledger.specs.declared.errors.BatchError.{BatchError}
@@ -21,16 +22,18 @@ use Rattle.cdc_progress.specs.declared.errors.StoreError.TheVariants as store
 use Rattle.cdc_progress.specs.Records.{Saved}
 use Rattle.cdc_progress.specs.Stores.{IsRisked, Risks}
 use Rattle.cdc_publisher.specs.Courses.{Course, after_answer, begun, new_course, next_packet, progress_of, takes_confirm, next_poll, with_offer, with_sent}
+use Rattle.cdc_publisher.specs.declared.errors.StartError.{StartError}
 use Rattle.cdc_publisher.specs.declared.session.Poll.{Poll}
 use Rattle.cdc_subscriber.specs.Answers.{answer_to}
 use Rattle.cdc_subscriber.specs.Heard.{kept_of, next as next_heard}
 use Rattle.cdc_types.specs.declared.batches.BatchResults.{BatchResults}
 use Rattle.cdc_types.specs.declared.steps.Step.{Step}
-use Rattle.cdc_types.specs.declared.steps.Step.TheVariants.{Submit, CloseLedger, Start, Crash, Poll as PollStep, Publish as PublishStep, Arrive, Answer, Save, Send, Rewind, Break, Take, Ack, Close}
+use Rattle.cdc_types.specs.declared.steps.Step.TheVariants.{Submit, CloseLedger, Start, StartAt, Crash, Poll as PollStep, Publish as PublishStep, Arrive, Answer, Save, Send, Rewind, Break, Take, Ack, Close}
 use Rattle.cdc_world.specs.declared.steps.Did.{Did}
 use Rattle.cdc_world.specs.declared.steps.Did.TheVariants.{Submitted, Arrived, Counted, Took, Done}
 use Rattle.cdc_world.specs.declared.steps.StepError.{StepError}
-use Rattle.cdc_world.specs.declared.steps.StepError.TheVariants.{NotEnabled, Refused, Store, SessionsExhausted, OutOfMemory}
+use Rattle.cdc_world.specs.declared.steps.StepError.TheVariants.{NotEnabled, Refused, Store, SessionsExhausted, OutOfMemory, StartNotAllowed}
+use Rattle.cdc_world.specs.Refusals.{start_refusal}
 use Rattle.cdc_world.specs.Worlds.{Subscription, WorldState, new_world, numbered, queue_in, with_numbered}
 
 -- what a step does, where memory and the store allow it: its answer and the world after it, or why it isn't done
@@ -60,15 +63,15 @@ with_ledger_closed w = record w { history = record w.history { closed = true } }
 
 -- ---- the connector
 
--- a session starts once its number is saved, if there is one
-abbrev pub with_session : WorldState → Option Saved → Outcome
-with_session w (Some saved) = success (record w { held = Some saved; session = Some (new_course saved w.window) })
-with_session w None = Err SessionsExhausted
+-- a session starts once its number is saved, or it doesn't start
+abbrev pub with_session : WorldState → Result Saved StartError → Outcome
+with_session w (Ok saved) = success (record w { held = Some saved; session = Some (new_course saved w.window) })
+with_session w (Err why) = Err (start_refusal why)
 
--- the same where the connector is down
-abbrev pub with_start : WorldState → Option Course → Outcome
-with_start w None = with_session w (begun w.held)
-with_start w (Some course) = Err NotEnabled
+-- the same where the connector is down, after a moment that is asked for or not
+abbrev pub with_start : WorldState → Option ℕ → Option Course → Outcome
+with_start w at None = with_session w (begun w.held at)
+with_start w at (Some course) = Err NotEnabled
 
 -- the connector crashes: its session is gone
 abbrev pub with_crash : WorldState → WorldState
@@ -180,11 +183,17 @@ with_close s = record s { heard = record s.heard { closed = true } }
 
 -- ---- all steps
 
+-- the step that starts a session after a moment that is asked for or not
+abbrev pub start_after : Option ℕ → Step
+start_after None = Start
+start_after (Some moment) = StartAt moment
+
 -- what a step answers and does
 abbrev pub next : WorldState → Step → Outcome
 next w (Submit batch) = with_batch w (submit w.history batch)
 next w CloseLedger = success (with_ledger_closed w)
-next w Start = with_start w w.session
+next w Start = with_start w None w.session
+next w (StartAt moment) = with_start w (Some moment) w.session
 next w Crash = w.session >>= (λ course. success (with_crash w))
 next w PollStep = w.session >>= (λ course. next_poll course >>= (λ poll. success (with_poll w course poll)))
 next w PublishStep = w.session >>= (λ course. next_packet course >>= (λ packet. success (with_packet w course packet)))
@@ -203,13 +212,15 @@ next w (Close i) = numbered w.subscriptions i >>= (λ s. success (with_subscript
 
 -- what a step saves, if it is one that does
 abbrev pub saves : WorldState → Step → Option Saved
-saves w Start = begun w.held
+saves w Start = result_ok (begun w.held None)
+saves w (StartAt moment) = result_ok (begun w.held (Some moment))
 saves w Save = option_map progress_of w.session
 saves w _ = None
 
 -- the step reads or writes the store
 abbrev pub uses_store : Step → Bool
 uses_store Start = true
+uses_store (StartAt moment) = true
 uses_store Save = true
 uses_store _ = false
 
@@ -224,15 +235,17 @@ takes_memory (Ack i k) = false
 takes_memory (Close i) = false
 takes_memory _ = true
 
--- the step isn't refused by any of the actors, or only for want of a further session
+-- the step isn't refused by any of the actors, or only as a session doesn't start, which is found once the store has loaded
 abbrev pub IsTried : Outcome → Type 0
 IsTried (Ok after) = Unit {0}
 IsTried (Err SessionsExhausted) = Unit {0}
+IsTried (Err StartNotAllowed) = Unit {0}
 IsTried (Err _) = ⊥
 
 -- the step reads the store
 abbrev pub loads : Step → Bool
 loads Start = true
+loads (StartAt moment) = true
 loads _ = false
 
 -- the world after a store failed: as it was, where it failed to load; as it was or with the new record held, where it
@@ -251,6 +264,7 @@ Next w step (Ok did) w' = next w step ≡ Ok (did, w')
 Next w step (Err NotEnabled) w' = (next w step ≡ Err NotEnabled) × (w' ≡ w)
 Next w step (Err (Refused why)) w' = (next w step ≡ Err (Refused why)) × (w' ≡ w)
 Next w step (Err SessionsExhausted) w' = (next w step ≡ Err SessionsExhausted) × (w' ≡ w)
+Next w step (Err StartNotAllowed) w' = (next w step ≡ Err StartNotAllowed) × (w' ≡ w)
 Next w step (Err OutOfMemory) w' = IsTrue (takes_memory step) × (IsTried (next w step) × (w' ≡ w))
 Next w step (Err (Store why)) w' =
     IsTrue (uses_store step) × (IsTried (next w step) × AfterFailure w step why w')
@@ -264,6 +278,7 @@ IsStepRisked risks outcome (Err (Refused why)) = Unit {0}
 IsStepRisked risks outcome (Err (Store why)) = IsRisked risks why
 IsStepRisked risks outcome (Err SessionsExhausted) = Unit {0}
 IsStepRisked risks outcome (Err OutOfMemory) = Unit {0}
+IsStepRisked risks outcome (Err StartNotAllowed) = Unit {0}
 
 -- so a step may be answered over a store of these risks, and leave this world
 abbrev pub NextOver : Risks → WorldState → Step → Result Did StepError → WorldState → Type 0
@@ -275,12 +290,13 @@ Leads w [] w' = w' ≡ w
 Leads w (step ∷ steps) w' =
     (answer : Result Did StepError) × (between : WorldState) × Next w step answer between × Leads between steps w'
 
--- nothing is held, or a record with the timestamp 0
+-- nothing is held, or a record whose timestamp is its start
 abbrev pub IsAtStart : Option Saved → Type 0
 IsAtStart None = Unit {0}
-IsAtStart (Some saved) = saved.timestamp ≡ 0
+IsAtStart (Some saved) = saved.timestamp ≡ saved.start
 
--- steps lead to this world from one in which nothing has happened, over a store that holds nothing or the timestamp 0
+-- steps lead to this world from one in which nothing has happened, over a store that holds nothing, or a timestamp that is
+-- its start
 pub record IsReached (w : WorldState) : Type 0 where
   pub bindings : List Arguments
   pub window : ℕ

@@ -1,4 +1,4 @@
--- Which refusal of a step stands for a refusal of one of the actors. Cited by private contracts alone.
+-- Which refusal of a step stands for a refusal of one of the actors.
 use Rattle.cdc_ledger.specs.declared.errors.BatchError.{BatchError}
 use Rattle.cdc_ledger.specs.declared.errors.BatchError.TheVariants as batch
 use Rattle.cdc_progress.specs.declared.errors.StoreError.{StoreError}
@@ -6,7 +6,7 @@ use Rattle.cdc_progress.specs.declared.errors.StoreError.TheVariants as store
 use Rattle.cdc_publisher.specs.declared.errors.StartError.{StartError}
 use Rattle.cdc_publisher.specs.declared.errors.StartError.TheVariants as start
 use Rattle.cdc_world.specs.declared.steps.StepError.{StepError}
-use Rattle.cdc_world.specs.declared.steps.StepError.TheVariants.{Refused, Store, SessionsExhausted, OutOfMemory}
+use Rattle.cdc_world.specs.declared.steps.StepError.TheVariants.{Refused, Store, SessionsExhausted, OutOfMemory, StartNotAllowed}
 
 -- the ledger's, of a batch
 abbrev pub batch_refusal : BatchError → StepError
@@ -27,3 +27,4 @@ abbrev pub start_refusal : StartError → StepError
 start_refusal (start.Store why) = Store why
 start_refusal start.SessionsExhausted = SessionsExhausted
 start_refusal start.OutOfMemory = OutOfMemory
+start_refusal start.StartNotAllowed = StartNotAllowed

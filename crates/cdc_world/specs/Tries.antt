@@ -3,7 +3,7 @@ use Rattle.std.specs.Prelude.{◌≡◌, ◌≤◌, ℕ, zero, suc, Bool, true, 
 use Rattle.cdc_types.specs.declared.steps.Step.{Step}
 use Rattle.cdc_world.specs.declared.steps.Did.{Did}
 use Rattle.cdc_world.specs.declared.steps.StepError.{StepError}
-use Rattle.cdc_world.specs.declared.steps.StepError.TheVariants.{NotEnabled, Refused, Store, SessionsExhausted, OutOfMemory}
+use Rattle.cdc_world.specs.declared.steps.StepError.TheVariants.{NotEnabled, Refused, Store, SessionsExhausted, OutOfMemory, StartNotAllowed}
 use Rattle.cdc_progress.specs.Stores.{Risks}
 use Rattle.cdc_world.specs.Moves.{MovesBy}
 use Rattle.cdc_world.specs.Next.{NextOver}
@@ -18,6 +18,7 @@ is_passing (Err (Refused why)) = false
 is_passing (Err (Store why)) = true
 is_passing (Err SessionsExhausted) = false
 is_passing (Err OutOfMemory) = true
+is_passing (Err StartNotAllowed) = false
 
 -- this many tries of a step over a store of these risks, one after another, each of them answered so
 abbrev pub FailsTimes : Risks → ℕ → WorldState → Step → WorldState → Type 0

@@ -20,7 +20,7 @@ use Rattle.cdc_subscriber.specs.declared.subscriber.Taking.{Taking}
 use Rattle.cdc_types.specs.declared.steps.Step.{Step}
 use Rattle.cdc_world.specs.declared.steps.Did.{Did}
 use Rattle.cdc_world.specs.declared.steps.StepError.{StepError}
-use Rattle.cdc_world.specs.declared.steps.StepError.TheVariants.{NotEnabled, Refused, Store, SessionsExhausted, OutOfMemory}
+use Rattle.cdc_world.specs.declared.steps.StepError.TheVariants.{NotEnabled, Refused, Store, SessionsExhausted, OutOfMemory, StartNotAllowed}
 use Rattle.cdc_laws.specs.Readings.{none_follow}
 use Rattle.cdc_world.specs.Next.{Next, confirms_of}
 use Rattle.cdc_world.specs.Parts.{ActorParts, SubscriptionParts}
@@ -34,6 +34,7 @@ IsNotOfStore NotEnabled = Unit {0}
 IsNotOfStore (Refused why) = Unit {0}
 IsNotOfStore SessionsExhausted = Unit {0}
 IsNotOfStore OutOfMemory = Unit {0}
+IsNotOfStore StartNotAllowed = Unit {0}
 
 -- nor is one that is done
 abbrev pub IsOfActors : Result Did StepError → Type 0

@@ -2,6 +2,7 @@
 use Rattle.std.specs.Prelude.{ℕ, ◌-◌, ◌==◌, Option, None, List, [], map, slice_get, slice_set, if◌then◌else◌}
 use Rattle.cdc_broker.specs.Cursors.{Cursor, first_cursor}
 use Rattle.cdc_broker.specs.Packets.{items_of}
+use Rattle.cdc_laws.specs.Connectors.{held_start}
 use Rattle.cdc_ledger.specs.History.{History, empty_history}
 use Rattle.cdc_match.specs.Arguments.{Arguments}
 use Rattle.cdc_match.specs.Queue.{queue}
@@ -68,6 +69,10 @@ numbered xs k = if k == 0 then None else slice_get xs (k - 1)
 -- the list with another element under this number
 abbrev pub with_numbered : {X : Type 0} → ℕ → X → List X → List X
 with_numbered k x xs = slice_set xs (k - 1) x
+
+-- the start: the moment after which the connector tells events; 0 where none has been saved
+abbrev pub start_of : WorldState → ℕ
+start_of w = held_start w.held
 
 -- the items that the broker took, in order
 abbrev pub taken_items : WorldState → List Item

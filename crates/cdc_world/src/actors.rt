@@ -154,7 +154,7 @@ impl Actors {
             Step::Take(i) => self.take(alloc, *i),
             Step::Ack(i, k) => self.ack(*i, *k),
             Step::Close(i) => self.close(*i),
-            Step::Start | Step::Save => unreachable!(),
+            Step::Start | Step::StartAt(_) | Step::Save => unreachable!(),
         }
     }
 

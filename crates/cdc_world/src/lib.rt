@@ -10,7 +10,7 @@ pub mod steps;
 mod subscriptions;
 pub mod world;
 
-pub use cdc_types::Step;
+pub use cdc_types::{Moment, Step};
 pub use laws::world_laws;
 pub use steps::{Did, StepError};
 pub use world::{Played, World};

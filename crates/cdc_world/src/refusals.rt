@@ -45,6 +45,7 @@ impl From<StartError> for StepError {
             StartError::Store(error) => StepError::Store(error),
             StartError::SessionsExhausted => StepError::SessionsExhausted,
             StartError::OutOfMemory => StepError::OutOfMemory,
+            StartError::StartNotAllowed => StepError::StartNotAllowed,
         }
     }
 }

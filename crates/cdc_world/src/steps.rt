@@ -42,6 +42,9 @@ pub enum StepError {
     /// No memory was left.
     #[error("out_of_memory")]
     OutOfMemory,
+    /// A session may start after a moment only where no progress is saved.
+    #[error("start_not_allowed")]
+    StartNotAllowed,
 }
 
 impl StepError {
@@ -55,6 +58,7 @@ impl StepError {
             StepError::Store(_) => 3,
             StepError::SessionsExhausted => 4,
             StepError::OutOfMemory => 5,
+            StepError::StartNotAllowed => 6,
         }
     }
 
@@ -68,6 +72,7 @@ impl StepError {
             StepError::Store(_) => "store",
             StepError::SessionsExhausted => "sessions_exhausted",
             StepError::OutOfMemory => "out_of_memory",
+            StepError::StartNotAllowed => "start_not_allowed",
         }
     }
 }

@@ -5,12 +5,12 @@ ghost use Rattle.cdc_laws.specs.Faithful.{IsFaithful, kept_from};
 ghost use Rattle.cdc_progress.specs.Stores.{IsRisked, MayRefuseLoad};
 ghost use Rattle.cdc_subscriber.specs.Heard.{kept_of};
 ghost use Rattle.cdc_types.specs.Windows.{IsWindow};
-ghost use Rattle.cdc_types.specs.declared.steps.Step.TheVariants.{Save, Start};
+ghost use Rattle.cdc_types.specs.declared.steps.Step.TheVariants.{Save};
 ghost use Rattle.cdc_world.specs.Moves.{IsStoreCounted, Moves, PlayFixesClosed, PlayFixesClosedBy, Plays, PlaysBy, StepFixesClosed};
-ghost use Rattle.cdc_world.specs.Next.{IsReached};
+ghost use Rattle.cdc_world.specs.Next.{IsReached, start_after};
 ghost use Rattle.cdc_world.specs.Stands.{Stands};
 ghost use Rattle.cdc_world.specs.Tries.{MovesPast, NextPast, is_passing};
-ghost use Rattle.cdc_world.specs.Worlds.{Subscription, WorldState, new_world, numbered};
+ghost use Rattle.cdc_world.specs.Worlds.{Subscription, WorldState, new_world, numbered, start_of};
 
 use crate::actors::Actors;
 use crate::steps::{Did, StepError};
@@ -19,7 +19,7 @@ use cdc_match::Binding;
 use cdc_progress::{Progress, ProgressStore, StoreError};
 use cdc_publisher::Session;
 use cdc_subscriber::Subscriber;
-use cdc_types::Step;
+use cdc_types::{Moment, Step};
 use std::alloc::{AllocError, Global};
 use std::marker::Model;
 
@@ -99,7 +99,8 @@ impl<S: ProgressStore> World<S> {
         ensures risks { self.new.risks ≡ self.old.risks }
     {
         match step {
-            Step::Start => self.start(alloc),
+            Step::Start => self.start(alloc, None),
+            Step::StartAt(moment) => self.start(alloc, Some(*moment)),
             Step::Save => self.save(),
             _ => self.actors.step(alloc, step),
         }
@@ -147,8 +148,9 @@ impl<S: ProgressStore> World<S> {
     }
 
     /// The subscriber of this number, from 1 on. In every world that steps lead to, what it has applied is a beginning of the
-    /// ledger's events that its binding takes, and complete once it has ended; what it keeps is told by that; and where its
-    /// binding takes every event, its book has the ledger's balances as of the last one that it has applied.
+    /// ledger's events after the start that its binding takes, and complete once it has ended; what it keeps is told by that;
+    /// and where its binding takes every event, its book has just their accounts, with the ledger's balances as of the last
+    /// one that it has applied.
     pub fn subscriber(&self, i: usize) -> &Subscriber
         requires first { 0 < i }
         requires last { i ≤ length self.now.actors.subscriptions }
@@ -158,7 +160,7 @@ impl<S: ProgressStore> World<S> {
             → numbered w.subscriptions i ≡ Some s → result.now ≡ kept_from s.heard }
         ensures faithful { (w : WorldState) → Stands self.now w → IsReached w → (s : Subscription)
             → numbered w.subscriptions i ≡ Some s
-            → IsFaithful w.history s.binding s.heard }
+            → IsFaithful w.history (start_of w) s.binding s.heard }
     {
         &self.actors.subscription(i).subscriber
     }
@@ -237,9 +239,9 @@ impl<S: ProgressStore> World<S> {
         self.step(alloc, step)
     }
 
-    /// The connector starts a session, where it is down.
-    fn start(&mut self, alloc: Global) -> Result<Did, StepError>
-        ensures next { Moves self.old Start result self.new }
+    /// The connector starts a session, where it is down; after a moment, where one is asked for.
+    fn start(&mut self, alloc: Global, at: Option<Moment>) -> Result<Did, StepError>
+        ensures next { Moves self.old (start_after at) result self.new }
         ensures counted { IsStoreCounted self.old.failed self.new.failed result }
         ensures honest { self.new.honest ≡ self.old.honest }
         ensures risks { self.new.risks ≡ self.old.risks }
@@ -247,7 +249,7 @@ impl<S: ProgressStore> World<S> {
         if self.actors.session().is_some() {
             return Err(StepError::NotEnabled);
         }
-        let session = Session::start(alloc, &mut self.store, self.actors.window())?;
+        let session = Session::start(alloc, &mut self.store, self.actors.window(), at)?;
         self.actors.begin(session);
         Ok(Did::Done)
     }
