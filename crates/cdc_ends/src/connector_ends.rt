@@ -10,6 +10,7 @@ use crate::turns::Turn;
 use cdc_links::{LinkIn, LinkOut};
 use cdc_progress::ProgressStore;
 use cdc_traffic::{ToBroker, ToConnector, ToLedger};
+use cdc_types::Moment;
 use std::alloc::Global;
 use std::marker::Model;
 use std::sync::Wait;
@@ -46,8 +47,8 @@ impl<S: ProgressStore> Model for ConnectorEnd<S> {
 }
 
 impl<S: ProgressStore> ConnectorEnd<S> {
-    /// The end of a connector that has said nothing yet, over its store. A session waits for `window` events at a
-    /// time. The connector restarts after its publish packets of the numbers in `restart_after`, which are counted from
+    /// The end of a connector that has said nothing yet, over its store. Its first session is told to start after the
+    /// moment `start`, if there is one; no later session is told so. A session waits for `window` events at a time. The connector restarts after its publish packets of the numbers in `restart_after`, which are counted from
     /// 1 over the whole run: it drops its session and starts the next.
     pub fn new(
         system: u64,
@@ -55,6 +56,7 @@ impl<S: ProgressStore> ConnectorEnd<S> {
         polls: LinkOut<ToLedger>,
         packets: LinkOut<ToBroker>,
         store: S,
+        start: Option<Moment>,
         window: usize,
         restart_after: Vec<u64>,
     ) -> ConnectorEnd<S>
@@ -74,7 +76,7 @@ impl<S: ProgressStore> ConnectorEnd<S> {
     {
         ConnectorEnd {
             system,
-            work: Publishing::new(inbox, polls, packets, store, window, restart_after),
+            work: Publishing::new(inbox, polls, packets, store, start, window, restart_after),
             fault: None,
         }
     }

@@ -18,11 +18,12 @@ use cdc_message::{Answer, Confirm, Packet};
 use cdc_progress::ProgressStore;
 use cdc_publisher::Session;
 use cdc_traffic::{Poll, PollReply, ToBroker, ToConnector, ToLedger};
+use cdc_types::Moment;
 use std::alloc::Global;
 use std::marker::Model;
 use std::sync::Wait;
 
-/// A connector's ends of its links, its store, its session, if one runs, with how many polls that has sent and the one
+/// A connector's ends of its links, its store, the moment that its first session is told to start after, its session, if one runs, with how many polls that has sent and the one
 /// that is open; how many packets are without an answer; after which publish packets it restarts, and how many it has
 /// sent; and whether it has finished.
 pub(crate) struct Publishing<S: ProgressStore> {
@@ -30,6 +31,7 @@ pub(crate) struct Publishing<S: ProgressStore> {
     polls: LinkOut<ToLedger>,
     packets: LinkOut<ToBroker>,
     store: S,
+    start: Option<Moment>,
     first: Option<u64>,
     session: Option<Session>,
     asked: u64,
@@ -49,6 +51,7 @@ impl<S: ProgressStore + Drop> Drop for Publishing<S> {
             polls: _,
             packets: _,
             store: _,
+            start: _,
             first: _,
             session: _,
             asked: _,
@@ -205,6 +208,7 @@ impl<S: ProgressStore> Publishing<S> {
         polls: LinkOut<ToLedger>,
         packets: LinkOut<ToBroker>,
         store: S,
+        start: Option<Moment>,
         window: usize,
         restart_after: Vec<u64>,
     ) -> Publishing<S>
@@ -216,6 +220,7 @@ impl<S: ProgressStore> Publishing<S> {
             polls,
             packets,
             store,
+            start,
             first: None,
             session: None,
             asked: 0,
@@ -245,6 +250,7 @@ impl<S: ProgressStore> Publishing<S> {
             polls,
             packets,
             store,
+            start: _,
             first: _,
             session: _,
             asked: _,
@@ -275,7 +281,8 @@ impl<S: ProgressStore> Publishing<S> {
         requires { IsWindow self.old.window }
         ensures { IfOk result (λ _. IsBegun self.old self.new) }
     {
-        let session = Session::start(alloc, &mut self.store, self.window)?;
+        let session = Session::start(alloc, &mut self.store, self.window, self.start)?;
+        self.start = None;
         self.first = Some(first_base(self.first, &session));
         self.session = Some(session);
         self.asked = 0;

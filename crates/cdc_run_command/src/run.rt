@@ -109,6 +109,7 @@ fn run_clients<T: Threads + Wait + Sync, S: ProgressStore + Send + Drop, G: Gate
         window,
         prefetch,
         faults,
+        start,
     } = plan;
     let config = Config {
         system: SYSTEM,
@@ -116,6 +117,7 @@ fn run_clients<T: Threads + Wait + Sync, S: ProgressStore + Send + Drop, G: Gate
         clients,
         window,
         prefetch,
+        start,
     };
     let report = match run(rt, alloc, config, scripts, faults, store, gate) {
         Ok(report) => report,
