@@ -163,6 +163,7 @@ fn config_of(rt: &impl Abort, alloc: Global) -> Config
         clients: 1,
         window: 1,
         prefetch: 8,
+        start: None,
     }
 }
 
