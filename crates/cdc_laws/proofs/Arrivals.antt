@@ -11,10 +11,11 @@ use Rattle.cdc_ledger.specs.History.{History}
 use Rattle.cdc_ledger.specs.Sound.{IsSound}
 use Rattle.cdc_laws.specs.Arrivals.{AreAmong, AreOfTaken, taken_after, taken_of}
 use Rattle.cdc_laws.specs.ConnectorRuns.{AreSessions, IsConfirmed, IsConnectorRun, Shown, sent_by}
-use Rattle.cdc_laws.specs.Line.{line, line_after}
+use Rattle.cdc_laws.specs.Line.{line_after}
 use Rattle.cdc_laws.proofs.Bases.{bases_taken, prefix_at}
 use Rattle.cdc_laws.specs.Takings.{HasTakenUpTo}
-use Rattle.cdc_laws.proofs.Lines.{line_splits, split_events}
+use Rattle.cdc_laws.proofs.Lines.{line_splits, split_after}
+use Rattle.cdc_laws.proofs.LongerRuns.{each_late}
 use Rattle.cdc_laws.proofs.Places.{Contains_slice_get, each_from, each_has, none_there, slice_get-before, slice_get-behind}
 use Rattle.cdc_laws.proofs.Replays.{from_places}
 use Rattle.cdc_laws.proofs.Sessions.{IsPublished, IsPublished-sent, follows, one_session}
@@ -64,25 +65,26 @@ IsReplay-behind all f front rest k item replay whole has there earlier =
 
 -- ---- what a broker has taken, packet by packet
 
--- of a session that is current: every event up to its base was taken, and every item of it before this tag
-record IsUpTo (h : History) (items : List Item) (s : Shown) (next : ℕ) : Type 0 where
-  base : HasTakenUpTo h items s.base
+-- of a session that is current: every event after the start and up to its base was taken, and every item of it before
+-- this tag
+record IsUpTo (h : History) (start : ℕ) (items : List Item) (s : Shown) (next : ℕ) : Type 0 where
+  base : HasTakenUpTo h start items s.base
   before : (k : ℕ) (x : Item) → k + 1 < next → slice_get (line_after h s.base) k ≡ Some x → Contains items x
 
-module _ (h : History) (sound : IsSound h) (confirms : List Confirm) (sessions : List Shown)
-    (each : AreSessions h confirms sessions) where
+module _ (h : History) (sound : IsSound h) (start : ℕ) (confirms : List Confirm) (sessions : List Shown)
+    (each : AreSessions h start confirms sessions) where
   -- what was taken was sent, is a replay of the line, and of the current session there is no gap
   record IsInTurn (taken : List Packet) : Type 0 where
     sent : AreAmong taken (sent_by sessions)
-    replay : IsReplay (items_of taken) (line h)
+    replay : IsReplay (items_of taken) (line_after h start)
     current : (s : Shown) → Contains sessions s → s.number ≡ current_session taken → (next : ℕ)
-        → expected_tag taken ≡ Some next → IsUpTo h (items_of taken) s next
+        → expected_tag taken ≡ Some next → IsUpTo h start (items_of taken) s next
 
   -- before anything has come
   IsInTurn-nil : IsInTurn []
   IsInTurn-nil = record {
     sent = λ packet there. absurd (none_there packet there);
-    replay = IsReplay-nil (line h);
+    replay = IsReplay-nil (line_after h start);
     current = λ s there number next expected. absurd (none-some next expected);
   }
 
@@ -95,7 +97,7 @@ module _ (h : History) (sound : IsSound h) (confirms : List Confirm) (sessions :
       let found : IsPublished sessions s.number (place + 1) other =
       IsPublished-sent sessions s.number (place + 1) other (sent (Publish s.number (place + 1) other) there) in
       let same : found.session ≡ s =
-      one_session h confirms sessions found.session s each found.among among found.its in
+      one_session h start confirms sessions found.session s each found.among among found.its in
       let places : found.place ≡ place = omega (arith, found.tagged) in
       let is : slice_get s.items place ≡ Some other =
       subst (λ n. slice_get s.items n ≡ Some other) places
@@ -133,14 +135,14 @@ module _ (h : History) (sound : IsSound h) (confirms : List Confirm) (sessions :
               | inl old ↦ is.sent packet old
               | inr new ↦ subst (Contains (sent_by sessions)) new was_sent
             ];
-        replay = subst (λ items. IsReplay items (line h)) (sym same) is.replay;
+        replay = subst (λ items. IsReplay items (line_after h start)) (sym same) is.replay;
         current = λ s among its next expected.
             let first : 1 ≡ next = same_Some 1 next (sym (expected_tag-push taken (Connect session)) ∙ expected) in
-            let base : HasTakenUpTo h (items_of taken) s.base =
-            bases_taken h sound confirms session (items_of taken) sessions each was_taken s among
+            let base : HasTakenUpTo h start (items_of taken) s.base =
+            bases_taken h sound start confirms session (items_of taken) sessions each was_taken s among
             (omega (arith, its, number)) in
             record {
-              base = subst (λ items. HasTakenUpTo h items s.base) (sym same) base;
+              base = subst (λ items. HasTakenUpTo h start items s.base) (sym same) base;
               before = λ k x below here. absurd (omega (arith, below, first));
             };
       }
@@ -164,16 +166,18 @@ module _ (h : History) (sound : IsSound h) (confirms : List Confirm) (sessions :
       let s : Shown = found.session in
       let here : slice_get (line_after h s.base) found.place ≡ Some item =
       prefix_at s.items (line_after h s.base) found.place item
-      (follows h confirms sessions s each found.among).may.items found.here in
-      let up_to : IsUpTo h (items_of taken) s tag = is.current s found.among (found.its ∙ its) tag expected in
-      let cut = split_events h s.base sound in
+      (follows h start confirms sessions s each found.among).may.items found.here in
+      let up_to : IsUpTo h start (items_of taken) s tag = is.current s found.among (found.its ∙ its) tag expected in
+      let cut = split_after h start s.base sound (each_late h sound start confirms sessions each s found.among) in
       let front : AllByRecursion (λ e. Contains (items_of taken) (OfEvent e)) cut.0 =
       each_from (λ e. Contains (items_of taken) (OfEvent e)) cut.0
-      (λ e there. up_to.base e (rw cut.1.whole (Contains-append_left cut.0 (events_after s.base (events h)) e there))
+      (λ e there. up_to.base e
+      (subst (λ (es : List Event). Contains es e) (sym cut.1.whole)
+      (Contains-append_left cut.0 (events_after s.base (events h)) e there))
       (each_has (λ x. x.timestamp ≤ s.base) cut.0 e cut.1.low there)) in
-      let replay : IsReplay (items_of taken ++ item ∷ []) (line h) =
-      IsReplay-behind (items_of taken) (line h) (map OfEvent cut.0) (line_after h s.base) found.place item is.replay
-      (line_splits h s.base cut.0 cut.1) (each_of_map (Contains (items_of taken)) cut.0 front) here
+      let replay : IsReplay (items_of taken ++ item ∷ []) (line_after h start) =
+      IsReplay-behind (items_of taken) (line_after h start) (map OfEvent cut.0) (line_after h s.base) found.place item is.replay
+      (line_splits h start s.base cut.0 cut.1) (each_of_map (Contains (items_of taken)) cut.0 front) here
       (λ i x below at. up_to.before i x (omega (arith, below, found.tagged)) at) in
       record {
         sent = λ other there.
@@ -181,14 +185,14 @@ module _ (h : History) (sound : IsSound h) (confirms : List Confirm) (sessions :
               | inl old ↦ is.sent other old
               | inr new ↦ subst (Contains (sent_by sessions)) new was_sent
             ];
-        replay = subst (λ items. IsReplay items (line h)) (sym pushed) replay;
+        replay = subst (λ items. IsReplay items (line_after h start)) (sym pushed) replay;
         current = λ t among number next expects.
             let current : current_session after ≡ current_session taken = current_session-push taken packet in
             let same : s ≡ t =
-            one_session h confirms sessions s t each found.among among
+            one_session h start confirms sessions s t each found.among among
             (found.its ∙ its ∙ sym current ∙ sym number) in
             let is_next : next ≡ tag + 1 = tag_after-is tag next (sym (expected_tag-push taken packet) ∙ expects) in
-            subst (λ (x : Shown). IsUpTo h (items_of after) x next) same
+            subst (λ (x : Shown). IsUpTo h start (items_of after) x next) same
             (record {
               base = λ e there low. more (OfEvent e) (up_to.base e there low);
               before = λ k x below at.
@@ -239,12 +243,12 @@ module _ (h : History) (sound : IsSound h) (confirms : List Confirm) (sessions :
             subst (λ ps. IsInTurn (fold taken_after ps rest)) (sym same) (IsInTurn-all taken rest of_taken others is)
       ]
 
--- so whatever arrives of what a connector has sent, what a broker takes of it is a replay of the line
-pub IsReplay-taken : (h : History) (sent arrived : List Packet) (confirms : List Confirm) → IsSound h
-    → IsConnectorRun h sent confirms → AreAmong arrived sent → AreOfTaken confirms (taken_of arrived)
-    → IsReplay (items_of (taken_of arrived)) (line h)
-IsReplay-taken h sent arrived confirms sound run among confirmed =
+-- so whatever arrives of what a connector has sent, what a broker takes of it is a replay of the line after the start
+pub IsReplay-taken : (h : History) (start : ℕ) (sent arrived : List Packet) (confirms : List Confirm) → IsSound h
+    → IsConnectorRun h start sent confirms → AreAmong arrived sent → AreOfTaken confirms (taken_of arrived)
+    → IsReplay (items_of (taken_of arrived)) (line_after h start)
+IsReplay-taken h start sent arrived confirms sound run among confirmed =
     let came : AreAmong arrived (sent_by run.sessions) =
     λ packet there. subst (λ ps. Contains ps packet) (sym run.makes) (among packet there) in
-    (IsInTurn-all h sound confirms run.sessions run.each [] arrived confirmed came
-    (IsInTurn-nil h sound confirms run.sessions run.each)).replay
+    (IsInTurn-all h sound start confirms run.sessions run.each [] arrived confirmed came
+    (IsInTurn-nil h sound start confirms run.sessions run.each)).replay

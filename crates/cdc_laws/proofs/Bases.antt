@@ -1,4 +1,4 @@
--- When a session connects to a broker, every event up to the moment after which it begins was taken.
+-- When a session connects to a broker, every event after the start and up to the moment after which it begins was taken.
 use Rattle.std.proofs.Common.{◌≡◌, ℕ, zero, suc, ◌+◌, ◌<◌, ◌≤◌, Bool, true, false, List, [], ◌∷◌, length, get_or, map, refl, sym, ap, ◌∙◌, subst, inl, inr, arith}
 use Rattle.std.specs.Prelude.{Contains, Some, slice_get}
 use Rattle.std.specs.Option.{option_map}
@@ -13,7 +13,7 @@ use Rattle.cdc_laws.specs.Line.{end_mark_if, line_after, told}
 use Rattle.cdc_laws.specs.Takings.{HasTakenUpTo}
 use Rattle.cdc_laws.proofs.Lines.{split_events}
 use Rattle.cdc_laws.proofs.Places.{Contains-cons_cases, each_has, none_there, slice_get-append, slice_get-before}
-use Rattle.cdc_laws.proofs.Rising.{RiseFrom-earlier, TimestampsRise-from, all_later, events_rise}
+use Rattle.cdc_laws.proofs.Rising.{RiseFrom-earlier, TimestampsRise-from, all_later}
 use Rattle.cdc_laws.proofs.Sessions.{follows}
 use Rattle.cdc_log.specs.Log.{RiseFrom, events_after}
 use Rattle.cdc_message.specs.declared.items.Item.{Item}
@@ -70,7 +70,7 @@ prefix_has {X} some all k x front below there =
     ∙ ap (λ (xs : List X). slice_get xs k) front.whole
     ∙ there
 
-module _ (h : History) (sound : IsSound h) where
+module _ (h : History) (sound : IsSound h) (start : ℕ) where
   -- an event after a moment stands among those after it
   after_at : (t : ℕ) (e : Event) → Contains (events h) e → t < e.timestamp
       → (k : ℕ) × (slice_get (events_after t (events h)) k ≡ Some e)
@@ -86,11 +86,19 @@ module _ (h : History) (sound : IsSound h) where
         )
       ]
 
-  -- no event is at 0
-  none_at_start : (taken : List Item) → HasTakenUpTo h taken 0
+  -- an event after the start is one of the ledger's
+  of_all : (e : Event) → Contains (events_after start (events h)) e → Contains (events h) e
+  of_all e there =
+      let cut = split_events h start sound in
+      subst (λ (es : List Event). Contains es e) (sym cut.1.whole)
+      (Contains-append_right cut.0 (events_after start (events h)) e there)
+
+  -- no event after the start is up to it
+  none_at_start : (taken : List Item) → HasTakenUpTo h start taken start
   none_at_start taken e there low =
-      let above : 0 < e.timestamp =
-      each_has (λ x. 0 < x.timestamp) (events h) e (all_later 0 (events h) (events_rise h sound)) there in
+      let es : List Event = events_after start (events h) in
+      let above : start < e.timestamp =
+      each_has (λ x. start < x.timestamp) es e (all_later start es (split_events h start sound).1.rise) there in
       absurd (omega (arith, above, low))
 
   module _ (confirms : List Confirm) (n : ℕ) (taken : List Item) where
@@ -102,14 +110,14 @@ module _ (h : History) (sound : IsSound h) where
 
     -- an earlier session that is confirmed up to a moment had all its events up to then taken
     up_to_confirmed : (sessions : List Shown) (s : Shown) (moment : ℕ) → HasConfirmed sessions → Contains sessions s
-        → s.number < n → IsPrefix s.items (line_after h s.base) → HasTakenUpTo h taken s.base
-        → IsConfirmedTo confirms s moment → HasTakenUpTo h taken moment
+        → s.number < n → IsPrefix s.items (line_after h s.base) → HasTakenUpTo h start taken s.base
+        → IsConfirmedTo confirms s moment → HasTakenUpTo h start taken moment
     up_to_confirmed sessions s moment has among below front base is e there low =
         elim (cases_lt s.base e.timestamp) [
           | inl late ↦
               let es : List Event = events_after s.base (events h) in
               let rise : RiseFrom s.base es = (split_events h s.base sound).1.rise in
-              let found = after_at s.base e there late in
+              let found = after_at s.base e (of_all e there) late in
               let last : slice_get es is.place ≡ Some is.event =
               event_at es h.closed is.place is.event
               (prefix_at s.items (line_after h s.base) is.place (OfEvent is.event) front is.published) in
@@ -126,30 +134,30 @@ module _ (h : History) (sound : IsSound h) where
         ]
 
     -- a session of number n or below begins after such a moment, where those before it did
-    of_base : (earlier : List Shown) (x : Shown) → MayFollow h confirms earlier x → AreSessions h confirms earlier
+    of_base : (earlier : List Shown) (x : Shown) → MayFollow h start confirms earlier x → AreSessions h start confirms earlier
         → HasConfirmed earlier → x.number ≤ n
-        → ((t : Shown) → Contains earlier t → t.number ≤ n → HasTakenUpTo h taken t.base)
-        → IsBase confirms earlier x.base → HasTakenUpTo h taken x.base
+        → ((t : Shown) → Contains earlier t → t.number ≤ n → HasTakenUpTo h start taken t.base)
+        → IsBase start confirms earlier x.base → HasTakenUpTo h start taken x.base
     of_base earlier x may each has low before (inl none) =
-        subst (HasTakenUpTo h taken) (sym none) (none_at_start taken)
+        subst (HasTakenUpTo h start taken) (sym none) (none_at_start taken)
     of_base earlier x may each has low before (inr (t, among, inl same)) =
         let above : t.number < x.number = may.above t among in
-        subst (HasTakenUpTo h taken) same (before t among (omega (arith, above, low)))
+        subst (HasTakenUpTo h start taken) same (before t among (omega (arith, above, low)))
     of_base earlier x may each has low before (inr (t, among, inr is)) =
         let above : t.number < x.number = may.above t among in
         up_to_confirmed earlier t x.base has among (omega (arith, above, low))
-        (follows h confirms earlier t each among).may.items (before t among (omega (arith, above, low))) is
+        (follows h start confirms earlier t each among).may.items (before t among (omega (arith, above, low))) is
 
     -- so each such session begins after a moment up to which every event was taken
-    pub bases_taken : (sessions : List Shown) → AreSessions h confirms sessions → HasConfirmed sessions → (s : Shown)
-        → Contains sessions s → s.number ≤ n → HasTakenUpTo h taken s.base
+    pub bases_taken : (sessions : List Shown) → AreSessions h start confirms sessions → HasConfirmed sessions → (s : Shown)
+        → Contains sessions s → s.number ≤ n → HasTakenUpTo h start taken s.base
     bases_taken [] each has s there low = absurd (none_there s there)
     bases_taken (x ∷ earlier) each has s there low =
         let older : HasConfirmed earlier = λ t among. has t (Contains-append_right (x ∷ []) earlier t among) in
         elim (Contains-cons_cases x earlier s there) [
           | inl is ↦
               let number : x.number ≡ s.number = ap (λ (y : Shown). y.number) is in
-              subst (λ (y : Shown). HasTakenUpTo h taken y.base) is
+              subst (λ (y : Shown). HasTakenUpTo h start taken y.base) is
               (of_base earlier x each.0 each.1 older (omega (arith, low, number))
               (λ t among below. bases_taken earlier each.1 older t among below) each.0.base)
           | inr old ↦ bases_taken earlier each.1 older s old low

@@ -235,18 +235,19 @@ found_sums : (o : Option BookEntry) (id : ℕ) → (unwrap_or o (unseen id)).bal
 found_sums None id = refl
 found_sums (Some entry) id = refl
 
+-- so each account of a beginning of a ledger's events was shown last with its balances as of the last of these
+pub last_shown-prefix : (h : History) (told : List Event) → IsSound h → IsPrefix told (events h) → (id : ℕ)
+    → last_shown (flat_map sides told) id ≡ record { id = id; balances = as_of h (last_timestamp told) id }
+last_shown-prefix h told sound start id =
+    let number = found_id (reverse (flat_map sides told)) id in
+    let held : (last_shown (flat_map sides told) id).balances ≡ as_of h (last_timestamp told) id =
+    found_sums (seen id told) id ∙ (ap (λ o. unwrap_or o no_balances) (sym (balances_in-book_of told id))
+    ∙ holds-balances h told sound start id) in
+    ap₂ (λ (n : ℕ) (b : Balances). record { id = n; balances = b }) number held
+
 -- the whole book of a beginning of a ledger's events: the accounts that these have, in the order of their first
 -- appearance, each with the ledger's balances as of the last of these events
 pub book_of-prefix : (h : History) (told : List Event) → IsSound h → IsPrefix told (events h)
     → book_of told ≡ map (λ id. record { id = id; balances = as_of h (last_timestamp told) id }) (accounts_of told)
 book_of-prefix h told sound start =
-    map_same _ _ (accounts_of told) (AllByRecursion-every _ each (accounts_of told))
-  where
-    each : (id : ℕ)
-        → last_shown (flat_map sides told) id ≡ record { id = id; balances = as_of h (last_timestamp told) id }
-    each id =
-        let number = found_id (reverse (flat_map sides told)) id in
-        let held : (last_shown (flat_map sides told) id).balances ≡ as_of h (last_timestamp told) id =
-        found_sums (seen id told) id ∙ (ap (λ o. unwrap_or o no_balances) (sym (balances_in-book_of told id))
-        ∙ holds-balances h told sound start id) in
-        ap₂ (λ (n : ℕ) (b : Balances). record { id = n; balances = b }) number held
+    map_same _ _ (accounts_of told) (AllByRecursion-every _ (last_shown-prefix h told sound start) (accounts_of told))

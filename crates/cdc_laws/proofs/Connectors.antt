@@ -1,6 +1,6 @@
 -- A connector keeps to its ledger's history, whatever step it takes.
-use Rattle.std.proofs.Common.{◌≡◌, ℕ, ◌+◌, ◌-◌, ◌<◌, ◌≤◌, Bool, true, false, List, [], ◌∷◌, ◌++◌, length, take, refl, sym, ap, ap₂, ◌∙◌, subst, inl, inr, append_assoc, append-nil, arith}
-use Rattle.std.specs.Prelude.{◌==◌, ◌&&◌, not, nat_le, nat_lt, Contains, Option, Some, None, slice_get, if◌then◌else◌}
+use Rattle.std.proofs.Common.{◌≡◌, ℕ, ◌+◌, ◌-◌, ◌<◌, ◌≤◌, ◌⊎◌, Bool, true, false, List, [], ◌∷◌, ◌++◌, length, take, refl, sym, ap, ap₂, ◌∙◌, subst, inl, inr, append_assoc, append-nil, arith}
+use Rattle.std.specs.Prelude.{◌==◌, ◌&&◌, not, nat_le, nat_lt, Contains, Option, Some, None, Result, Ok, Err, slice_get, if◌then◌else◌}
 use Rattle.std.specs.List.{list_all}
 use Rattle.std.specs.Option.{option_map}
 use Rattle.std.proofs.lemmas.Bool.{and_parts, cases_Bool, eqb-false, eqb-true}
@@ -10,17 +10,16 @@ use Rattle.std.proofs.lemmas.List.Elements.{Contains-append_left, Contains-appen
 use Rattle.std.proofs.lemmas.Option.{cond_some, none-some, same_Some, slice_get_within}
 use Rattle.cdc_ledger.specs.Events.{events}
 use Rattle.cdc_ledger.specs.History.{History}
-use Rattle.cdc_ledger.specs.Sound.{IsSound}
 use Rattle.cdc_laws.specs.Arrivals.{AreAmong}
 use Rattle.cdc_laws.specs.ConnectorRuns.{AreConfirmed, AreSessions, IsBase, IsConfirmed, IsConfirmedTo, IsConnectorRun, Shown, packets_of, publishes_from, sent_by}
-use Rattle.cdc_laws.specs.Connectors.{ConnectorState, IsLive, KeepsTo, SendsInTurn, StandsLast, after_confirm, held_number, held_timestamp, shown_of}
+use Rattle.cdc_laws.specs.Connectors.{ConnectorState, IsLive, KeepsTo, SendsInTurn, StandsLast, after_confirm, held_number, held_start, held_timestamp, shown_of}
 use Rattle.cdc_laws.specs.GoingOn.{GoesOn}
 use Rattle.cdc_laws.specs.Line.{told}
 use Rattle.cdc_laws.proofs.Bases.{prefix_has, told_at}
 use Rattle.cdc_laws.proofs.Courses.{IsPrefix-take, MayFollow-course, confirmed_cases, each_number, end_at, publishes_from-push, reaches, take_one}
 use Rattle.cdc_laws.proofs.Lines.{events_after-goes_on}
 use Rattle.cdc_laws.proofs.Places.{Contains-cons_cases, none_there, slice_get-append}
-use Rattle.cdc_laws.proofs.LongerRuns.{AreSessions-goes_on, IsPrefix-longer, base_past}
+use Rattle.cdc_laws.proofs.LongerRuns.{AreSessions-goes_on, IsPrefix-longer}
 use Rattle.cdc_laws.proofs.Sessions.{AreConfirmed-more, AreSessions-more, IsBase-more}
 use Rattle.cdc_log.specs.Log.{events_after}
 use Rattle.cdc_message.specs.declared.items.Item.{Item}
@@ -32,23 +31,27 @@ use Rattle.cdc_message.specs.declared.packets.Packet.{Packet}
 use Rattle.cdc_message.specs.declared.packets.Packet.TheVariants.{Connect, Publish}
 use Rattle.cdc_message.specs.Replays.{IsPrefix}
 use Rattle.cdc_progress.specs.Records.{Saved}
-use Rattle.cdc_publisher.specs.Courses.{Course, after_answer, begun, confirmed_timestamp, is_confirmed, is_sent, last_session, may_end, new_course, next_packet, numbers_from, progress_of, publish_packet, tags_sent, takes_confirm, with_confirm, with_sent}
+use Rattle.cdc_publisher.specs.Courses.{Course, after_answer, begun, confirmed_timestamp, first_saved, is_confirmed, is_sent, last_session, may_end, new_course, next_packet, numbers_from, progress_of, publish_packet, tags_sent, takes_confirm, with_confirm, with_sent}
+use Rattle.cdc_publisher.specs.declared.errors.StartError.{StartError}
+use Rattle.cdc_publisher.specs.declared.errors.StartError.TheVariants.{SessionsExhausted}
 use Rattle.cdc_types.specs.declared.events.Event.{Event}
 
 -- a connector keeps to a history by the packets that it has sent and the confirms that it has received
-pub IsConnectorRun-keeps : (h : History) (c : ConnectorState) → KeepsTo h c → IsConnectorRun h c.sent c.confirms
+pub IsConnectorRun-keeps : (h : History) (c : ConnectorState) → KeepsTo h c
+    → IsConnectorRun h (held_start c.held) c.sent c.confirms
 IsConnectorRun-keeps h c keeps = record { sessions = keeps.sessions; makes = keeps.makes; each = keeps.each }
 
 -- ---- it begins
 
--- a store holds nothing, or the timestamp 0
-pub KeepsTo-begin : (h : History) (held : Option Saved) → held_timestamp held ≡ 0
+-- a store holds nothing, or a timestamp that is its start
+pub KeepsTo-begin : (h : History) (held : Option Saved) → held_timestamp held ≡ held_start held
     → KeepsTo h (record { held = held; session = None; sent = []; confirms = [] })
 KeepsTo-begin h held none = record {
   sessions = [];
   makes = refl;
   each = tt;
   numbers = λ s there. absurd (none_there s there);
+  none_yet = λ nothing. (refl, refl);
   base = inl none;
   live = λ course there. absurd (none-some course there);
 }
@@ -62,82 +65,114 @@ KeepsTo-end h c keeps = record {
   makes = keeps.makes;
   each = keeps.each;
   numbers = keeps.numbers;
+  none_yet = λ nothing. ((keeps.none_yet nothing).0, refl);
   base = keeps.base;
   live = λ course there. absurd (none-some course there);
 }
 
 -- ---- a session starts
 
--- the number is a new one, and the timestamp stays
-pub begun_parts : (held : Option Saved) (saved : Saved) → begun held ≡ Some saved
-    → (held_number held < saved.session) × (saved.timestamp ≡ held_timestamp held)
-begun_parts None saved is =
-    let same : record { session = 1; timestamp = 0 } ≡ saved = same_Some _ saved is in
-    let number : 1 ≡ saved.session = ap (λ (s : Saved). s.session) same in
-    (omega (arith, number), sym (ap (λ (s : Saved). s.timestamp) same))
-begun_parts (Some held) saved is = either (held.session == last_session) is
+-- what is saved as a session begins: its number is a new one; where nothing was held its timestamp is its start, and else
+-- both stay
+record Begins (held : Option Saved) (saved : Saved) : Type 0 where
+  number : held_number held < saved.session
+  from : ((held ≡ None) × (saved.timestamp ≡ saved.start))
+      ⊎ ((saved.timestamp ≡ held_timestamp held) × (saved.start ≡ held_start held))
+
+-- what is saved is one thing
+same_Ok : (x y : Saved) (answer : Result Saved StartError) → answer ≡ Ok x → answer ≡ Ok y → x ≡ y
+same_Ok x y answer is also = cc
+
+begun_parts : (held : Option Saved) (at : Option ℕ) (saved : Saved) → begun held at ≡ Ok saved → Begins held saved
+begun_parts None at saved is =
+    let same : first_saved at ≡ saved = same_Ok (first_saved at) saved (begun None at) refl is in
+    subst (Begins None) same (record { number = omega arith; from = inl (refl, refl) })
+begun_parts (Some held) (Some moment) saved is = cc
+begun_parts (Some held) None saved is = either (held.session == last_session) is
   where
     next : Saved
-    next = record { session = held.session + 1; timestamp = held.timestamp }
+    next = record held { session = held.session + 1 }
 
-    either : (b : Bool) → (if b then None else Some next) ≡ Some saved
-        → (held.session < saved.session) × (saved.timestamp ≡ held.timestamp)
-    either true is = absurd (none-some saved is)
+    either : (b : Bool) → (if b then Err SessionsExhausted else Ok next) ≡ Ok saved → Begins (Some held) saved
+    either true is = cc
     either false is =
-        let same : next ≡ saved = same_Some next saved is in
-        let number : held.session + 1 ≡ saved.session = ap (λ (s : Saved). s.session) same in
-        (omega (arith, number), sym (ap (λ (s : Saved). s.timestamp) same))
+        subst (Begins (Some held)) (same_Ok next saved (Ok next) refl is)
+        (record { number = omega arith; from = inr (refl, refl) })
+
+-- a session that begins so is live
+IsLive-new : (h : History) (confirms : List Confirm) (sessions : List Shown) (saved : Saved) (window : ℕ)
+    → IsBase saved.start confirms sessions saved.timestamp
+    → ((s : Shown) → Contains sessions s → s.number < saved.session)
+    → IsLive h saved.start confirms sessions saved.session (new_course saved window)
+IsLive-new h confirms sessions saved window base above = record {
+  its = refl;
+  starts = refl;
+  offered = record { rest = events_after saved.timestamp (events h); whole = refl };
+  complete = λ is. cc;
+  confirmed = λ tag is. cc;
+  in_turn = inl (omega arith);
+  last = inl (refl, base, above);
+}
+
+-- so where sessions came before it, or none did, a connector keeps to its history
+KeepsTo-new : (h : History) (c : ConnectorState) (saved : Saved) (window : ℕ) (sessions : List Shown)
+    → sent_by sessions ≡ c.sent → AreSessions h saved.start c.confirms sessions
+    → IsBase saved.start c.confirms sessions saved.timestamp
+    → ((s : Shown) → Contains sessions s → s.number < saved.session)
+    → KeepsTo h (record c { held = Some saved; session = Some (new_course saved window) })
+KeepsTo-new h c saved window sessions makes each base above = record {
+  sessions = sessions;
+  makes = makes;
+  each = each;
+  numbers = λ s there. let low = above s there in omega (arith, low);
+  none_yet = λ nothing. absurd (none-some saved (sym nothing));
+  base = base;
+  live = λ course there.
+      subst (IsLive h saved.start c.confirms sessions saved.session) (same_Some (new_course saved window) course there)
+      (IsLive-new h c.confirms sessions saved window base above);
+}
 
 -- the new number is held, and its session comes to be or not
-pub KeepsTo-start : (h : History) (c : ConnectorState) (saved : Saved) (window : ℕ) → KeepsTo h c
-    → begun c.held ≡ Some saved
+pub KeepsTo-start : (h : History) (c : ConnectorState) (at : Option ℕ) (saved : Saved) (window : ℕ) → KeepsTo h c
+    → begun c.held at ≡ Ok saved
     → KeepsTo h (record c { held = Some saved; session = Some (new_course saved window) })
-KeepsTo-start h c saved window keeps new =
-    let parts = begun_parts c.held saved new in
-    let base : IsBase c.confirms keeps.sessions saved.timestamp =
-    subst (IsBase c.confirms keeps.sessions) (sym parts.1) keeps.base in
-    record {
-      sessions = keeps.sessions;
-      makes = keeps.makes;
-      each = keeps.each;
-      numbers = λ s there. let low = keeps.numbers s there in omega (arith, low, parts.0);
-      base = base;
-      live = λ course there.
-          subst (IsLive h c.confirms keeps.sessions saved.session) (same_Some (new_course saved window) course there)
-          (record {
-            its = refl;
-            offered = record { rest = events_after saved.timestamp (events h); whole = refl };
-            complete = λ is. cc;
-            confirmed = λ tag is. cc;
-            in_turn = inl (omega arith);
-            last = inl
-                (refl, base, λ s among. let low = keeps.numbers s among in omega (arith, low, parts.0));
-          });
-    }
+KeepsTo-start h c at saved window keeps new =
+    let begins : Begins c.held saved = begun_parts c.held at saved new in
+    elim begins.from [
+      | inl first ↦
+          KeepsTo-new h c saved window [] (ap sent_by (sym (keeps.none_yet first.0).0) ∙ keeps.makes) tt (inl first.1)
+          (λ s there. absurd (none_there s there))
+      | inr goes_on ↦
+          KeepsTo-new h c saved window keeps.sessions keeps.makes
+          (subst (λ start. AreSessions h start c.confirms keeps.sessions) (sym goes_on.1) keeps.each)
+          (subst (λ t. IsBase saved.start c.confirms keeps.sessions t) (sym goes_on.0)
+          (subst (λ start. IsBase start c.confirms keeps.sessions (held_timestamp c.held)) (sym goes_on.1) keeps.base))
+          (λ s there. let low = keeps.numbers s there in omega (arith, low, begins.number))
+    ]
 
 -- where saving fails the new number may be held without a session
-pub KeepsTo-half_started : (h : History) (c : ConnectorState) (saved : Saved) → KeepsTo h c → begun c.held ≡ Some saved
-    → KeepsTo h (record c { held = Some saved; session = None })
-KeepsTo-half_started h c saved keeps new =
+pub KeepsTo-half_started : (h : History) (c : ConnectorState) (at : Option ℕ) (saved : Saved) → KeepsTo h c
+    → begun c.held at ≡ Ok saved → KeepsTo h (record c { held = Some saved; session = None })
+KeepsTo-half_started h c at saved keeps new =
     KeepsTo-end h (record c { held = Some saved; session = Some (new_course saved 1) })
-    (KeepsTo-start h c saved 1 keeps new)
+    (KeepsTo-start h c at saved 1 keeps new)
 
 -- ---- it sends a packet
 
 -- a moment after which a session may begin stays one when another session joins
-IsBase-older : (confirms : List Confirm) (sessions : List Shown) (s : Shown) (t : ℕ) → IsBase confirms sessions t
-    → IsBase confirms (s ∷ sessions) t
-IsBase-older confirms sessions s t (inl none) = inl none
-IsBase-older confirms sessions s t (inr (other, among, which)) =
+IsBase-older : (start : ℕ) (confirms : List Confirm) (sessions : List Shown) (s : Shown) (t : ℕ)
+    → IsBase start confirms sessions t → IsBase start confirms (s ∷ sessions) t
+IsBase-older start confirms sessions s t (inl none) = inl none
+IsBase-older start confirms sessions s t (inr (other, among, which)) =
     inr (other, Contains-append_right (s ∷ []) sessions other among, which)
 
 -- and when the latest publishes one more item
-IsBase-longer : (confirms : List Confirm) (earlier : List Shown) (s longer : Shown) (t : ℕ)
+IsBase-longer : (start : ℕ) (confirms : List Confirm) (earlier : List Shown) (s longer : Shown) (t : ℕ)
     → longer.number ≡ s.number → longer.base ≡ s.base
     → ((k : ℕ) (item : Item) → slice_get s.items k ≡ Some item → slice_get longer.items k ≡ Some item)
-    → IsBase confirms (s ∷ earlier) t → IsBase confirms (longer ∷ earlier) t
-IsBase-longer confirms earlier s longer t number base kept (inl none) = inl none
-IsBase-longer confirms earlier s longer t number base kept (inr (other, among, which)) =
+    → IsBase start confirms (s ∷ earlier) t → IsBase start confirms (longer ∷ earlier) t
+IsBase-longer start confirms earlier s longer t number base kept (inl none) = inl none
+IsBase-longer start confirms earlier s longer t number base kept (inr (other, among, which)) =
     elim (Contains-cons_cases s earlier other among) [
       | inl is ↦
           elim which [
@@ -161,6 +196,11 @@ IsBase-longer confirms earlier s longer t number base kept (inr (other, among, w
       | inr old ↦ inr (other, Contains-append_right (longer ∷ []) earlier other old, which)
     ]
 
+-- where a session runs, something is held
+pub none_held : (h : History) (c : ConnectorState) → KeepsTo h c → c.held ≡ None → (course : Course)
+    → c.session ≡ Some course → ⊥
+none_held h c keeps nothing course runs = none-some course (sym (keeps.none_yet nothing).1 ∙ runs)
+
 module _ (h : History) (c : ConnectorState) (keeps : KeepsTo h c) (course : Course)
     (runs : c.session ≡ Some course) where
   -- the session after one more packet
@@ -171,11 +211,12 @@ module _ (h : History) (c : ConnectorState) (keeps : KeepsTo h c) (course : Cour
   KeepsTo-connect : course.sent ≡ 0
       → KeepsTo h (record c { session = Some on; sent = c.sent ++ Connect course.number ∷ [] })
   KeepsTo-connect first =
-      let live : IsLive h c.confirms keeps.sessions (held_number c.held) course = keeps.live course runs in
+      let start : ℕ = held_start c.held in
+      let live : IsLive h start c.confirms keeps.sessions (held_number c.held) course = keeps.live course runs in
       let nothing : tags_sent on ≡ 0 = omega (arith, first) in
       let none : (shown_of on).items ≡ [] = ap (λ n. take n (told course.offered true)) nothing in
       let in_turn : SendsInTurn c.confirms on = inl (omega (arith, first)) in
-      let last : IsBase c.confirms keeps.sessions course.base
+      let last : IsBase start c.confirms keeps.sessions course.base
       × ((s : Shown) → Contains keeps.sessions s → s.number < course.number) =
       elim live.last [
         | inl new ↦ (new.1, new.2)
@@ -185,7 +226,7 @@ module _ (h : History) (c : ConnectorState) (keeps : KeepsTo h c) (course : Cour
         sessions = shown_of on ∷ keeps.sessions;
         makes = ap₂ (λ ps items. ps ++ Connect course.number ∷ publishes_from course.number 1 items) keeps.makes none;
         each = (
-          MayFollow-course h c.confirms on live.offered live.complete keeps.sessions last.1 last.0 in_turn,
+          MayFollow-course h c.confirms on live.offered live.complete start keeps.sessions last.1 last.0 in_turn,
           keeps.each,
         );
         numbers = λ s there.
@@ -195,11 +236,13 @@ module _ (h : History) (c : ConnectorState) (keeps : KeepsTo h c) (course : Cour
                   omega (arith, number, live.its)
               | inr old ↦ keeps.numbers s old
             ];
-        base = IsBase-older c.confirms keeps.sessions (shown_of on) (held_timestamp c.held) keeps.base;
+        none_yet = λ nothing. absurd (none_held h c keeps nothing course runs);
+        base = IsBase-older start c.confirms keeps.sessions (shown_of on) (held_timestamp c.held) keeps.base;
         live = λ other there.
-            subst (IsLive h c.confirms (shown_of on ∷ keeps.sessions) (held_number c.held)) (same_Some on other there)
+            subst (IsLive h start c.confirms (shown_of on ∷ keeps.sessions) (held_number c.held)) (same_Some on other there)
             (record {
               its = live.its;
+              starts = live.starts;
               offered = live.offered;
               complete = live.complete;
               confirmed = λ tag is.
@@ -218,10 +261,11 @@ module _ (h : History) (c : ConnectorState) (keeps : KeepsTo h c) (course : Cour
       elim (keeps.live course runs).last [
         | inl new ↦ absurd (omega (arith, some, new.0))
         | inr (_, (earlier, is)) ↦
-            let live : IsLive h c.confirms keeps.sessions (held_number c.held) course = keeps.live course runs in
+            let start : ℕ = held_start c.held in
+            let live : IsLive h start c.confirms keeps.sessions (held_number c.held) course = keeps.live course runs in
             let all : List Item = told course.offered true in
-            let each : AreSessions h c.confirms (shown_of course ∷ earlier) =
-            subst (AreSessions h c.confirms) is keeps.each in
+            let each : AreSessions h start c.confirms (shown_of course ∷ earlier) =
+            subst (AreSessions h start c.confirms) is keeps.each in
             let items : (shown_of on).items ≡ (shown_of course).items ++ item ∷ [] =
             ap (λ n. take n all) (omega (arith, some)) ∙ take_one (tags_sent course) all item here in
             let within : tags_sent course < length all = slice_get_within all (tags_sent course) item here in
@@ -242,7 +286,7 @@ module _ (h : History) (c : ConnectorState) (keeps : KeepsTo h c) (course : Cour
                   ∙ ap (λ ps. ps ++ Publish course.number course.sent item ∷ [])
                   (ap sent_by (sym is) ∙ keeps.makes);
               each = (
-                MayFollow-course h c.confirms on live.offered live.complete earlier each.0.above each.0.base in_turn,
+                MayFollow-course h c.confirms on live.offered live.complete start earlier each.0.above each.0.base in_turn,
                 each.1,
               );
               numbers = λ s there.
@@ -255,14 +299,18 @@ module _ (h : History) (c : ConnectorState) (keeps : KeepsTo h c) (course : Cour
                         (subst (λ xs. Contains xs s) (sym is)
                         (Contains-append_right (shown_of course ∷ []) earlier s old))
                   ];
-              base = IsBase-longer c.confirms earlier (shown_of course) (shown_of on) (held_timestamp c.held) refl refl
+              none_yet = λ nothing. absurd (none_held h c keeps nothing course runs);
+              base = IsBase-longer start c.confirms earlier (shown_of course) (shown_of on) (held_timestamp c.held) refl
+                  refl
                   (λ k x at. subst (λ (xs : List Item). slice_get xs k ≡ Some x) (sym items)
                   (slice_get-append (shown_of course).items (item ∷ []) k x at))
-                  (subst (λ xs. IsBase c.confirms xs (held_timestamp c.held)) is keeps.base);
+                  (subst (λ xs. IsBase start c.confirms xs (held_timestamp c.held)) is keeps.base);
               live = λ other there.
-                  subst (IsLive h c.confirms (shown_of on ∷ earlier) (held_number c.held)) (same_Some on other there)
+                  subst (IsLive h start c.confirms (shown_of on ∷ earlier) (held_number c.held))
+                  (same_Some on other there)
                   (record {
                     its = live.its;
+                    starts = live.starts;
                     offered = live.offered;
                     complete = live.complete;
                     confirmed = λ tag is.
@@ -336,11 +384,11 @@ in_take n xs k x below there =
     let within : k < length xs = slice_get_within xs k x there in omega (arith, below, within, length-take n xs)
 
 -- more confirms, of this session or earlier ones, change nothing of what was sent
-StandsLast-more : (confirms more : List Confirm) → AreAmong confirms more → (sessions : List Shown) (course : Course)
-    → StandsLast confirms sessions course → StandsLast more sessions course
-StandsLast-more confirms more kept sessions course (inl new) =
-    inl (new.0, IsBase-more confirms more kept sessions course.base new.1, new.2)
-StandsLast-more confirms more kept sessions course (inr old) = inr old
+StandsLast-more : (start : ℕ) (confirms more : List Confirm) → AreAmong confirms more → (sessions : List Shown)
+    (course : Course) → StandsLast start confirms sessions course → StandsLast start more sessions course
+StandsLast-more start confirms more kept sessions course (inl new) =
+    inl (new.0, IsBase-more confirms more kept start sessions course.base new.1, new.2)
+StandsLast-more start confirms more kept sessions course (inr old) = inr old
 
 -- nor of the turn in which it is sent
 SendsInTurn-more : (confirms more : List Confirm) → AreAmong confirms more → (course : Course)
@@ -350,22 +398,24 @@ SendsInTurn-more confirms more kept course (inr ends) =
     inr (ends.0, AreConfirmed-more confirms more kept course.number (length course.offered) ends.1)
 
 -- so a session stays live
-IsLive-more : (h : History) (confirms more : List Confirm) → AreAmong confirms more → (sessions : List Shown)
-    (number : ℕ) (course : Course) → IsLive h confirms sessions number course → IsLive h more sessions number course
-IsLive-more h confirms more kept sessions number course live = record {
+IsLive-more : (h : History) (start : ℕ) (confirms more : List Confirm) → AreAmong confirms more
+    → (sessions : List Shown) (number : ℕ) (course : Course) → IsLive h start confirms sessions number course
+    → IsLive h start more sessions number course
+IsLive-more h start confirms more kept sessions number course live = record {
   its = live.its;
+  starts = live.starts;
   offered = live.offered;
   complete = live.complete;
   confirmed = λ tag is. let was = live.confirmed tag is in (was.0, kept _ was.1);
   in_turn = SendsInTurn-more confirms more kept course live.in_turn;
-  last = StandsLast-more confirms more kept sessions course live.last;
+  last = StandsLast-more start confirms more kept sessions course live.last;
 }
 
 -- and one that counts a confirm that came for it does too
-IsLive-confirmed : (h : History) (confirms : List Confirm) (sessions : List Shown) (number session tag : ℕ)
-    (course : Course) → IsLive h confirms sessions number course → IsConfirmed confirms session tag
-    → IsLive h confirms sessions number (with_confirm session tag course)
-IsLive-confirmed h confirms sessions number session tag course live there =
+IsLive-confirmed : (h : History) (start : ℕ) (confirms : List Confirm) (sessions : List Shown)
+    (number session tag : ℕ) (course : Course) → IsLive h start confirms sessions number course
+    → IsConfirmed confirms session tag → IsLive h start confirms sessions number (with_confirm session tag course)
+IsLive-confirmed h start confirms sessions number session tag course live there =
     elim (cases_Bool (takes_confirm course session tag)) [
       | inr not ↦ rw not live
       | inl takes ↦
@@ -377,6 +427,7 @@ IsLive-confirmed h confirms sessions number session tag course live there =
           rw takes
           (record {
             its = live.its;
+            starts = live.starts;
             offered = live.offered;
             complete = live.complete;
             confirmed = λ other is.
@@ -394,15 +445,16 @@ IsLive-confirmed h confirms sessions number session tag course live there =
     ]
 
 -- whatever the broker answers
-IsLive-answered : (h : History) (confirms : List Confirm) (sessions : List Shown) (number : ℕ) (confirm : Confirm)
-    (course : Course) → IsLive h confirms sessions number course → Contains confirms confirm
-    → IsLive h confirms sessions number (after_answer course confirm.session confirm.answer)
-IsLive-answered h confirms sessions number confirm course live there = by_answer confirm.answer refl
+IsLive-answered : (h : History) (start : ℕ) (confirms : List Confirm) (sessions : List Shown) (number : ℕ)
+    (confirm : Confirm) (course : Course) → IsLive h start confirms sessions number course
+    → Contains confirms confirm
+    → IsLive h start confirms sessions number (after_answer course confirm.session confirm.answer)
+IsLive-answered h start confirms sessions number confirm course live there = by_answer confirm.answer refl
   where
     by_answer : (answer : Answer) → answer ≡ confirm.answer
-        → IsLive h confirms sessions number (after_answer course confirm.session answer)
+        → IsLive h start confirms sessions number (after_answer course confirm.session answer)
     by_answer (Confirmed tag) is =
-        IsLive-confirmed h confirms sessions number confirm.session tag course live
+        IsLive-confirmed h start confirms sessions number confirm.session tag course live
         (subst (λ (a : Answer). Contains confirms (record { session = confirm.session; answer = a })) (sym is) there)
     by_answer Connected is = live
     by_answer Ignored is = live
@@ -418,19 +470,23 @@ mapped f (Some before) course there = (before, (refl, same_Some (f before) cours
 pub KeepsTo-confirm : (h : History) (c : ConnectorState) (confirm : Confirm) → KeepsTo h c
     → KeepsTo h (after_confirm confirm c)
 KeepsTo-confirm h c confirm keeps =
+    let start : ℕ = held_start c.held in
     let more : List Confirm = c.confirms ++ confirm ∷ [] in
     let kept : AreAmong c.confirms more = λ x there. Contains-append_left c.confirms (confirm ∷ []) x there in
     record {
       sessions = keeps.sessions;
       makes = keeps.makes;
-      each = AreSessions-more c.confirms more kept h keeps.sessions keeps.each;
+      each = AreSessions-more c.confirms more kept h start keeps.sessions keeps.each;
       numbers = keeps.numbers;
-      base = IsBase-more c.confirms more kept keeps.sessions (held_timestamp c.held) keeps.base;
+      none_yet = λ nothing.
+          let none = keeps.none_yet nothing in
+          (none.0, ap (option_map (λ x. after_answer x confirm.session confirm.answer)) none.1);
+      base = IsBase-more c.confirms more kept start keeps.sessions (held_timestamp c.held) keeps.base;
       live = λ course there.
           let before = mapped (λ x. after_answer x confirm.session confirm.answer) c.session course there in
-          subst (IsLive h more keeps.sessions (held_number c.held)) before.1.1
-          (IsLive-answered h more keeps.sessions (held_number c.held) confirm before.0
-          (IsLive-more h c.confirms more kept keeps.sessions (held_number c.held) before.0
+          subst (IsLive h start more keeps.sessions (held_number c.held)) before.1.1
+          (IsLive-answered h start more keeps.sessions (held_number c.held) confirm before.0
+          (IsLive-more h start c.confirms more kept keeps.sessions (held_number c.held) before.0
           (keeps.live before.0 before.1.0)) (Contains-push c.confirms confirm));
     }
 
@@ -438,12 +494,13 @@ KeepsTo-confirm h c confirm keeps =
 
 -- what a session saves is a moment after which the next may begin
 saved_base : (h : History) (c : ConnectorState) (keeps : KeepsTo h c) (course : Course) → c.session ≡ Some course
-    → IsBase c.confirms keeps.sessions (confirmed_timestamp course)
+    → IsBase (held_start c.held) c.confirms keeps.sessions (confirmed_timestamp course)
 saved_base h c keeps course runs =
-    let live : IsLive h c.confirms keeps.sessions (held_number c.held) course = keeps.live course runs in
+    let start : ℕ = held_start c.held in
+    let live : IsLive h start c.confirms keeps.sessions (held_number c.held) course = keeps.live course runs in
     elim (reaches course 1 course.base course.offered) [
       | inl same ↦
-          subst (IsBase c.confirms keeps.sessions) (sym same)
+          subst (IsBase start c.confirms keeps.sessions) (sym same)
           (elim live.last [
             | inl new ↦ new.1
             | inr (_, (earlier, is)) ↦
@@ -486,47 +543,46 @@ saved_base h c keeps course runs =
 pub KeepsTo-save : (h : History) (c : ConnectorState) (course : Course) → KeepsTo h c → c.session ≡ Some course
     → KeepsTo h (record c { held = Some (progress_of course) })
 KeepsTo-save h c course keeps runs =
-    let number : course.number ≡ held_number c.held = (keeps.live course runs).its in
+    let live = keeps.live course runs in
+    let number : course.number ≡ held_number c.held = live.its in
+    let start : course.start ≡ held_start c.held = live.starts in
     record {
       sessions = keeps.sessions;
       makes = keeps.makes;
-      each = keeps.each;
+      each = subst (λ t. AreSessions h t c.confirms keeps.sessions) (sym start) keeps.each;
       numbers = λ s there. let low = keeps.numbers s there in omega (arith, low, number);
-      base = saved_base h c keeps course runs;
+      none_yet = λ nothing. absurd (none-some (progress_of course) (sym nothing));
+      base = subst (λ t. IsBase t c.confirms keeps.sessions (confirmed_timestamp course)) (sym start)
+          (saved_base h c keeps course runs);
       live = λ other there.
-          subst (λ n. IsLive h c.confirms keeps.sessions n other) (sym number) (keeps.live other there);
+          subst (λ n. IsLive h course.start c.confirms keeps.sessions n other) (sym number)
+          (subst (λ t. IsLive h t c.confirms keeps.sessions (held_number c.held) other) (sym start)
+          (keeps.live other there));
     }
 
 -- ---- the ledger goes on
 
--- a session that runs begins after a moment that isn't past the ledger's last
-live_past : (h : History) → IsSound h → (confirms : List Confirm) (sessions : List Shown) (course : Course)
-    → AreSessions h confirms sessions → StandsLast confirms sessions course → course.base ≤ h.last
-live_past h sound confirms sessions course each (inl new) = base_past h sound confirms sessions each course.base new.1
-live_past h sound confirms sessions course each (inr (_, (earlier, is))) =
-    let all : AreSessions h confirms (shown_of course ∷ earlier) = subst (AreSessions h confirms) is each in
-    base_past h sound confirms earlier all.1 course.base all.0.base
-
 -- a session stays live: it was still offered the first events after its base when later ones join them, and where it
 -- knows of the end none do
-IsLive-goes_on : (h g : History) → IsSound h → GoesOn h g → (confirms : List Confirm) (sessions : List Shown)
-    (number : ℕ) (course : Course) → AreSessions h confirms sessions → IsLive h confirms sessions number course
-    → IsLive g confirms sessions number course
-IsLive-goes_on h g sound on confirms sessions number course each live =
-    let early : course.base ≤ h.last = live_past h sound confirms sessions course each live.last in
-    let longer : events_after course.base (events g) ≡ events_after course.base (events h) ++ on.new =
-    events_after-goes_on h g course.base on early in
+IsLive-goes_on : (h g : History) (start : ℕ) → GoesOn h g → (confirms : List Confirm) (sessions : List Shown)
+    (number : ℕ) (course : Course) → IsLive h start confirms sessions number course
+    → IsLive g start confirms sessions number course
+IsLive-goes_on h g start on confirms sessions number course live =
+    let new : List Event = events_after course.base on.new in
+    let longer : events_after course.base (events g) ≡ events_after course.base (events h) ++ new =
+    events_after-goes_on h g course.base on in
     record {
       its = live.its;
+      starts = live.starts;
       offered = subst (IsPrefix course.offered) (sym longer)
-          (IsPrefix-longer course.offered (events_after course.base (events h)) on.new live.offered);
+          (IsPrefix-longer course.offered (events_after course.base (events h)) new live.offered);
       complete = λ is.
           let all = live.complete is in
           let shut = on.shut all.0 in (
             shut.0,
             all.1
                 ∙ sym (append-nil (events_after course.base (events h)))
-                ∙ ap (λ es. events_after course.base (events h) ++ es) (sym shut.1)
+                ∙ ap (λ es. events_after course.base (events h) ++ events_after course.base es) (sym shut.1)
                 ∙ sym longer,
           );
       confirmed = live.confirmed;
@@ -535,14 +591,15 @@ IsLive-goes_on h g sound on confirms sessions number course each live =
     }
 
 -- so a connector keeps to every history that goes on from one that it keeps to
-pub KeepsTo-goes_on : (h g : History) (c : ConnectorState) → IsSound h → GoesOn h g → KeepsTo h c → KeepsTo g c
-KeepsTo-goes_on h g c sound on keeps = record {
+pub KeepsTo-goes_on : (h g : History) (c : ConnectorState) → GoesOn h g → KeepsTo h c → KeepsTo g c
+KeepsTo-goes_on h g c on keeps = record {
   sessions = keeps.sessions;
   makes = keeps.makes;
-  each = AreSessions-goes_on h sound c.confirms g on keeps.sessions keeps.each;
+  each = AreSessions-goes_on h g (held_start c.held) c.confirms on keeps.sessions keeps.each;
   numbers = keeps.numbers;
+  none_yet = keeps.none_yet;
   base = keeps.base;
   live = λ course runs.
-      IsLive-goes_on h g sound on c.confirms keeps.sessions (held_number c.held) course keeps.each
+      IsLive-goes_on h g (held_start c.held) on c.confirms keeps.sessions (held_number c.held) course
       (keeps.live course runs);
 }

@@ -99,10 +99,11 @@ module _ (h : History) (confirms : List Confirm) (course : Course)
       subst (IsPrefix (take n (told course.offered true))) same (IsPrefix-take n (told course.offered true))
 
   -- a session that sends in turn may follow whatever it might follow before
-  pub MayFollow-course : (earlier : List Shown) → ((s : Shown) → Contains earlier s → s.number < course.number)
-      → IsBase confirms earlier course.base → SendsInTurn confirms course
-      → MayFollow h confirms earlier (shown_of course)
-  MayFollow-course earlier above base in_turn = record {
+  pub MayFollow-course : (start : ℕ) (earlier : List Shown)
+      → ((s : Shown) → Contains earlier s → s.number < course.number)
+      → IsBase start confirms earlier course.base → SendsInTurn confirms course
+      → MayFollow h start confirms earlier (shown_of course)
+  MayFollow-course start earlier above base in_turn = record {
     above = above;
     base = base;
     items = items_front (tags_sent course) (elim in_turn [ inl within ↦ inl within | inr ends ↦ inr ends.0 ]);

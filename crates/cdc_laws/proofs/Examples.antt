@@ -15,8 +15,8 @@ use Rattle.cdc_broker.specs.Packets.{items_of}
 use Rattle.cdc_laws.specs.Arrivals.{taken_of}
 use Rattle.cdc_laws.specs.ConnectorRuns.{AreConfirmed, IsConfirmed, IsConnectorRun, Shown, packets_of, sent_by}
 use Rattle.cdc_laws.specs.Deliveries.{deliveries, positions_in}
-use Rattle.cdc_laws.specs.Faithful.{IsFaithful, applied, balances_held, no_balances}
-use Rattle.cdc_laws.specs.Line.{feed_of, line, line_after}
+use Rattle.cdc_laws.specs.Faithful.{HoldsAccounts, IsFaithful, accounts_told, applied, balances_held, no_balances}
+use Rattle.cdc_laws.specs.Line.{feed_after, feed_of, line, line_after}
 use Rattle.cdc_laws.proofs.Places.{Contains-cons_cases, none_there}
 use Rattle.cdc_match.specs.Arguments.{Arguments}
 use Rattle.cdc_match.specs.Queue.{queue}
@@ -98,6 +98,10 @@ left_after_first = refl
 left_after_last : line_after history 2002 ≡ EndMark ∷ []
 left_after_last = refl
 
+-- after 2000 a binding of code 1 takes the third alone
+late_feed_of_one : moments (feed_after history 2000 of_code_1) ≡ 2002 ∷ []
+late_feed_of_one = refl
+
 -- a binding of code 1 takes the first and the third
 feed_of_one : moments (feed_of history of_code_1) ≡ 2000 ∷ 2002 ∷ []
 feed_of_one = refl
@@ -116,6 +120,15 @@ book_as_of = refl
 book_of_nobody : balances_held (book_of (applied (hearing (told_at 0 ∷ told_at 1 ∷ [])))) 9 ≡ no_balances
 book_of_nobody = refl
 
+-- one that joined after the first event: its book has both accounts of the second, with the ledger's balances as of that,
+-- though it has heard nothing of the first
+late_book : HoldsAccounts history 2000 (applied (hearing (told_at 1 ∷ [])))
+late_book = refl
+
+-- and one that has heard nothing yet has no account
+late_book_of_nothing : accounts_told history 2000 0 ≡ []
+late_book_of_nothing = refl
+
 -- one that heard its whole queue has ended
 ended_at_end : has_ended (hearing (queue (line history) of_code_1)) ≡ true
 ended_at_end = refl
@@ -129,7 +142,7 @@ apart : ◌≡◌ {A = ℕ} 2002 2001 → ⊥
 apart same = omega (arith, same)
 
 -- one that missed the second event isn't faithful, though the timestamps of what it has applied rise
-misses_one : IsFaithful history every_event (hearing (told_at 0 ∷ told_at 2 ∷ [])) → ⊥
+misses_one : IsFaithful history 0 every_event (hearing (told_at 0 ∷ told_at 2 ∷ [])) → ⊥
 unfolding moment_at
 misses_one faithful = apart (ap (moment_at 1) faithful.prefix.whole)
 
@@ -138,7 +151,7 @@ short : ◌≡◌ {A = ℕ} 2 3 → ⊥
 short same = omega (arith, same)
 
 -- one that heard the end without the event before it isn't, though what it has applied is a beginning
-ends_early : IsFaithful history every_event (hearing (told_at 0 ∷ told_at 1 ∷ EndMark ∷ [])) → ⊥
+ends_early : IsFaithful history 0 every_event (hearing (told_at 0 ∷ told_at 1 ∷ EndMark ∷ [])) → ⊥
 ends_early faithful = short (ap (λ (es : List Event). length es) (faithful.whole refl).1)
 
 -- ---- deliveries
@@ -206,7 +219,7 @@ only_first other there =
     ]
 
 -- so they make a connector run
-two_sessions : IsConnectorRun history sent confirms
+two_sessions : IsConnectorRun history 0 sent confirms
 two_sessions = record {
   sessions = second_session ∷ first_session ∷ [];
   makes = refl;

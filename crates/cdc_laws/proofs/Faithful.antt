@@ -5,16 +5,20 @@ use Rattle.std.specs.List.{list_any}
 use Rattle.std.proofs.lemmas.List.Folds.{list_any-append}
 use Rattle.cdc_types.specs.declared.events.Event.{Event}
 use Rattle.cdc_types.specs.Timestamps.{last_timestamp}
+use Rattle.cdc_ledger.specs.Events.{events}
 use Rattle.cdc_ledger.specs.History.{History}
 use Rattle.cdc_ledger.specs.Sound.{IsSound}
 use Rattle.cdc_laws.specs.Deliveries.{deliveries, items_in}
 use Rattle.cdc_laws.specs.Faithful.{IsFaithful, applied, kept_from}
-use Rattle.cdc_laws.specs.Line.{feed_of, line, told}
+use Rattle.cdc_laws.specs.Line.{feed_after, line_after, told}
 use Rattle.cdc_laws.proofs.Books.{holds-balances}
 use Rattle.cdc_laws.proofs.Deliveries.{items_in-deliveries}
-use Rattle.cdc_laws.proofs.Feeds.{IsPrefix-told, queue-line, rises-told, whole-told}
+use Rattle.cdc_laws.proofs.Feeds.{IsPrefix-told, queue-line_after, rises-told, whole-told}
+use Rattle.cdc_laws.proofs.LateBooks.{holds-accounts}
+use Rattle.cdc_laws.proofs.Lines.{all_after_zero}
 use Rattle.cdc_laws.proofs.Replays.{IsReplay-map, IsReplay-same}
-use Rattle.cdc_laws.proofs.Rising.{TimestampsRise-prefix, feed_rises}
+use Rattle.cdc_laws.proofs.Rising.{TimestampsRise-prefix, feed_after_rises}
+use Rattle.cdc_log.specs.Log.{events_after}
 use Rattle.cdc_match.specs.Arguments.{Arguments}
 use Rattle.cdc_match.specs.Queue.{queue, takes_item}
 use Rattle.cdc_match.proofs.FilterLaws.{IsReplay-filter}
@@ -34,28 +38,32 @@ IsReplay-heard items ds n replay =
     let some : IsReplay (take n ds) (deliveries items) = IsReplay-take n ds (deliveries items) replay in
     rw (items_in-deliveries items) at (IsReplay-map (λ (d : Delivery). d.item) (take n ds) (deliveries items) some)
 
-module _ (h : History) (binding : Arguments) (heard : Heard) (is : IsSound h) where
-  -- where it heard a replay of the queue of all that the ledger has to tell, it is faithful
-  pub IsFaithful-line : IsReplay heard.items (queue (line h) binding) → IsFaithful h binding heard
+module _ (h : History) (start : ℕ) (binding : Arguments) (heard : Heard) (is : IsSound h) where
+  -- where it heard a replay of the queue of all that the ledger has to tell after the start, it is faithful
+  pub IsFaithful-line : IsReplay heard.items (queue (line_after h start) binding) → IsFaithful h start binding heard
   IsFaithful-line replay =
-      let hears : IsReplay heard.items (told (feed_of h binding) h.closed) =
-      subst (IsReplay heard.items) (queue-line h binding) replay in
-      let rise = feed_rises h binding is in
-      let front : IsPrefix (applied heard) (feed_of h binding) =
-      IsPrefix-told (feed_of h binding) rise h.closed heard.items hears in
+      let hears : IsReplay heard.items (told (feed_after h start binding) h.closed) =
+      subst (IsReplay heard.items) (queue-line_after h start binding) replay in
+      let rise = feed_after_rises h start binding is in
+      let front : IsPrefix (applied heard) (feed_after h start binding) =
+      IsPrefix-told (feed_after h start binding) rise h.closed heard.items hears in
       record {
         prefix = front;
-        rising = TimestampsRise-prefix (applied heard) (feed_of h binding) rise front;
-        whole = whole-told (feed_of h binding) rise h.closed heard.items hears;
-        balances = λ every. holds-balances h (applied heard) is (subst (IsPrefix (applied heard)) every front);
+        rising = TimestampsRise-prefix (applied heard) (feed_after h start binding) rise front;
+        whole = whole-told (feed_after h start binding) rise h.closed heard.items hears;
+        balances = λ all. holds-accounts h start (applied heard) is (subst (IsPrefix (applied heard)) all front);
+        every = λ zero all.
+            holds-balances h (applied heard) is
+            (subst (IsPrefix (applied heard))
+            (all ∙ ap (λ t. events_after t (events h)) zero ∙ all_after_zero h is) front);
       }
 
   -- and what it keeps is told by what it has applied
-  pub kept_of-line : IsReplay heard.items (queue (line h) binding) → kept_of heard ≡ kept_from heard
+  pub kept_of-line : IsReplay heard.items (queue (line_after h start) binding) → kept_of heard ≡ kept_from heard
   kept_of-line replay =
       let same : applied heard ≡ applied_of heard =
-      rises-told (feed_of h binding) (feed_rises h binding is) h.closed heard.items
-      (subst (IsReplay heard.items) (queue-line h binding) replay) in
+      rises-told (feed_after h start binding) (feed_after_rises h start binding is) h.closed heard.items
+      (subst (IsReplay heard.items) (queue-line_after h start binding) replay) in
       let kept : List Event → Kept = λ es. record {
         book = book_of es;
         last = last_timestamp es;
@@ -65,15 +73,15 @@ module _ (h : History) (binding : Arguments) (heard : Heard) (is : IsSound h) wh
       } in
       ap kept (sym same)
 
-  module _ (taken : List Item) (took : IsReplay taken (line h)) where
+  module _ (taken : List Item) (took : IsReplay taken (line_after h start)) where
     -- a replay of the queue of what a broker took is one of the queue of all that there is to tell
-    IsReplay-queue : IsReplay heard.items (queue taken binding) → IsReplay heard.items (queue (line h) binding)
+    IsReplay-queue : IsReplay heard.items (queue taken binding) → IsReplay heard.items (queue (line_after h start) binding)
     IsReplay-queue hears =
-        IsReplay-trans heard.items (queue taken binding) (queue (line h) binding) hears
-        (IsReplay-filter (takes_item binding) taken (line h) took)
+        IsReplay-trans heard.items (queue taken binding) (queue (line_after h start) binding) hears
+        (IsReplay-filter (takes_item binding) taken (line_after h start) took)
 
     -- so a subscriber of a broker that took a replay of the line is faithful
-    pub IsFaithful-queue : IsReplay heard.items (queue taken binding) → IsFaithful h binding heard
+    pub IsFaithful-queue : IsReplay heard.items (queue taken binding) → IsFaithful h start binding heard
     IsFaithful-queue hears = IsFaithful-line (IsReplay-queue hears)
 
     -- and keeps what it has applied
@@ -109,14 +117,15 @@ pub hears-told : (es : List Event) → fold next nothing (told es true) ≡ reco
 hears-told es = hears-behind [] es refl
 
 -- a subscriber that heard all of its queue of a closed ledger has ended, and is faithful
-pub hears-all : (h : History) (binding : Arguments) (heard : Heard) → IsSound h → h.closed ≡ true
-    → heard.items ≡ queue (line h) binding → (has_ended heard ≡ true) × IsFaithful h binding heard
-hears-all h binding heard is shut all =
-    let items : heard.items ≡ told (feed_of h binding) true =
-    all ∙ queue-line h binding ∙ ap (told (feed_of h binding)) shut in (
-      ap (list_any is_end) items ∙ ends-told (feed_of h binding),
-      IsFaithful-line h binding heard is
-          (subst (λ items. IsReplay items (queue (line h) binding)) (sym all) (IsReplay-same (queue (line h) binding))),
+pub hears-all : (h : History) (start : ℕ) (binding : Arguments) (heard : Heard) → IsSound h → h.closed ≡ true
+    → heard.items ≡ queue (line_after h start) binding → (has_ended heard ≡ true) × IsFaithful h start binding heard
+hears-all h start binding heard is shut all =
+    let es : List Event = feed_after h start binding in
+    let whole : List Item = queue (line_after h start) binding in
+    let items : heard.items ≡ told es true = all ∙ queue-line_after h start binding ∙ ap (told es) shut in (
+      ap (list_any is_end) items ∙ ends-told es,
+      IsFaithful-line h start binding heard is
+          (subst (λ items. IsReplay items whole) (sym all) (IsReplay-same whole)),
     )
 
 -- ---- a closed subscriber

@@ -1,5 +1,5 @@
 -- The queue of all that a ledger has to tell, and what a replay of it holds.
-use Rattle.std.proofs.Common.{◌≡◌, Bool, true, false, List, [], ◌∷◌, ◌++◌, map, refl, sym, ap, ◌∙◌, arith}
+use Rattle.std.proofs.Common.{◌≡◌, ℕ, Bool, true, false, List, [], ◌∷◌, ◌++◌, map, refl, sym, ap, ◌∙◌, arith}
 use Rattle.std.specs.Prelude.{Contains, filter}
 use Rattle.std.specs.List.{list_any}
 use Rattle.std.proofs.lemmas.List.{append-nil}
@@ -8,8 +8,9 @@ use Rattle.std.proofs.lemmas.List.Folds.{list_any_at}
 use Rattle.cdc_types.specs.declared.events.Event.{Event}
 use Rattle.cdc_ledger.specs.Events.{events}
 use Rattle.cdc_ledger.specs.History.{History}
+use Rattle.cdc_log.specs.Log.{events_after}
 use Rattle.cdc_match.specs.Arguments.{Arguments}
-use Rattle.cdc_match.specs.Queue.{queue, takes_item}
+use Rattle.cdc_match.specs.Queue.{feed, queue, takes_item}
 use Rattle.cdc_match.proofs.QueueLaws.{queue-map_messages}
 use Rattle.cdc_message.specs.declared.items.Item.{Item}
 use Rattle.cdc_message.specs.declared.items.Item.TheVariants.{Event as OfEvent, EndMark}
@@ -20,7 +21,7 @@ use Rattle.cdc_message.proofs.ReplayLaws.{IsPrefix-firsts, IsReplay-Contains, fi
 use Rattle.cdc_message.proofs.RisesLaws.{events_of-append, events_of-push_end, rises-firsts}
 use Rattle.cdc_message.proofs.Same.{Decides-same_item}
 use Rattle.cdc_subscriber.specs.Heard.{is_end}
-use Rattle.cdc_laws.specs.Line.{end_mark_if, feed_of, line, told}
+use Rattle.cdc_laws.specs.Line.{end_mark_if, feed_after, feed_of, line, line_after, told}
 
 -- ---- the queue of a line
 
@@ -30,13 +31,23 @@ queue_end : (binding : Arguments) (closed : Bool)
 queue_end binding true = refl
 queue_end binding false = refl
 
--- it has the feed, and the end
+-- the queue of events that are told has those that the binding takes, and the end
+queue-told : (es : List Event) (closed : Bool) (binding : Arguments)
+    → queue (told es closed) binding ≡ told (feed es binding) closed
+queue-told es closed binding =
+    filter-append (takes_item binding) (map OfEvent es) (end_mark_if closed)
+    ∙ ap (λ items. items ++ filter (takes_item binding) (end_mark_if closed)) (queue-map_messages es binding)
+    ∙ ap (λ items. map OfEvent (feed es binding) ++ items) (queue_end binding closed)
+
+-- so that of the whole line has the feed, and the end
 pub queue-line : (h : History) (binding : Arguments)
     → queue (line h) binding ≡ told (feed_of h binding) h.closed
-queue-line h binding =
-    filter-append (takes_item binding) (map OfEvent (events h)) (end_mark_if h.closed)
-    ∙ ap (λ items. items ++ filter (takes_item binding) (end_mark_if h.closed)) (queue-map_messages (events h) binding)
-    ∙ ap (λ items. map OfEvent (feed_of h binding) ++ items) (queue_end binding h.closed)
+queue-line h binding = queue-told (events h) h.closed binding
+
+-- and that of the line after a moment the feed after it
+pub queue-line_after : (h : History) (start : ℕ) (binding : Arguments)
+    → queue (line_after h start) binding ≡ told (feed_after h start binding) h.closed
+queue-line_after h start binding = queue-told (events_after start (events h)) h.closed binding
 
 -- ---- a replay of events that rise, and perhaps an end mark
 

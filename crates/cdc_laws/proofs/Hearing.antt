@@ -12,7 +12,7 @@ use Rattle.cdc_laws.specs.Arrivals.{AreOfTaken, taken_of}
 use Rattle.cdc_laws.specs.Deliveries.{deliveries, items_in}
 use Rattle.cdc_laws.specs.Faithful.{IsFaithful}
 use Rattle.cdc_laws.specs.Hearing.{HasTaken, HearsOf, IsTrafficOf, Traffic}
-use Rattle.cdc_laws.specs.Line.{line}
+use Rattle.cdc_laws.specs.Line.{line_after}
 use Rattle.cdc_laws.proofs.Arrivals.{IsReplay-taken}
 use Rattle.cdc_laws.proofs.Faithful.{IsFaithful-queue, IsReplay-heard}
 use Rattle.cdc_match.specs.Queue.{queue}
@@ -102,13 +102,13 @@ IsReplay-of_queue q heard hears =
     subst (λ (items : List Item). IsReplay items q.items) (sym hears.hears.some.1)
     (IsReplay-heard q.items hears.taken hears.hears.some.0 came)
 
--- what the broker of a run took is a replay of the line
-pub IsReplay-of_run : (h : History) (b : BrokerState) (t : Traffic) → IsSound h → IsTrafficOf h b t
-    → IsReplay (items_of (taken_of t.arrived)) (line h)
-IsReplay-of_run h b t sound is =
+-- what the broker of a run took is a replay of the line after the start
+pub IsReplay-of_run : (h : History) (start : ℕ) (b : BrokerState) (t : Traffic) → IsSound h → IsTrafficOf h start b t
+    → IsReplay (items_of (taken_of t.arrived)) (line_after h start)
+IsReplay-of_run h start b t sound is =
     let confirmed : AreOfTaken t.received (taken_of t.arrived) =
     λ session tag there. is.broker.confirmed session tag (is.answers _ there) in
-    IsReplay-taken h t.sent t.arrived t.received sound is.run is.packets confirmed
+    IsReplay-taken h start t.sent t.arrived t.received sound is.run is.packets confirmed
 
 -- a queue of that broker holds what it took for its binding
 its_queue : (b : BrokerState) (items : List Item) (q : QueueState) → HasAccepted b items → Contains b.queues q
@@ -117,9 +117,10 @@ its_queue b items q holds (k, below, is) =
     subst (λ (x : QueueState). x.items ≡ queue items x.binding) is (holds k q below)
 
 -- so a subscriber of that queue is faithful
-pub IsFaithful-run : (h : History) (b : BrokerState) (t : Traffic) (q : QueueState) (heard : Heard) → IsSound h
-    → IsTrafficOf h b t → Contains b.queues q → HearsOf q heard → IsFaithful h q.binding heard
-IsFaithful-run h b t q heard sound is among hears =
+pub IsFaithful-run : (h : History) (start : ℕ) (b : BrokerState) (t : Traffic) (q : QueueState) (heard : Heard)
+    → IsSound h → IsTrafficOf h start b t → Contains b.queues q → HearsOf q heard
+    → IsFaithful h start q.binding heard
+IsFaithful-run h start b t q heard sound is among hears =
     let items : List Item = items_of (taken_of t.arrived) in
-    IsFaithful-queue h q.binding heard sound items (IsReplay-of_run h b t sound is)
+    IsFaithful-queue h start q.binding heard sound items (IsReplay-of_run h start b t sound is)
     (subst (IsReplay heard.items) (its_queue b items q is.broker.queues among) (IsReplay-of_queue q heard hears))

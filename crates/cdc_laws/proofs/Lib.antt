@@ -10,6 +10,7 @@ pub mod Faithful
 pub mod Feeds
 pub mod GoingOn
 pub mod Hearing
+pub mod LateBooks
 pub mod Lines
 pub mod LongerRuns
 pub mod Offers

@@ -1,5 +1,5 @@
 -- The line of a ledger: what it has to tell after a moment, and how it grows.
-use Rattle.std.proofs.Common.{◌≡◌, ℕ, ◌<◌, ◌≤◌, Bool, true, false, List, [], ◌∷◌, ◌++◌, map, refl, sym, ap, ap₂, ◌∙◌, append_assoc, append-nil, arith}
+use Rattle.std.proofs.Common.{◌≡◌, ℕ, ◌≤◌, Bool, true, false, List, [], ◌∷◌, ◌++◌, map, refl, sym, ap, ap₂, ◌∙◌, subst, append_assoc, append-nil}
 use Rattle.std.specs.Prelude.{nat_lt}
 use Rattle.std.specs.List.{AllByRecursion}
 use Rattle.std.proofs.lemmas.List.{map-append}
@@ -7,7 +7,6 @@ use Rattle.std.proofs.lemmas.List.Elements.{filter-append}
 use Rattle.cdc_ledger.specs.Events.{event_of, events}
 use Rattle.cdc_ledger.specs.History.{History}
 use Rattle.cdc_ledger.specs.Sound as sound
-use Rattle.cdc_ledger.proofs.Elements.{AllByRecursion-weaker}
 use Rattle.cdc_log.specs.Log.{events_after}
 use Rattle.cdc_message.specs.declared.items.Item.{Item}
 use Rattle.cdc_message.specs.declared.items.Item.TheVariants.{Event as OfEvent}
@@ -15,8 +14,8 @@ use Rattle.cdc_types.specs.declared.events.Entry.{Entry}
 use Rattle.cdc_types.specs.declared.events.Event.{Event}
 pub use Rattle.cdc_laws.specs.GoingOn.{GoesOn}
 use Rattle.cdc_laws.specs.Line.{end_mark_if, line, line_after, told}
-use Rattle.cdc_laws.proofs.Rising.{events_rise}
-use Rattle.cdc_laws.proofs.Splits.{SplitsAt, split_at, events_after-all}
+use Rattle.cdc_laws.proofs.Rising.{all_later, events_rise}
+use Rattle.cdc_laws.proofs.Splits.{SplitsAt, split_at, events_after-all, events_after-later}
 
 -- ---- the events of a sound history
 
@@ -32,10 +31,11 @@ events_past h is = past_entries h h.last h.entries is.past
 
 -- ---- the line before and after a moment
 
--- the events up to a moment, and then what there is to tell after it
-pub line_splits : (h : History) (t : ℕ) (front : List Event) → SplitsAt (events h) t front (events_after t (events h))
-    → line h ≡ map OfEvent front ++ line_after h t
-line_splits h t front cut =
+-- what there is to tell after the start: the events up to a later moment, and then what there is to tell after that
+pub line_splits : (h : History) (start t : ℕ) (front : List Event)
+    → SplitsAt (events_after start (events h)) t front (events_after t (events h))
+    → line_after h start ≡ map OfEvent front ++ line_after h t
+line_splits h start t front cut =
     ap (λ es. told es h.closed) cut.whole
     ∙ ap (λ items. items ++ end_mark_if h.closed)
     (map-append OfEvent front (events_after t (events h)))
@@ -45,6 +45,22 @@ line_splits h t front cut =
 pub split_events : (h : History) (t : ℕ) → sound.IsSound h
     → (front : List Event) × SplitsAt (events h) t front (events_after t (events h))
 split_events h t is = split_at t 0 (events h) (events_rise h is)
+
+-- and so can those after the start, at any later moment
+pub split_after : (h : History) (start t : ℕ) → sound.IsSound h → start ≤ t
+    → (front : List Event) × SplitsAt (events_after start (events h)) t front (events_after t (events h))
+split_after h start t is early =
+    let es : List Event = events_after start (events h) in
+    let cut = split_at t start es (split_events h start is).1.rise in
+    (cut.0, subst (SplitsAt es t cut.0) (events_after-later start t early (events h)) cut.1)
+
+-- no event is at 0, so all come after it
+pub all_after_zero : (h : History) → sound.IsSound h → events_after 0 (events h) ≡ events h
+all_after_zero h is = events_after-all 0 (events h) (all_later 0 (events h) (events_rise h is))
+
+-- and all is told then
+pub line_after-zero : (h : History) → sound.IsSound h → line_after h 0 ≡ line h
+line_after-zero h is = ap (λ es. told es h.closed) (all_after_zero h is)
 
 -- ---- a history that goes on
 
@@ -66,19 +82,16 @@ told_more es new false c shut =
           ∙ ap (λ items. items ++ (map OfEvent new ++ rest)) (sym (append-nil (map OfEvent es))),
     )
 
--- the later events are later than any moment up to the last one
-pub events_after-goes_on : (h g : History) (t : ℕ) (on : GoesOn h g) → t ≤ h.last
-    → events_after t (events g) ≡ events_after t (events h) ++ on.new
-events_after-goes_on h g t on early =
-    ap (events_after t) on.whole
-    ∙ filter-append (λ (e : Event). nat_lt t e.timestamp) (events h) on.new
-    ∙ ap (λ es. events_after t (events h) ++ es) (events_after-all t on.new
-    (AllByRecursion-weaker (λ e. h.last < e.timestamp) (λ e. t < e.timestamp) (λ e later. omega (arith, later))
-    on.new on.later))
+-- the later events join those that were there
+pub events_after-goes_on : (h g : History) (t : ℕ) (on : GoesOn h g)
+    → events_after t (events g) ≡ events_after t (events h) ++ events_after t on.new
+events_after-goes_on h g t on =
+    ap (events_after t) on.whole ∙ filter-append (λ (e : Event). nat_lt t e.timestamp) (events h) on.new
 
 -- so does the line after a moment, and its items keep their tags
-pub line_after-goes_on : (h g : History) (t : ℕ) → GoesOn h g → t ≤ h.last
+pub line_after-goes_on : (h g : History) (t : ℕ) → GoesOn h g
     → (more : List Item) × (line_after g t ≡ line_after h t ++ more)
-line_after-goes_on h g t on early =
-    let more = told_more (events_after t (events h)) on.new h.closed g.closed on.shut in
-    (more.0, ap (λ es. told es g.closed) (events_after-goes_on h g t on early) ∙ more.1)
+line_after-goes_on h g t on =
+    let more = told_more (events_after t (events h)) (events_after t on.new) h.closed g.closed
+    (λ closed. let shut = on.shut closed in (shut.0, ap (events_after t) shut.1)) in
+    (more.0, ap (λ es. told es g.closed) (events_after-goes_on h g t on) ∙ more.1)

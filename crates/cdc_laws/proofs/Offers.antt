@@ -9,11 +9,11 @@ use Rattle.cdc_ledger.specs.Events.{events}
 use Rattle.cdc_ledger.specs.History.{History}
 use Rattle.cdc_ledger.specs.Sound.{IsSound}
 use Rattle.cdc_laws.specs.ConnectorRuns.{Shown}
-use Rattle.cdc_laws.specs.Connectors.{ConnectorState, IsLive, KeepsTo, StandsLast, held_number, shown_of}
+use Rattle.cdc_laws.specs.Connectors.{ConnectorState, IsLive, KeepsTo, StandsLast, held_number, held_start, shown_of}
 use Rattle.cdc_laws.specs.GoingOn.{GoesOn}
 use Rattle.cdc_laws.specs.Line.{told}
 use Rattle.cdc_laws.specs.Readings.{AreReadings, IsOf, KeepsToReadings, Reading}
-use Rattle.cdc_laws.proofs.Connectors.{KeepsTo-goes_on}
+use Rattle.cdc_laws.proofs.Connectors.{KeepsTo-goes_on, none_held}
 use Rattle.cdc_laws.proofs.GoingOn.{GoesOn-trans}
 use Rattle.cdc_laws.proofs.Lines.{split_events}
 use Rattle.cdc_laws.proofs.Splits.{SplitsAt, SplitsAt-later, events_after-split}
@@ -52,8 +52,8 @@ zero_first n = grind (arith, nat_tests)
 up_to : (n m : ℕ) → nat_le n m ≡ true → n ≤ m
 up_to n m is = grind (arith, nat_tests)
 
-module _ (h : History) (sound : IsSound h) (confirms : List Confirm) (sessions : List Shown) (number : ℕ)
-    (course : Course) (live : IsLive h confirms sessions number course) where
+module _ (h : History) (sound : IsSound h) (start : ℕ) (confirms : List Confirm) (sessions : List Shown) (number : ℕ)
+    (course : Course) (live : IsLive h start confirms sessions number course) where
   -- the events after the last one that was offered are those that are left
   rest_is : events_after (last_timestamp_from course.base course.offered) (events h) ≡ live.offered.rest
   rest_is =
@@ -66,13 +66,13 @@ module _ (h : History) (sound : IsSound h) (confirms : List Confirm) (sessions :
 
   -- an offer leaves a session that has sent what it had where it stands
   last_so : (es : List Event) (b : Bool) → shown_of course ≡ shown_of (with_offer es b course)
-      → StandsLast confirms sessions course → StandsLast confirms sessions (with_offer es b course)
+      → StandsLast start confirms sessions course → StandsLast start confirms sessions (with_offer es b course)
   last_so es b same (inl new) = inl new
   last_so es b same (inr (some, (earlier, is))) = inr (some, (earlier, is ∙ ap (λ s. s ∷ earlier) same))
 
   -- so an offer of these leaves the session live
   pub IsLive-offer : (r : Reading) → IsOf h r → r.after ≡ last_timestamp_from course.base course.offered
-      → IsLive h confirms sessions number (with_offer r.events r.complete course)
+      → IsLive h start confirms sessions number (with_offer r.events r.complete course)
   IsLive-offer r of after =
       let later : events_after r.after (events h) ≡ live.offered.rest =
       ap (λ t. events_after t (events h)) after ∙ rest_is in
@@ -106,6 +106,7 @@ module _ (h : History) (sound : IsSound h) (confirms : List Confirm) (sessions :
             (sym (take_told (tags_sent course) course.offered r.events within)) in
             record {
               its = live.its;
+              starts = live.starts;
               offered = offered;
               complete = complete;
               confirmed = live.confirmed;
@@ -128,6 +129,7 @@ module _ (h : History) (sound : IsSound h) (confirms : List Confirm) (sessions :
             ap (λ (es : List Event). shown_of (record course { offered = es })) (sym stays) in
             record {
               its = live.its;
+              starts = live.starts;
               offered = offered;
               complete = complete;
               confirmed = live.confirmed;
@@ -152,11 +154,13 @@ KeepsTo-offer h c course r sound keeps runs of after = record {
   makes = keeps.makes;
   each = keeps.each;
   numbers = keeps.numbers;
+  none_yet = λ nothing. absurd (none_held h c keeps nothing course runs);
   base = keeps.base;
   live = λ other there.
-      subst (IsLive h c.confirms keeps.sessions (held_number c.held))
+      subst (IsLive h (held_start c.held) c.confirms keeps.sessions (held_number c.held))
       (same_Some (with_offer r.events r.complete course) other there)
-      (IsLive-offer h sound c.confirms keeps.sessions (held_number c.held) course (keeps.live course runs) r of after);
+      (IsLive-offer h sound (held_start c.held) c.confirms keeps.sessions (held_number c.held) course
+      (keeps.live course runs) r of after);
 }
 
 -- ---- readings
@@ -180,11 +184,11 @@ pub KeepsToReadings-offer : (readings : List Reading) (c : ConnectorState) (cour
     → KeepsToReadings (r ∷ readings) (record c { session = Some (with_offer r.events r.complete course) })
 KeepsToReadings-offer readings c course r keeps runs after h (is, (g, (of, before, on))) =
     let sound : IsSound g = readings_sound readings g before in
-    KeepsTo-goes_on g h (record c { session = Some (with_offer r.events r.complete course) }) sound on
+    KeepsTo-goes_on g h (record c { session = Some (with_offer r.events r.complete course) }) on
     (KeepsTo-offer g c course r sound (keeps g before) runs of after)
 
 -- and it does when an answer comes that it doesn't use
 pub KeepsToReadings-unused : (readings : List Reading) (c : ConnectorState) (r : Reading) → KeepsToReadings readings c
     → KeepsToReadings (r ∷ readings) c
 KeepsToReadings-unused readings c r keeps h (is, (g, (of, before, on))) =
-    KeepsTo-goes_on g h c (readings_sound readings g before) on (keeps g before)
+    KeepsTo-goes_on g h c on (keeps g before)

@@ -1,6 +1,6 @@
 -- The events of a ledger rise, and so do those that a binding takes.
 use Rattle.std.proofs.Common.{ℕ, zero, suc, ◌<◌, ◌≤◌, Bool, true, false, List, [], ◌∷◌, ◌++◌, get_or, map, arith}
-use Rattle.std.specs.Prelude.{All, AllPairs, filter, if◌then◌else◌}
+use Rattle.std.specs.Prelude.{All, AllPairs, filter, nat_lt, if◌then◌else◌}
 use Rattle.std.specs.List.{AllByRecursion}
 use Rattle.std.proofs.lemmas.List.{get_or_append_left, length-append}
 use Rattle.std.proofs.lemmas.List.Elements.{Contains-get_or}
@@ -9,9 +9,9 @@ use Rattle.cdc_types.specs.declared.events.Event.{Event}
 use Rattle.cdc_ledger.specs.Events.{event_of, events}
 use Rattle.cdc_ledger.specs.History.{History}
 use Rattle.cdc_ledger.specs.Sound as sound
-use Rattle.cdc_laws.specs.Line.{feed_of}
+use Rattle.cdc_laws.specs.Line.{feed_after, feed_of}
 use Rattle.cdc_laws.proofs.Places.{each_has}
-use Rattle.cdc_log.specs.Log.{RiseFrom}
+use Rattle.cdc_log.specs.Log.{RiseFrom, events_after}
 use Rattle.cdc_match.specs.Arguments.{Arguments}
 use Rattle.cdc_match.specs.Queue.{takes_event}
 use Rattle.cdc_message.specs.Items.{TimestampsRise}
@@ -86,3 +86,17 @@ events_rise h is = rise_entries h 0 h.entries is.rising
 pub feed_rises : (h : History) (binding : Arguments) → sound.IsSound h → TimestampsRise (feed_of h binding)
 feed_rises h binding is =
     TimestampsRise-from (feed_of h binding) (RiseFrom-filter (takes_event binding) 0 (events h) (events_rise h is))
+
+-- the events after a moment rise too
+pub after_rise : (h : History) (start : ℕ) → sound.IsSound h → TimestampsRise (events_after start (events h))
+after_rise h start is =
+    TimestampsRise-from (events_after start (events h))
+    (RiseFrom-filter (λ (e : Event). nat_lt start e.timestamp) 0 (events h) (events_rise h is))
+
+-- and so do those of them that a binding takes
+pub feed_after_rises : (h : History) (start : ℕ) (binding : Arguments) → sound.IsSound h
+    → TimestampsRise (feed_after h start binding)
+feed_after_rises h start binding is =
+    TimestampsRise-from (feed_after h start binding)
+    (RiseFrom-filter (takes_event binding) 0 (events_after start (events h))
+    (RiseFrom-filter (λ (e : Event). nat_lt start e.timestamp) 0 (events h) (events_rise h is)))

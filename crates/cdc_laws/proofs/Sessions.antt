@@ -75,26 +75,26 @@ IsPublished-sent (s ∷ earlier) number tag item there =
 -- ---- sessions by their numbers
 
 -- each of lawful sessions may follow some of them
-pub record Follows (h : History) (confirms : List Confirm) (sessions : List Shown) (s : Shown) : Type 0 where
+pub record Follows (h : History) (start : ℕ) (confirms : List Confirm) (sessions : List Shown) (s : Shown) : Type 0 where
   pub earlier : List Shown
-  pub may : MayFollow h confirms earlier s
+  pub may : MayFollow h start confirms earlier s
 
-pub follows : (h : History) (confirms : List Confirm) (sessions : List Shown) (s : Shown)
-    → AreSessions h confirms sessions → Contains sessions s → Follows h confirms sessions s
-follows h confirms [] s each there = absurd (none_there s there)
-follows h confirms (x ∷ earlier) s each there =
+pub follows : (h : History) (start : ℕ) (confirms : List Confirm) (sessions : List Shown) (s : Shown)
+    → AreSessions h start confirms sessions → Contains sessions s → Follows h start confirms sessions s
+follows h start confirms [] s each there = absurd (none_there s there)
+follows h start confirms (x ∷ earlier) s each there =
     elim (Contains-cons_cases x earlier s there) [
-      | inl is ↦ record { earlier = earlier; may = subst (MayFollow h confirms earlier) is each.0 }
+      | inl is ↦ record { earlier = earlier; may = subst (MayFollow h start confirms earlier) is each.0 }
       | inr old ↦
-          let rest = follows h confirms earlier s each.1 old in
+          let rest = follows h start confirms earlier s each.1 old in
           record { earlier = rest.earlier; may = rest.may }
     ]
 
 -- no two sessions have one number
-pub one_session : (h : History) (confirms : List Confirm) (sessions : List Shown) (s t : Shown)
-    → AreSessions h confirms sessions → Contains sessions s → Contains sessions t → s.number ≡ t.number → s ≡ t
-one_session h confirms [] s t each there here same = absurd (none_there s there)
-one_session h confirms (x ∷ earlier) s t each there here same =
+pub one_session : (h : History) (start : ℕ) (confirms : List Confirm) (sessions : List Shown) (s t : Shown)
+    → AreSessions h start confirms sessions → Contains sessions s → Contains sessions t → s.number ≡ t.number → s ≡ t
+one_session h start confirms [] s t each there here same = absurd (none_there s there)
+one_session h start confirms (x ∷ earlier) s t each there here same =
     elim (Contains-cons_cases x earlier s there) [
       | inl s_first ↦
           elim (Contains-cons_cases x earlier t here) [
@@ -110,7 +110,7 @@ one_session h confirms (x ∷ earlier) s t each there here same =
                 let below : s.number < x.number = each.0.above s s_old in
                 let number : x.number ≡ t.number = ap (λ (y : Shown). y.number) t_first in
                 absurd (omega (arith, below, number, same))
-            | inr t_old ↦ one_session h confirms earlier s t each.1 s_old t_old same
+            | inr t_old ↦ one_session h start confirms earlier s t each.1 s_old t_old same
           ]
     ]
 
@@ -132,21 +132,22 @@ module _ (confirms more : List Confirm) (kept : AreAmong confirms more) where
   }
 
   -- and a moment after which a session may begin stays one
-  pub IsBase-more : (earlier : List Shown) (moment : ℕ) → IsBase confirms earlier moment → IsBase more earlier moment
-  IsBase-more earlier moment (inl none) = inl none
-  IsBase-more earlier moment (inr (s, there, inl same)) = inr (s, there, inl same)
-  IsBase-more earlier moment (inr (s, there, inr is)) = inr (s, there, inr (IsConfirmedTo-more s moment is))
+  pub IsBase-more : (start : ℕ) (earlier : List Shown) (moment : ℕ) → IsBase start confirms earlier moment
+      → IsBase start more earlier moment
+  IsBase-more start earlier moment (inl none) = inl none
+  IsBase-more start earlier moment (inr (s, there, inl same)) = inr (s, there, inl same)
+  IsBase-more start earlier moment (inr (s, there, inr is)) = inr (s, there, inr (IsConfirmedTo-more s moment is))
 
   -- so sessions stay lawful as more is confirmed
-  pub AreSessions-more : (h : History) (sessions : List Shown) → AreSessions h confirms sessions
-      → AreSessions h more sessions
-  AreSessions-more h [] each = tt
-  AreSessions-more h (s ∷ earlier) each = (
+  pub AreSessions-more : (h : History) (start : ℕ) (sessions : List Shown) → AreSessions h start confirms sessions
+      → AreSessions h start more sessions
+  AreSessions-more h start [] each = tt
+  AreSessions-more h start (s ∷ earlier) each = (
     record {
       above = each.0.above;
-      base = IsBase-more earlier s.base each.0.base;
+      base = IsBase-more start earlier s.base each.0.base;
       items = each.0.items;
       end = λ place there. AreConfirmed-more s.number place (each.0.end place there);
     },
-    AreSessions-more h earlier each.1,
+    AreSessions-more h start earlier each.1,
   )

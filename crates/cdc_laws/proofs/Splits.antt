@@ -1,7 +1,8 @@
 -- A rising list of events, cut at a moment.
-use Rattle.std.proofs.Common.{◌≡◌, ℕ, ◌<◌, ◌≤◌, Bool, true, false, cond, List, [], ◌∷◌, ◌++◌, refl, sym, ap, ap₂, ◌∙◌, subst, append_assoc, append-nil, arith}
+use Rattle.std.proofs.Common.{◌≡◌, ℕ, ◌<◌, ◌≤◌, Bool, true, false, cond, List, [], ◌∷◌, ◌++◌, refl, sym, ap, ap₂, ◌∙◌, subst, inl, inr, append_assoc, append-nil, arith}
 use Rattle.std.specs.Prelude.{nat_lt}
 use Rattle.std.specs.List.{AllByRecursion}
+use Rattle.std.proofs.lemmas.Bool.{cases_lt}
 use Rattle.std.proofs.lemmas.Bool.Decides.{nat_tests}
 use Rattle.std.proofs.lemmas.List.Elements.{filter-append}
 use Rattle.cdc_ledger.proofs.Elements.{AllByRecursion-weaker, AllByRecursion_push}
@@ -46,6 +47,31 @@ events_after-none t [] low = refl
 events_after-none t (e ∷ es) low =
     let here : nat_lt t e.timestamp ≡ false = is_not_later t e.timestamp low.0 in
     ap (λ b. cond b (e ∷ events_after t es) (events_after t es)) here ∙ events_after-none t es low.1
+
+-- what is read after a moment of what is read after an earlier one is what is read after it of all
+pub events_after-later : (s t : ℕ) → s ≤ t → (es : List Event) → events_after t (events_after s es) ≡ events_after t es
+events_after-later s t early [] = refl
+events_after-later s t early (e ∷ es) =
+    elim (cases_lt t e.timestamp) [
+      | inl late ↦
+          let first : nat_lt s e.timestamp ≡ true = is_later s e.timestamp (omega (arith, early, late)) in
+          let second : nat_lt t e.timestamp ≡ true = is_later t e.timestamp late in
+          ap (λ b. events_after t (cond b (e ∷ events_after s es) (events_after s es))) first
+          ∙ ap (λ b. cond b (e ∷ events_after t (events_after s es)) (events_after t (events_after s es))) second
+          ∙ ap (λ more. e ∷ more) (events_after-later s t early es)
+          ∙ sym (ap (λ b. cond b (e ∷ events_after t es) (events_after t es)) second)
+      | inr low ↦
+          let second : nat_lt t e.timestamp ≡ false = is_not_later t e.timestamp low in
+          by_first (nat_lt s e.timestamp) second
+          ∙ events_after-later s t early es
+          ∙ sym (ap (λ b. cond b (e ∷ events_after t es) (events_after t es)) second)
+    ]
+  where
+    by_first : (b : Bool) → nat_lt t e.timestamp ≡ false
+        → events_after t (cond b (e ∷ events_after s es) (events_after s es)) ≡ events_after t (events_after s es)
+    by_first true second =
+        ap (λ c. cond c (e ∷ events_after t (events_after s es)) (events_after t (events_after s es))) second
+    by_first false second = refl
 
 -- what follows a cut is what is later than its moment
 pub events_after-split : (es : List Event) (t : ℕ) (front back : List Event) → SplitsAt es t front back

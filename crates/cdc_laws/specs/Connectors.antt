@@ -73,14 +73,14 @@ pub record IsLive (h : History) (start : ℕ) (confirms : List Confirm) (session
   pub last : StandsLast start confirms sessions course
 
 -- a connector keeps to a history: its packets are those of sessions that may follow one another, with numbers up to the
--- one that is held, and none of them where nothing is held; the next one may begin after the timestamp that is held; and
+-- one that is held, and neither they nor one that runs is there where nothing is held; the next one may begin after the timestamp that is held; and
 -- so does the session that runs
 pub record KeepsTo (h : History) (c : ConnectorState) : Type 0 where
   pub sessions : List Shown
   pub makes : sent_by sessions ≡ c.sent
   pub each : AreSessions h (held_start c.held) c.confirms sessions
   pub numbers : (s : Shown) → Contains sessions s → s.number ≤ held_number c.held
-  pub none_yet : c.held ≡ None → sessions ≡ []
+  pub none_yet : c.held ≡ None → (sessions ≡ []) × (c.session ≡ None)
   pub base : IsBase (held_start c.held) c.confirms sessions (held_timestamp c.held)
   pub live : (course : Course) → c.session ≡ Some course
       → IsLive h (held_start c.held) c.confirms sessions (held_number c.held) course

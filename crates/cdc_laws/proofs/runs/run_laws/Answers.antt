@@ -3,7 +3,8 @@ use Rattle.cdc_laws.proofs.Arrivals.{IsReplay-taken}
 use Rattle.cdc_laws.proofs.Feeds.{IsPrefix-line, whole-line}
 use Rattle.cdc_laws.proofs.GoingOn.{GoesOn-extends}
 use Rattle.cdc_laws.proofs.Hearing.{IsFaithful-run}
-use Rattle.cdc_laws.proofs.Rising.{TimestampsRise-from, events_rise}
+use Rattle.cdc_laws.proofs.Rising.{after_rise}
+use Rattle.cdc_log.specs.Log.{events_after}
 use Rattle.cdc_laws.proofs.LongerRuns.{IsConnectorRun-goes_on, IsConnectorRun-more}
 use Rattle.cdc_laws.proofs.runs.run_laws.Goals as goal
 
@@ -11,12 +12,12 @@ pub returns-clause-taken : goal.returns-clause-taken
 returns-clause-taken c = IsReplay-taken
 
 pub returns-clause-begins : goal.returns-clause-begins
-returns-clause-begins c = λ h items is replay.
-    IsPrefix-line (events h) (TimestampsRise-from (events h) (events_rise h is)) h.closed items replay
+returns-clause-begins c = λ h start items is replay.
+    IsPrefix-line (events_after start (events h)) (after_rise h start is) h.closed items replay
 
 pub returns-clause-ends : goal.returns-clause-ends
-returns-clause-ends c = λ h items is replay there.
-    whole-line (events h) (TimestampsRise-from (events h) (events_rise h is)) h.closed items replay there
+returns-clause-ends c = λ h start items is replay there.
+    whole-line (events_after start (events h)) (after_rise h start is) h.closed items replay there
 
 pub returns-clause-confirmed : goal.returns-clause-confirmed
 returns-clause-confirmed c = IsConnectorRun-more
