@@ -2,6 +2,7 @@ mod Closing
 mod Answered
 mod Dealing
 mod Equal
+mod FaultKinds
 mod Finishing
 mod Hearing
 mod Lanes

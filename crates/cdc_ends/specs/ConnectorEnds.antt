@@ -2,7 +2,9 @@
 use Rattle.std.specs.Prelude.{◌≡◌, ◌==◌, ◌⊎◌, ℕ, zero, suc, ◌+◌, ◌<◌, ◌≤◌, ◌&&◌, Bool, is_none, is_some, true, false, Option, Some, None, List, [], ◌∷◌, ◌++◌, Contains, length, map, unwrap_or, if◌then◌else◌}
 use Rattle.std.specs.List.{filter, filter_map, list_any}
 use Rattle.std.specs.Option.{option_map}
+use Rattle.cdc_ends.specs.Faults.{IsSaveFault, IsStartFault}
 use Rattle.cdc_ends.specs.declared.faults.RunFault.{RunFault}
+use Rattle.cdc_ends.specs.declared.faults.RunFault.TheVariants.{PeerGone, OutOfMemory}
 use Rattle.cdc_ends.specs.declared.turns.Turn.{Turn}
 use Rattle.cdc_ends.specs.declared.turns.Turn.TheVariants.{More, Finished}
 use Rattle.cdc_laws.specs.Connectors.{ConnectorState, held_number, held_timestamp}
@@ -288,6 +290,12 @@ IsTurn old new = IsTurnIf old.finished old new
 -- what a turn answers
 abbrev pub turn_if : Bool → Turn
 turn_if finished = if finished then Finished else More
+
+-- a turn fails where a link refuses it, or hands out what wasn't asked for; for want of memory; where a session doesn't
+-- start; or where it isn't saved
+abbrev pub IsTurnFault : RunFault → Type 0
+IsTurnFault fault =
+    (fault ≡ PeerGone) ⊎ ((fault ≡ OutOfMemory) ⊎ (IsStartFault fault ⊎ IsSaveFault fault))
 
 -- ---- its end
 

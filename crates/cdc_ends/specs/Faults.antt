@@ -35,3 +35,25 @@ abbrev pub start_fault : StartError → RunFault
 start_fault (start.Store why) = Store why
 start_fault start.SessionsExhausted = SessionsExhausted
 start_fault start.OutOfMemory = OutOfMemory
+
+-- a session that doesn't start gives its end such a fault, and no other
+abbrev pub IsStartFault : RunFault → Type 0
+IsStartFault PeerGone = ⊥
+IsStartFault OutOfMemory = Unit {0}
+IsStartFault (Store store.ReadFault) = Unit {0}
+IsStartFault (Store store.WriteFault) = Unit {0}
+IsStartFault (Store store.BadRecord) = Unit {0}
+IsStartFault (Store store.OutOfMemory) = ⊥
+IsStartFault SessionsExhausted = Unit {0}
+IsStartFault NotOneSystem = ⊥
+
+-- so does a session that isn't saved: a save reads nothing
+abbrev pub IsSaveFault : RunFault → Type 0
+IsSaveFault PeerGone = ⊥
+IsSaveFault OutOfMemory = Unit {0}
+IsSaveFault (Store store.ReadFault) = ⊥
+IsSaveFault (Store store.WriteFault) = Unit {0}
+IsSaveFault (Store store.BadRecord) = ⊥
+IsSaveFault (Store store.OutOfMemory) = ⊥
+IsSaveFault SessionsExhausted = ⊥
+IsSaveFault NotOneSystem = ⊥

@@ -1,7 +1,7 @@
 //! A connector's end: it asks the ledger for events, and publishes them to the broker, session after session.
 
 ghost use Rattle.std.specs.Prelude.{◌≡◌, Err, IfErr, IfOk, IfSome, None, Some, [], is_some, true};
-ghost use Rattle.cdc_ends.specs.ConnectorEnds.{ArePartsOf, FinishedConnectorsAreDone, IsConnectorEnd, IsTurn, first_work, has_finished, turn_if};
+ghost use Rattle.cdc_ends.specs.ConnectorEnds.{ArePartsOf, FinishedConnectorsAreDone, IsConnectorEnd, IsTurn, IsTurnFault, first_work, has_finished, turn_if};
 ghost use Rattle.cdc_types.specs.Windows.{IsWindow};
 
 use crate::faults::RunFault;
@@ -36,14 +36,15 @@ impl<S: ProgressStore + Drop> Drop for ConnectorEnd<S> {
 }
 
 impl<S: ProgressStore> Model for ConnectorEnd<S> {
-    ghost use Rattle.std.specs.Prelude.{◌≡◌, None};
-    ghost use Rattle.cdc_ends.specs.ConnectorEnds.{ConnectorEndState, IsConnectorEnd};
+    ghost use Rattle.std.specs.Prelude.{◌≡◌, IfSome, None};
+    ghost use Rattle.cdc_ends.specs.ConnectorEnds.{ConnectorEndState, IsConnectorEnd, IsTurnFault};
 
     ghost Value = { ConnectorEndState };
 
     ghost view = { λ end. record { system = end.system; work = end.work; fault = end.fault } };
 
-    ghost invariant = { λ end. end.fault ≡ None → IsConnectorEnd end.work };
+    ghost invariant = { λ end.
+        (end.fault ≡ None → IsConnectorEnd end.work) × IfSome end.fault IsTurnFault };
 }
 
 impl<S: ProgressStore> ConnectorEnd<S> {
@@ -82,13 +83,17 @@ impl<S: ProgressStore> ConnectorEnd<S> {
     }
 
     /// One turn: the first starts a session, each later one receives a message, and all that follows is sent. Once the
-    /// connector has finished, a turn changes nothing. The first fault stays: it is answered from then on.
+    /// connector has finished, a turn changes nothing. `PeerGone`: a link refused to send or to receive, or a confirm came
+    /// that answers no packet. `OutOfMemory`: there was no memory for a session or for a packet, or in the store. `Store`:
+    /// the store refused to load, or to save. `SessionsExhausted`: there is no further number for a session. The first
+    /// fault stays: it is answered from then on.
     pub fn turn<R: Wait>(&mut self, rt: &R, alloc: Global) -> Result<Turn, RunFault>
         ensures turns { IfOk result (λ _. IsTurn self.old.work self.new.work) }
         ensures kept { IfOk result (λ _. IsConnectorEnd self.new.work) }
         ensures answer { IfOk result (λ turn. turn ≡ turn_if self.new.work.finished) }
         ensures rest { IfOk result (λ _. self.new ≡ record self.old { work = self.new.work }) }
         ensures fault { IfErr result (λ fault. self.new.fault ≡ Some fault) }
+        ensures kind { IfErr result IsTurnFault }
         ensures again { (fault : RunFault) → self.old.fault ≡ Some fault
             → (result ≡ Err fault) × (self.new ≡ self.old) }
     {

@@ -34,14 +34,15 @@ impl Drop for SubscriberEnd {
 }
 
 impl Model for SubscriberEnd {
-    ghost use Rattle.std.specs.Prelude.{◌≡◌, None};
-    ghost use Rattle.cdc_ends.specs.SubscriberEnds.{IsSubscriberEnd, SubscriberState};
+    ghost use Rattle.std.specs.Prelude.{◌≡◌, IfSome, None};
+    ghost use Rattle.cdc_ends.specs.SubscriberEnds.{IsSubscriberEnd, IsTurnFault, SubscriberState};
 
     ghost Value = { SubscriberState };
 
     ghost view = { λ end. record { system = end.system; intake = end.intake; fault = end.fault } };
 
-    ghost invariant = { λ end. end.fault ≡ None → IsSubscriberEnd end.intake };
+    ghost invariant = { λ end.
+        (end.fault ≡ None → IsSubscriberEnd end.intake) × IfSome end.fault IsTurnFault };
 }
 
 impl SubscriberEnd {
@@ -81,7 +82,7 @@ impl SubscriberEnd {
     pub fn turn<R: Wait>(&mut self, rt: &R, alloc: Global) -> Result<Turn, RunFault>
         ensures turned { IfOk result (λ turn. HasTurned self.old turn self.new) }
         ensures fault { IfErr result (λ fault. self.new.fault ≡ Some fault) }
-        ensures kind { self.old.fault ≡ None → IfErr result IsTurnFault }
+        ensures kind { IfErr result IsTurnFault }
         ensures again { (fault : RunFault) → self.old.fault ≡ Some fault
             → (result ≡ Err fault) × (self.new ≡ self.old) }
     {

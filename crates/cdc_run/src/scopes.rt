@@ -9,6 +9,7 @@ use crate::jobs::{Job, work_all};
 use cdc_ends::RunFault;
 use std::alloc::Global;
 use std::sync::Wait;
+use std::sync::atomic::AtomicUsize;
 use std::thread;
 use std::thread::{Scope, Threads};
 
@@ -18,15 +19,16 @@ fn work_in<'s, E, J: Job + 's, R: Threads + Wait + Sync, G: Gate + Sync>(
     rt: &'s R,
     alloc: Global,
     gate: &'s G,
+    refused: &'s AtomicUsize,
     jobs: Vec<J>,
 ) -> Result<Vec<J::End>, RunFault>
     ensures ends { IfOk result (λ ends. AllZip J.ends_as jobs.items ends.items) }
-    ensures fault { IfErr result (IsFaultOf J.ends_as jobs.items) }
+    ensures fault { IfErr result (IsFaultOf J.ends_as J.fails_as jobs.items) }
 {
     let Ok(room) = Vec::with_capacity(alloc, jobs.len()) else {
         return Err(RunFault::OutOfMemory);
     };
-    let all = work_all(scope, rt, alloc, gate, jobs, room);
+    let all = work_all(scope, rt, alloc, gate, refused, jobs, room);
     match all.fault {
         None => Ok(all.ends),
         Some(fault) => Err(fault),
@@ -42,14 +44,16 @@ pub(crate) fn run_jobs<J: Job, R: Threads + Wait + Sync, G: Gate + Sync>(
     jobs: Vec<J>,
 ) -> Result<Vec<J::End>, RunFault>
     ensures ends { IfOk result (λ ends. AllZip J.ends_as jobs.items ends.items) }
-    ensures fault { IfErr result (IsFaultOf J.ends_as jobs.items) }
+    ensures fault { IfErr result (IsFaultOf J.ends_as J.fails_as jobs.items) }
 {
+    let no_place = AtomicUsize::new(0);
+    let refused = &no_place;
     thread::scope(
         thread::scope_env(),
         rt,
         move |scope| -> Result<Vec<J::End>, RunFault>
             ensures ends { IfOk result (λ ends. AllZip J.ends_as jobs.items ends.items) }
-            ensures fault { IfErr result (IsFaultOf J.ends_as jobs.items) }
-        { work_in(scope, rt, alloc, gate, jobs) },
+            ensures fault { IfErr result (IsFaultOf J.ends_as J.fails_as jobs.items) }
+        { work_in(scope, rt, alloc, gate, refused, jobs) },
     )
 }

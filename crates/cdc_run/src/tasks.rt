@@ -12,11 +12,13 @@ use std::alloc::Global;
 use std::sync::Wait;
 
 impl<S: ProgressStore + Send + Drop> Job for Task<S> {
-    ghost use Rattle.cdc_run.specs.Tasks.{Leaves};
+    ghost use Rattle.cdc_run.specs.Tasks.{Fails, Leaves};
 
     type End = Left<S>;
 
     ghost ends_as = { Leaves };
+
+    ghost fails_as = { Fails };
 
     fn work<R: Wait, G: Gate>(self, rt: &R, alloc: Global, gate: &G) -> Result<Left<S>, RunFault> {
         match self {
@@ -40,6 +42,15 @@ impl<S: ProgressStore + Send + Drop> Job for Task<S> {
                 alloc,
                 gate,
             )?)),
+        }
+    }
+    fn give_up<R: Wait>(self, rt: &R) {
+        match self {
+            Task::Ledger(end) => end.give_up(rt),
+            Task::Client(client) => client.into_parts().0.give_up(rt),
+            Task::Connector(end) => end.give_up(rt),
+            Task::Broker(end) => end.give_up(rt),
+            Task::Subscriber(_, end) => end.give_up(rt),
         }
     }
 }
