@@ -70,7 +70,7 @@ impl<S: ProgressStore> ConnectorEnd<S> {
         requires window { IsWindow window }
         ensures { result ≡ record {
           system = system;
-          work = first_work inbox polls packets (S.held store) (S.is_honest store) window
+          work = first_work inbox polls packets (S.held store) (S.is_honest store) start window
               restart_after.items;
           fault = None;
         } }

@@ -75,6 +75,7 @@ impl<S: ProgressStore> Model for Publishing<S> {
       inbox = c.inbox;
       polls = c.polls;
       packets = c.packets;
+      start = c.start;
       first = c.first;
       held = S.held c.store;
       honest = S.is_honest c.store;
@@ -216,7 +217,7 @@ impl<S: ProgressStore> Publishing<S> {
         window: usize,
         restart_after: Vec<u64>,
     ) -> Publishing<S>
-        ensures { result ≡ first_work inbox polls packets (S.held store) (S.is_honest store)
+        ensures { result ≡ first_work inbox polls packets (S.held store) (S.is_honest store) start
             window restart_after.items }
     {
         Publishing {
