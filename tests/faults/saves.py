@@ -17,7 +17,7 @@ import threading
 SECONDS = 60
 # The statuses: those of StoreError, that the record couldn't be said, and that the process was ended.
 READ_FAULT, WRITE_FAULT, NO_MEMORY, NOT_SAID, ENDED = 1, 2, 4, 9, 70
-OLD, NEW, NEXT = b"tb-cdc 1 3 2000\n", b"tb-cdc 1 4 3000\n", b"tb-cdc 1 5 4000\n"
+OLD, NEW, NEXT = b"tb-cdc 2 3 2000 1000\n", b"tb-cdc 2 4 3000 1000\n", b"tb-cdc 2 5 4000 1000\n"
 STALE = b"half of a record that is longer than any record"
 # What PATH and PATH.new hold before a save.
 STARTS = {

@@ -3,11 +3,25 @@ use std::alloc::{AllocError, Global};
 use std::test::Fail;
 use std::{fs, process};
 
-// A record and its text.
-const RECORDS: [(u64, u64, &str); 4] = [
+// A record, of a session, a timestamp and a start, and its text.
+const RECORDS: [(u64, u64, u64, &str); 6] = [
+    (3, 2000, 0, "tb-cdc 2 3 2000 0\n"),
+    (0, 0, 0, "tb-cdc 2 0 0 0\n"),
+    (1, 10, 0, "tb-cdc 2 1 10 0\n"),
+    (1, 2000, 2000, "tb-cdc 2 1 2000 2000\n"),
+    (4, 2001, 2000, "tb-cdc 2 4 2001 2000\n"),
+    (
+        u64::MAX,
+        Progress::MAX_TIMESTAMP,
+        Progress::MAX_TIMESTAMP,
+        "tb-cdc 2 18446744073709551615 9223372036854775807 9223372036854775807\n",
+    ),
+];
+
+// A record, of a session and a timestamp, and its text in the first version, which has no start.
+const FIRST_RECORDS: [(u64, u64, &str); 3] = [
     (3, 2000, "tb-cdc 1 3 2000\n"),
     (0, 0, "tb-cdc 1 0 0\n"),
-    (1, 10, "tb-cdc 1 1 10\n"),
     (
         u64::MAX,
         Progress::MAX_TIMESTAMP,
@@ -16,7 +30,7 @@ const RECORDS: [(u64, u64, &str); 4] = [
 ];
 
 // Bytes that are no record.
-const NO_RECORDS: [&str; 14] = [
+const NO_RECORDS: [&str; 23] = [
     "",
     "\n",
     "tb-cdc 1 3 2000",
@@ -24,28 +38,45 @@ const NO_RECORDS: [&str; 14] = [
     "tb-cdc 1 3 02000\n",
     "tb-cdc 1 3 9223372036854775808\n",
     "tb-cdc 1 18446744073709551616 2000\n",
-    "tb-cdc 2 3 2000\n",
+    "tb-cdc 1 3 2000 0\n",
+    "tb-cdc 3 3 2000 0\n",
     "tb-cdc 1 3 2000\n\n",
     "tb-cdc 1 3  2000\n",
     "tb-cdc 1 +3 2000\n",
     "tb-cdc 1 3 2000 \n",
     "tb-cdc 1 3\n",
     " tb-cdc 1 3 2000\n",
+    "tb-cdc 2 3 2000\n",
+    "tb-cdc 2 3 2000 0",
+    "tb-cdc 2 3 2000 00\n",
+    "tb-cdc 2 3 2000 2001\n",
+    "tb-cdc 2 3 9223372036854775808 0\n",
+    "tb-cdc 2 3 2000 \n",
+    "tb-cdc 2 3 2000 0 \n",
+    "tb-cdc 2 3 2000 0\n\n",
 ];
 
-// The progress of a row, whose timestamp is never above the greatest one.
-fn progress(session: u64, timestamp: u64) -> Progress {
-    Progress::new(session, timestamp.min(Progress::MAX_TIMESTAMP))
+// The progress of a row, whose numbers are in order.
+fn progress(session: u64, timestamp: u64, start: u64) -> Progress {
+    let timestamp = timestamp.min(Progress::MAX_TIMESTAMP);
+    Progress::new(session, timestamp, start.min(timestamp))
 }
 
 #[test]
 fn records_are_printed_and_read_back(rt: HostRuntime) -> Result<(), Fail> {
-    for (session, timestamp, text) in RECORDS {
-        let progress = progress(session, timestamp);
+    for (session, timestamp, start, text) in RECORDS {
+        let progress = progress(session, timestamp, start);
         assert_eq!(rt; print(rt.alloc(), progress)?.as_str(), text);
         assert_eq!(rt; parse(text.as_bytes()), Some(progress));
     }
     Ok(())
+}
+
+#[test]
+fn records_of_the_first_version_start_at_0(rt: HostRuntime) {
+    for (session, timestamp, text) in FIRST_RECORDS {
+        assert_eq!(rt; parse(text.as_bytes()), Some(progress(session, timestamp, 0)));
+    }
 }
 
 // Where the tests of files put theirs: a folder of this process.
@@ -74,8 +105,8 @@ fn a_file_gives_back_what_was_saved(rt: HostRuntime) -> Result<(), Fail> {
     let folder = scratch(&rt)?;
     let path = format!(in rt.alloc(); "{folder}/kept")?;
     assert_eq!(rt; load_at(&rt, path.as_str()), Ok(None));
-    for (session, timestamp, text) in RECORDS {
-        let progress = progress(session, timestamp);
+    for (session, timestamp, start, text) in RECORDS {
+        let progress = progress(session, timestamp, start);
         assert_eq!(rt; save_at(&rt, path.as_str(), progress), Ok(()));
         assert_eq!(rt; text_at(&rt, path.as_str())?.as_str(), text);
         assert_eq!(rt; load_at(&rt, path.as_str()), Ok(Some(progress)));
@@ -92,8 +123,8 @@ fn a_save_goes_by_way_of_a_new_file(rt: HostRuntime) -> Result<(), Fail> {
     let beside = format!(in rt.alloc(); "{folder}/saved.new")?;
     let stale = "half of a record that is longer than any record";
     fs::write(&rt, beside.as_str(), stale)?;
-    assert_eq!(rt; save_at(&rt, path.as_str(), Progress::new(3, 2000)), Ok(()));
-    assert_eq!(rt; text_at(&rt, path.as_str())?.as_str(), "tb-cdc 1 3 2000\n");
+    assert_eq!(rt; save_at(&rt, path.as_str(), Progress::new(3, 2000, 0)), Ok(()));
+    assert_eq!(rt; text_at(&rt, path.as_str())?.as_str(), "tb-cdc 2 3 2000 0\n");
     assert!(rt; !fs::exists(&rt, beside.as_str())?);
     fs::remove_dir_all(&rt, folder.as_str())?;
     Ok(())
@@ -104,8 +135,8 @@ fn a_save_goes_by_way_of_a_new_file(rt: HostRuntime) -> Result<(), Fail> {
 fn a_store_goes_by_its_file(rt: HostRuntime) -> Result<(), Fail> {
     let folder = scratch(&rt)?;
     let path = format!(in rt.alloc(); "{folder}/shared")?;
-    let first = Progress::new(1, 10);
-    let second = Progress::new(2, 20);
+    let first = Progress::new(1, 10, 0);
+    let second = Progress::new(2, 20, 10);
     let mut store = FileStore::at(&rt, path.as_str());
     assert_eq!(rt; store.save(first), Ok(()));
     assert_eq!(rt; save_at(&rt, path.as_str(), second), Ok(()));
@@ -145,7 +176,7 @@ fn a_damaged_file_is_no_record(rt: HostRuntime) -> Result<(), Fail> {
         assert_eq!(rt; answer, Err(StoreError::BadRecord), "{text}");
     }
     // the longest record, and one byte behind it
-    for (_, _, text) in RECORDS {
+    for (_, _, _, text) in RECORDS {
         let longer = format!(in rt.alloc(); "{text}0")?;
         let answer = load_of(&rt, path.as_str(), longer.as_str())?;
         assert_eq!(rt; answer, Err(StoreError::BadRecord), "{text}");
@@ -170,7 +201,7 @@ fn load_and_save(
 ) {
     let mut store = FileStore::at(rt, path);
     let loaded = store.load();
-    let saved = store.save(Progress::new(1, 0));
+    let saved = store.save(Progress::new(1, 0, 0));
     (loaded, saved, store.failures())
 }
 

@@ -3,7 +3,7 @@
 use cdc_message::{Item, Packet};
 use cdc_progress::{MemoryStore, Progress, ProgressStore, StoreError};
 use cdc_publisher::{Poll, Session, StartError};
-use cdc_types::{Event, EventAccount, EventKind, EventTransfer, Limits};
+use cdc_types::{Event, EventAccount, EventKind, EventTransfer, Limits, Moment};
 use std::alloc::{AllocError, Global};
 use std::test::Fail;
 
@@ -89,19 +89,27 @@ fn send(session: &mut Session, alloc: Global) -> Result<Sent, AllocError> {
     }
 }
 
-// What a store holds: a session and a timestamp.
-type Held = Option<(u64, u32)>;
+// What a store holds: a session, a timestamp and a start, which is no later.
+type Held = Option<(u64, u32, u32)>;
 
 fn progress(held: Held) -> Option<Progress> {
     match held {
-        Some((session, timestamp)) => Some(Progress::new(session, u64::from(timestamp))),
+        Some((session, timestamp, start)) => Some(Progress::new(
+            session,
+            u64::from(timestamp),
+            u64::from(start.min(timestamp)),
+        )),
         None => None,
     }
 }
 
-// The number and the base of a session that starts over this store.
-fn start(alloc: Global, store: &mut MemoryStore) -> Result<(u64, u64), StartError> {
-    let session = Session::start(alloc, store, 1)?;
+// The number and the base of a session that starts over this store, after a moment where one is asked for.
+fn start(
+    alloc: Global,
+    store: &mut MemoryStore,
+    at: Option<Moment>,
+) -> Result<(u64, u64), StartError> {
+    let session = Session::start(alloc, store, 1, at)?;
     Ok((session.number(), session.base()))
 }
 
@@ -109,21 +117,42 @@ fn start(alloc: Global, store: &mut MemoryStore) -> Result<(u64, u64), StartErro
 fn a_session_starts_where_its_number_is_saved(rt: HostRuntime) {
     let read_fault = Err(StartError::Store(StoreError::ReadFault));
     let write_fault = Err(StartError::Store(StoreError::WriteFault));
-    let rows: [(Held, u32, Result<(u64, u64), StartError>, Held); 5] = [
-        (None, 0, Ok((1, 0)), Some((1, 0))),
-        (Some((2, 2000)), 0, Ok((3, 2000)), Some((3, 2000))),
-        (Some((1, 2000)), 1, read_fault, Some((1, 2000))),
-        (Some((1, 2000)), 2, write_fault, Some((2, 2000))),
+    let rows: [(Held, u32, Result<(u64, u64), StartError>, Held); 6] = [
+        (None, 0, Ok((1, 0)), Some((1, 0, 0))),
+        (Some((2, 2000, 0)), 0, Ok((3, 2000)), Some((3, 2000, 0))),
+        (Some((2, 2001, 2000)), 0, Ok((3, 2001)), Some((3, 2001, 2000))),
+        (Some((1, 2000, 0)), 1, read_fault, Some((1, 2000, 0))),
+        (Some((1, 2000, 0)), 2, write_fault, Some((2, 2000, 0))),
         (
-            Some((u64::MAX, 2000)),
+            Some((u64::MAX, 2000, 0)),
             0,
             Err(StartError::SessionsExhausted),
-            Some((u64::MAX, 2000)),
+            Some((u64::MAX, 2000, 0)),
         ),
     ];
     for (held, fails_at, started, held_then) in rows {
         let mut store = MemoryStore::with_faults(progress(held), u64::from(fails_at), true);
-        assert_eq!(rt; start(rt.alloc(), &mut store), started);
+        assert_eq!(rt; start(rt.alloc(), &mut store, None), started);
+        assert_eq!(rt; store.load(), Ok(progress(held_then)));
+    }
+}
+
+// A start may be asked for only where nothing is saved; a store that can't be read is found before that, and that there is no
+// further number after it.
+#[test]
+fn a_session_starts_late_where_nothing_is_saved(rt: HostRuntime) {
+    let read_fault = Err(StartError::Store(StoreError::ReadFault));
+    let not_allowed = Err(StartError::StartNotAllowed);
+    let rows: [(Held, u32, Result<(u64, u64), StartError>, Held); 5] = [
+        (None, 0, Ok((1, 2000)), Some((1, 2000, 2000))),
+        (Some((1, 0, 0)), 0, not_allowed, Some((1, 0, 0))),
+        (Some((1, 2000, 2000)), 0, not_allowed, Some((1, 2000, 2000))),
+        (Some((1, 2000, 0)), 1, read_fault, Some((1, 2000, 0))),
+        (Some((u64::MAX, 5, 0)), 0, not_allowed, Some((u64::MAX, 5, 0))),
+    ];
+    for (held, fails_at, started, held_then) in rows {
+        let mut store = MemoryStore::with_faults(progress(held), u64::from(fails_at), true);
+        assert_eq!(rt; start(rt.alloc(), &mut store, Moment::new(2000)), started);
         assert_eq!(rt; store.load(), Ok(progress(held_then)));
     }
 }
@@ -224,7 +253,7 @@ const COURSE: [(Call, Answer); 32] = [
 #[test]
 fn a_course_from_its_connect_to_its_end_mark(rt: HostRuntime) -> Result<(), Fail> {
     let mut store = MemoryStore::new();
-    let mut session = Session::start(rt.alloc(), &mut store, 1)?;
+    let mut session = Session::start(rt.alloc(), &mut store, 1, None)?;
     for (place, (call, answer)) in COURSE.iter().enumerate() {
         let given = ask(rt.alloc(), &mut session, &mut store, *call)?;
         assert_eq!(rt; given, *answer, "call {place}");
@@ -274,7 +303,7 @@ const WIDE: [(Call, Answer); 23] = [
 #[test]
 fn a_course_of_three_events_at_a_time(rt: HostRuntime) -> Result<(), Fail> {
     let mut store = MemoryStore::new();
-    let mut session = Session::start(rt.alloc(), &mut store, 3)?;
+    let mut session = Session::start(rt.alloc(), &mut store, 3, None)?;
     for (place, (call, answer)) in WIDE.iter().enumerate() {
         let given = ask(rt.alloc(), &mut session, &mut store, *call)?;
         assert_eq!(rt; given, *answer, "call {place}");
@@ -285,7 +314,7 @@ fn a_course_of_three_events_at_a_time(rt: HostRuntime) -> Result<(), Fail> {
 #[test]
 fn a_session_of_a_thousand_events(rt: HostRuntime) -> Result<(), Fail> {
     let mut store = MemoryStore::new();
-    let mut session = Session::start(rt.alloc(), &mut store, 1)?;
+    let mut session = Session::start(rt.alloc(), &mut store, 1, None)?;
     assert_eq!(rt; send(&mut session, rt.alloc())?, Sent::Connect(1));
     for tag in 1..=1_000 {
         for (call, answer) in [
@@ -296,7 +325,7 @@ fn a_session_of_a_thousand_events(rt: HostRuntime) -> Result<(), Fail> {
             assert_eq!(rt; ask(rt.alloc(), &mut session, &mut store, call)?, answer);
         }
     }
-    let saved = Answer::Holds(Ok(progress(Some((1, 1_000)))));
+    let saved = Answer::Holds(Ok(progress(Some((1, 1_000, 0)))));
     assert_eq!(rt;
         ask(rt.alloc(), &mut session, &mut store, Call::Save)?,
         saved
@@ -310,6 +339,7 @@ fn errors_have_their_numbers_and_names(rt: HostRuntime) {
         (StartError::Store(StoreError::BadRecord), 1, "store"),
         (StartError::SessionsExhausted, 2, "sessions_exhausted"),
         (StartError::OutOfMemory, 3, "out_of_memory"),
+        (StartError::StartNotAllowed, 4, "start_not_allowed"),
     ] {
         assert_eq!(rt; error.number(), number);
         assert_eq!(rt; error.name(), name);

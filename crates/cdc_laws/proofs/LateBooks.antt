@@ -100,10 +100,10 @@ found-append id before entries =
 
 -- an entry shows its own number
 shows_itself : (entry : BookEntry) (o : Option BookEntry) → IsSome (option_or o (found entry.id (entry ∷ [])))
-shows_itself entry (Some other) = tt
+shows_itself entry (Some other) = refl
 shows_itself entry None =
     elim (eqb_tells entry.id entry.id) [
-      | inl same ↦ rw same.0 tt
+      | inl same ↦ rw same.0 refl
       | inr other ↦ absurd (other.1 refl)
     ]
 
@@ -119,16 +119,22 @@ each_found (entry ∷ entries) = (
       (map (λ (e : BookEntry). e.id) entries) (each_found entries),
 )
 
+-- the numbers that have appeared after one more
+abbrev appeared : List ℕ → ℕ → List ℕ
+appeared seen id = if is_among id seen then seen else (seen ++ id ∷ [])
+
 -- what holds of numbers holds of those that appear among them
 appear_have : (P : ℕ → Type 0) (ids seen : List ℕ) → AllByRecursion P ids → AllByRecursion P seen
-    → AllByRecursion P (fold (λ seen id. if is_among id seen then seen else (seen ++ id ∷ [])) seen ids)
+    → AllByRecursion P (fold appeared seen ids)
 appear_have P [] seen all have = have
-appear_have P (id ∷ ids) seen all have = by (is_among id seen)
+appear_have P (id ∷ ids) seen all have =
+    by (is_among id seen) (appear_have P ids seen all.1 have)
+    (appear_have P ids (seen ++ id ∷ []) all.1 (AllByRecursion_push P seen id have all.0))
   where
-    by : (b : Bool) → AllByRecursion P (fold (λ seen id. if is_among id seen then seen else (seen ++ id ∷ []))
-        (if b then seen else (seen ++ id ∷ [])) ids)
-    by true = appear_have P ids seen all.1 have
-    by false = appear_have P ids (seen ++ id ∷ []) all.1 (AllByRecursion_push P seen id have all.0)
+    by : (b : Bool) → AllByRecursion P (fold appeared seen ids) → AllByRecursion P (fold appeared (seen ++ id ∷ []) ids)
+        → AllByRecursion P (fold appeared (if b then seen else (seen ++ id ∷ [])) ids)
+    by true stays joins = stays
+    by false stays joins = joins
 
 -- so each account of events is shown by them
 accounts_shown : (es : List Event) → AllByRecursion (λ id. IsSome (found id (flat_map sides es))) (accounts_of es)

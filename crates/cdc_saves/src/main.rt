@@ -1,8 +1,8 @@
 //! Loads the record of progress that a file holds, or saves one to it: a program for tests alone, which have the calls
 //! beneath it fail (tests/faults/sweep.py).
 //!
-//!   cdc_saves FILE                      prints the record, or `none` where there is no file
-//!   cdc_saves FILE SESSION TIMESTAMP    saves a record
+//!   cdc_saves FILE                            prints the record, or `none` where there is no file
+//!   cdc_saves FILE SESSION TIMESTAMP START    saves a record
 //!
 //! It ends with 0 where that was done, and else with the number of the store's error, or with a status of its own.
 #![tactic(auto)]
@@ -22,17 +22,20 @@ use std::process::ExitCode;
 use std::{env, io};
 
 /// The record of these numbers, in decimal digits, if they are those of one.
-fn record_of(session: &str, timestamp: &str) -> Option<Progress> {
+fn record_of(session: &str, timestamp: &str, start: &str) -> Option<Progress> {
     let Ok(session) = session.parse::<u64>() else {
         return None;
     };
     let Ok(timestamp) = timestamp.parse::<u64>() else {
         return None;
     };
-    if timestamp > Progress::MAX_TIMESTAMP {
+    let Ok(start) = start.parse::<u64>() else {
+        return None;
+    };
+    if timestamp > Progress::MAX_TIMESTAMP || start > timestamp {
         return None;
     }
-    Some(Progress::new(session, timestamp))
+    Some(Progress::new(session, timestamp, start))
 }
 
 /// Prints what a store holds.
@@ -86,10 +89,12 @@ fn run(rt: &HostRuntime) -> Result<(), SavesFault> {
             let mut store = FileStore::at(rt, file.as_str());
             show(rt.alloc(), &mut store, &mut io::writer(rt))
         }
-        [file, session, timestamp] => match record_of(session.as_str(), timestamp.as_str()) {
-            Some(progress) => keep(&mut FileStore::at(rt, file.as_str()), progress),
-            None => Err(SavesFault::BadWords),
-        },
+        [file, session, timestamp, start] => {
+            match record_of(session.as_str(), timestamp.as_str(), start.as_str()) {
+                Some(progress) => keep(&mut FileStore::at(rt, file.as_str()), progress),
+                None => Err(SavesFault::BadWords),
+            }
+        }
         _ => Err(SavesFault::BadWords),
     }
 }

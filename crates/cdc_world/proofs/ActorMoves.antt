@@ -12,12 +12,12 @@ use Rattle.cdc_progress.specs.Stores.{Risks}
 use Rattle.cdc_types.specs.declared.batches.Batch.{Batch}
 use Rattle.cdc_types.specs.declared.batches.BatchResults.{BatchResults}
 use Rattle.cdc_types.specs.declared.steps.Step.{Step}
-use Rattle.cdc_types.specs.declared.steps.Step.TheVariants.{Submit, CloseLedger, Start, Crash, Poll as PollStep, Publish as PublishStep, Arrive, Answer, Save, Send, Rewind, Break, Take, Ack, Close}
+use Rattle.cdc_types.specs.declared.steps.Step.TheVariants.{Submit, CloseLedger, Start, StartAt, Crash, Poll as PollStep, Publish as PublishStep, Arrive, Answer, Save, Send, Rewind, Break, Take, Ack, Close}
 use Rattle.cdc_laws.proofs.Places.{none_there}
 use Rattle.cdc_world.specs.declared.steps.Did.{Did}
 use Rattle.cdc_world.specs.declared.steps.Did.TheVariants.{Submitted, Done}
 use Rattle.cdc_world.specs.declared.steps.StepError.{StepError}
-use Rattle.cdc_world.specs.declared.steps.StepError.TheVariants.{NotEnabled, Refused, Store, SessionsExhausted, OutOfMemory}
+use Rattle.cdc_world.specs.declared.steps.StepError.TheVariants.{NotEnabled, Refused, Store, SessionsExhausted, OutOfMemory, StartNotAllowed}
 use Rattle.cdc_world.specs.Moves.{IsStoreCounted, Moves, MovesBy}
 use Rattle.cdc_world.specs.Next.{IsStepRisked, IsTried, Next, next, takes_memory, uses_store, with_batch, with_ledger_closed}
 use Rattle.cdc_world.specs.declared.subscriptions.Subscription.{Subscription as Kept_subscription}
@@ -87,23 +87,25 @@ pub Moves-risked : (p : Parts) (step : Step) (answer : Result Did StepError) (p'
 Moves-risked p step answer p' moves risked honest w st =
     let after = moves honest w st in (after.0, (after.1.0, (after.1.1, risked w st)))
 
--- each step but two leaves the store alone
-pub leaves_store : (step : Step) → (step ≡ Start → ⊥) → (step ≡ Save → ⊥) → uses_store step ≡ false
-leaves_store (Submit batch) not-start not-save = refl
-leaves_store CloseLedger not-start not-save = refl
-leaves_store Start not-start not-save = absurd (not-start refl)
-leaves_store Crash not-start not-save = refl
-leaves_store PollStep not-start not-save = refl
-leaves_store PublishStep not-start not-save = refl
-leaves_store (Arrive k) not-start not-save = refl
-leaves_store (Answer k) not-start not-save = refl
-leaves_store Save not-start not-save = absurd (not-save refl)
-leaves_store (Send i) not-start not-save = refl
-leaves_store (Rewind i) not-start not-save = refl
-leaves_store (Break i) not-start not-save = refl
-leaves_store (Take i) not-start not-save = refl
-leaves_store (Ack i k) not-start not-save = refl
-leaves_store (Close i) not-start not-save = refl
+-- each step but those leaves the store alone
+pub leaves_store : (step : Step) → (step ≡ Start → ⊥) → ((moment : ℕ) → step ≡ StartAt moment → ⊥) → (step ≡ Save → ⊥)
+    → uses_store step ≡ false
+leaves_store (Submit batch) not-start not-start_at not-save = refl
+leaves_store CloseLedger not-start not-start_at not-save = refl
+leaves_store Start not-start not-start_at not-save = absurd (not-start refl)
+leaves_store (StartAt moment) not-start not-start_at not-save = absurd (not-start_at moment refl)
+leaves_store Crash not-start not-start_at not-save = refl
+leaves_store PollStep not-start not-start_at not-save = refl
+leaves_store PublishStep not-start not-start_at not-save = refl
+leaves_store (Arrive k) not-start not-start_at not-save = refl
+leaves_store (Answer k) not-start not-start_at not-save = refl
+leaves_store Save not-start not-start_at not-save = absurd (not-save refl)
+leaves_store (Send i) not-start not-start_at not-save = refl
+leaves_store (Rewind i) not-start not-start_at not-save = refl
+leaves_store (Break i) not-start not-start_at not-save = refl
+leaves_store (Take i) not-start not-start_at not-save = refl
+leaves_store (Ack i k) not-start not-start_at not-save = refl
+leaves_store (Close i) not-start not-start_at not-save = refl
 
 -- so whatever such a step answers is a risk of it
 own_risked : (risks : Risks) (w w' : WorldState) (step : Step) (answer : Result Did StepError)
@@ -114,6 +116,7 @@ own_risked risks w w' step (Err (Refused why)) own of next = tt
 own_risked risks w w' step (Err (Store why)) own of next = absurd of
 own_risked risks w w' step (Err SessionsExhausted) own of next = tt
 own_risked risks w w' step (Err OutOfMemory) own of next = tt
+own_risked risks w w' step (Err StartNotAllowed) own of next = tt
 
 -- a step of the actors is one of the world
 pub Moves-actors : (p : Parts) (actors' : ActorParts) (step : Step) (answer : Result Did StepError)
@@ -135,6 +138,7 @@ refused_counted failed (Refused why) own = refl
 refused_counted failed (Store why) own = absurd own
 refused_counted failed SessionsExhausted own = refl
 refused_counted failed OutOfMemory own = refl
+refused_counted failed StartNotAllowed own = refl
 
 -- and so does each
 actors_counted : (failed : ℕ) (answer : Result Did StepError) → IsOfActors answer → IsStoreCounted failed failed answer

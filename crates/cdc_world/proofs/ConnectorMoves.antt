@@ -1,6 +1,7 @@
 -- What is kept after each step of the connector, and the state that it stands for.
-use Rattle.std.proofs.Common.{◌≡◌, ℕ, Bool, true, false, List, [], ◌∷◌, ◌++◌, Option, Some, None, Ok, Err, refl, sym, ap, ◌∙◌, subst, take, inl, inr}
-use Rattle.std.specs.Prelude.{◌⊎◌, is_some, option_map}
+use Rattle.std.proofs.Common.{◌≡◌, ℕ, Bool, true, false, List, [], ◌∷◌, ◌++◌, Option, Some, None, Result, Ok, Err, refl, sym, ap, ◌∙◌, subst, take, inl, inr}
+use Rattle.core.specs.Result.{result_ok}
+use Rattle.std.specs.Prelude.{◌⊎◌, ◌+◌, ◌==◌, IsTrue, is_some, option_map, if◌then◌else◌}
 use Rattle.cdc_ledger.specs.Events.{events}
 use Rattle.cdc_ledger.specs.History.{History}
 use Rattle.cdc_log.specs.Log.{events_after}
@@ -10,7 +11,7 @@ use Rattle.cdc_progress.specs.Records.{Saved}
 use Rattle.cdc_progress.specs.Stores.{IsRisked, MayRefuseSave, Risks}
 use Rattle.cdc_progress.specs.declared.errors.StoreError.{StoreError}
 use Rattle.cdc_progress.specs.declared.errors.StoreError.TheVariants as store
-use Rattle.cdc_publisher.specs.Courses.{Course, after_answer, begun, new_course, next_packet, next_poll, progress_of, with_offer, with_sent}
+use Rattle.cdc_publisher.specs.Courses.{Course, after_answer, begun, last_session, new_course, next_packet, next_poll, progress_of, with_offer, with_sent}
 use Rattle.cdc_publisher.specs.Kept.{Kept}
 use Rattle.cdc_publisher.specs.Stands.{StandsFor}
 use Rattle.cdc_publisher.specs.Starts.{HasStarted, IsStartRisked, MayRefuseStart}
@@ -18,12 +19,12 @@ use Rattle.cdc_publisher.specs.declared.errors.StartError.{StartError}
 use Rattle.cdc_publisher.specs.declared.errors.StartError.TheVariants as start
 use Rattle.cdc_publisher.specs.declared.session.Poll.{Poll}
 use Rattle.cdc_types.specs.declared.steps.Step.{Step}
-use Rattle.cdc_types.specs.declared.steps.Step.TheVariants.{Start, Crash, Poll as PollStep, Publish as PublishStep, Answer, Save}
+use Rattle.cdc_types.specs.declared.steps.Step.TheVariants.{Crash, Poll as PollStep, Publish as PublishStep, Answer, Save}
 use Rattle.cdc_world.specs.declared.steps.Did.TheVariants.{Counted, Done}
 use Rattle.cdc_world.specs.declared.steps.StepError.TheVariants.{NotEnabled}
 use Rattle.cdc_world.specs.Moves.{Moves, MovesBy}
 use Rattle.cdc_laws.specs.Readings.{none_follow}
-use Rattle.cdc_world.specs.Next.{IsStepRisked, IsTried, Next, Outcome, ◌>>=◌, counts, next, success, with_answer, with_crash, with_packet, with_poll, with_progress, with_session, with_start}
+use Rattle.cdc_world.specs.Next.{IsStepRisked, IsTried, Next, Outcome, ◌>>=◌, counts, loads, next, saves, start_after, success, takes_memory, uses_store, with_answer, with_crash, with_packet, with_poll, with_progress, with_session, with_start}
 use Rattle.cdc_world.specs.Parts.{ActorParts, Parts}
 use Rattle.cdc_world.specs.Refusals.{start_refusal, store_refusal}
 use Rattle.cdc_world.specs.Stands.{ActorsStand, SessionStands, Stands}
@@ -307,24 +308,58 @@ save_failed p kept held honest' risks' store.WriteFault failed failed' is either
       )
     ]
 
--- a session starts, where there is a number for it
-starts_next : (w : WorldState) (saved : Option Saved) → w.session ≡ None → begun w.held ≡ saved
-    → next w Start ≡ with_session w saved
-starts_next w saved down begins = ap (with_start w) down ∙ ap (with_session w) begins
+-- a step that starts a session turns to the store: it loads, and may run out of memory before that
+loads_start : (at : Option ℕ) → IsTrue (loads (start_after at))
+loads_start None = refl
+loads_start (Some moment) = refl
 
--- a session that is about to start is refused only where there is no further number for it
-started_tried : (w : WorldState) (saved : Option Saved) → IsTried (with_session w saved)
-started_tried w None = tt
-started_tried w (Some saved) = tt
+uses_start : (at : Option ℕ) → IsTrue (uses_store (start_after at))
+uses_start None = refl
+uses_start (Some moment) = refl
+
+room_start : (at : Option ℕ) → IsTrue (takes_memory (start_after at))
+room_start None = refl
+room_start (Some moment) = refl
+
+-- what it saves
+saves_start : (w : WorldState) (at : Option ℕ) (saved : Saved) → begun w.held at ≡ Ok saved
+    → saves w (start_after at) ≡ Some saved
+saves_start w None saved begins = ap result_ok begins
+saves_start w (Some moment) saved begins = ap result_ok begins
+
+-- a session starts where the connector is down, or what keeps it from that is answered
+starts_next : (w : WorldState) (at : Option ℕ) (answer : Result Saved StartError) → w.session ≡ None
+    → begun w.held at ≡ answer → next w (start_after at) ≡ with_session w answer
+starts_next w None answer down begins = ap (with_start w None) down ∙ ap (with_session w) begins
+starts_next w (Some moment) answer down begins = ap (with_start w (Some moment)) down ∙ ap (with_session w) begins
+
+-- a session that is about to start is refused only where there is no further number for it, or for the moment that is
+-- asked for
+begun_tried : (w : WorldState) (held : Option Saved) (at : Option ℕ) → IsTried (with_session w (begun held at))
+begun_tried w None at = tt
+begun_tried w (Some held) (Some moment) = tt
+begun_tried w (Some held) None = by (held.session == last_session)
+  where
+    by : (b : Bool) → IsTried (with_session w
+        (if b then Err start.SessionsExhausted else Ok (record held { session = held.session + 1 })))
+    by true = tt
+    by false = tt
 
 -- so where the connector is down a start may fail for the store's sake or for want of memory
-start_tried : (w : WorldState) → w.session ≡ None → IsTried (next w Start)
-start_tried w down =
-    subst IsTried (sym (starts_next w (begun w.held) down refl)) (started_tried w (begun w.held))
+start_tried : (w : WorldState) (at : Option ℕ) → w.session ≡ None → IsTried (next w (start_after at))
+start_tried w at down =
+    subst IsTried (sym (starts_next w at (begun w.held at) down refl)) (begun_tried w w.held at)
+
+-- over an honest store a session begins from what is held
+begins_held : (held loaded before : Option Saved) (at : Option ℕ) (answer : Result Saved StartError) → before ≡ held
+    → loaded ≡ before → begun loaded at ≡ answer → begun held at ≡ answer
+begins_held held loaded before at answer stands given begins =
+    ap (λ h. begun h at) (sym (given ∙ stands)) ∙ begins
 
 -- a session starts over an honest store: it stands for a new course under the record that is now held
-pub start_done : (p : Parts) (actors' : ActorParts) (kept : Kept) (held : Option Saved) (honest : Bool)
-    (risks : Risks) (failed' window : ℕ) → p.actors.session ≡ None → actors' ≡ record p.actors { session = Some kept }
+pub start_done : (p : Parts) (at : Option ℕ) (actors' : ActorParts) (kept : Kept) (held : Option Saved)
+    (honest : Bool) (risks : Risks) (failed' window : ℕ) → p.actors.session ≡ None
+    → actors' ≡ record p.actors { session = Some kept }
     → window ≡ p.actors.window
     → HasStarted (record {
       honest = p.honest;
@@ -332,12 +367,12 @@ pub start_done : (p : Parts) (actors' : ActorParts) (kept : Kept) (held : Option
       after = held;
       failed_before = p.failed;
       failed_after = failed';
-    }) window kept
-    → MovesBy Next p Start (Ok Done)
+    }) at window kept
+    → MovesBy Next p (start_after at) (Ok Done)
     (record { actors = actors'; held = held; honest = honest; failed = failed'; risks = risks })
-start_done p actors' kept held honest' risks' failed' window down new waits has honest w st =
-    let begins : begun w.held ≡ Some has.saved = ap begun (sym st.held) ∙ ap begun (sym (has.given (honest refl)))
-    ∙ has.begins in
+start_done p at actors' kept held honest' risks' failed' window down new waits has honest w st =
+    let begins : begun w.held at ≡ Ok has.saved =
+    begins_held w.held has.loaded p.held at (Ok has.saved) st.held (has.given (honest (loads_start at))) has.begins in
     let after : WorldState = record w { held = Some has.saved; session = Some (new_course has.saved w.window) } in (
       after,
       (
@@ -356,12 +391,12 @@ start_done p actors' kept held honest' risks' failed' window down new waits has 
               });
           held = has.held;
         },
-        starts_next w (Some has.saved) (no_course p.actors w st.actors down) begins,
+        starts_next w at (Ok has.saved) (no_course p.actors w st.actors down) begins,
       ),
     )
 
 -- a session doesn't start
-pub start_failed : (p : Parts) (held : Option Saved) (honest : Bool) (risks : Risks) (why : StartError)
+pub start_failed : (p : Parts) (at : Option ℕ) (held : Option Saved) (honest : Bool) (risks : Risks) (why : StartError)
     (failed failed' : ℕ) → p.actors.session ≡ None
     → MayRefuseStart (record {
       honest = p.honest;
@@ -369,53 +404,71 @@ pub start_failed : (p : Parts) (held : Option Saved) (honest : Bool) (risks : Ri
       after = held;
       failed_before = failed;
       failed_after = failed';
-    }) why
-    → MovesBy Next p Start (Err (start_refusal why))
+    }) at why
+    → MovesBy Next p (start_after at) (Err (start_refusal why))
     (record p { held = held; honest = honest; failed = failed'; risks = risks })
-start_failed p held honest' risks' (start.Store store.ReadFault) failed failed' down may honest w st = (
+start_failed p at held honest' risks' (start.Store store.ReadFault) failed failed' down may honest w st = (
   w,
   (
     with_held p w held honest' risks' failed' w.held st (may.0 ∙ st.held),
-    (refl, (start_tried w (no_course p.actors w st.actors down), (refl, refl))),
+    (uses_start at, (start_tried w at (no_course p.actors w st.actors down), (loads_start at, refl))),
   ),
 )
-start_failed p held honest' risks' (start.Store store.BadRecord) failed failed' down may honest w st =
-    absurd (may.1.1 (honest refl))
-start_failed p held honest' risks' (start.Store store.OutOfMemory) failed failed' down may honest w st = absurd may
-start_failed p held honest' risks' (start.Store store.WriteFault) failed failed' down may honest w st =
+start_failed p at held honest' risks' (start.Store store.BadRecord) failed failed' down may honest w st =
+    absurd (may.1.1 (honest (loads_start at)))
+start_failed p at held honest' risks' (start.Store store.OutOfMemory) failed failed' down may honest w st = absurd may
+start_failed p at held honest' risks' (start.Store store.WriteFault) failed failed' down may honest w st =
     let half = may.0 in
-    let begins : begun w.held ≡ Some half.saved = ap begun (sym st.held) ∙ ap begun (sym (half.given (honest refl)))
-    ∙ half.begins in
-    let tried = start_tried w (no_course p.actors w st.actors down) in
+    let given = half.given (honest (loads_start at)) in
+    let begins : begun w.held at ≡ Ok half.saved =
+    begins_held w.held half.loaded p.held at (Ok half.saved) st.held given half.begins in
+    let tried = start_tried w at (no_course p.actors w st.actors down) in
+    let saves = saves_start w at half.saved begins in
     elim half.held [
       | inl same ↦ (
         w,
         (
-          with_held p w held honest' risks' failed' w.held st (same ∙ (half.given (honest refl) ∙ st.held)),
-          (refl, (tried, (half.saved, begins, inl refl))),
+          with_held p w held honest' risks' failed' w.held st (same ∙ (given ∙ st.held)),
+          (uses_start at, (tried, (half.saved, saves, inl refl))),
         ),
       )
       | inr new ↦ (
         record w { held = Some half.saved },
         (
           with_held p w held honest' risks' failed' (Some half.saved) st new,
-          (refl, (tried, (half.saved, begins, inr refl))),
+          (uses_start at, (tried, (half.saved, saves, inr refl))),
         ),
       )
     ]
-start_failed p held honest' risks' start.SessionsExhausted failed failed' down may honest w st =
-    let same = may.1.1 (honest refl) ∙ st.held in (
+start_failed p at held honest' risks' start.SessionsExhausted failed failed' down may honest w st =
+    let same = may.1.1 (honest (loads_start at)) ∙ st.held in (
       w,
       (
         with_held p w held honest' risks' failed' w.held st same,
-        (starts_next w None (no_course p.actors w st.actors down) (ap begun (sym same) ∙ may.1.0), refl),
+        (
+          starts_next w at (Err start.SessionsExhausted) (no_course p.actors w st.actors down)
+              (ap (λ h. begun h at) (sym same) ∙ may.1.0),
+          refl,
+        ),
       ),
     )
-start_failed p held honest' risks' start.OutOfMemory failed failed' down may honest w st = (
+start_failed p at held honest' risks' start.StartNotAllowed failed failed' down may honest w st =
+    let same = may.1.1 (honest (loads_start at)) ∙ st.held in (
+      w,
+      (
+        with_held p w held honest' risks' failed' w.held st same,
+        (
+          starts_next w at (Err start.StartNotAllowed) (no_course p.actors w st.actors down)
+              (ap (λ h. begun h at) (sym same) ∙ may.1.0),
+          refl,
+        ),
+      ),
+    )
+start_failed p at held honest' risks' start.OutOfMemory failed failed' down may honest w st = (
   w,
   (
-    with_held p w held honest' risks' failed' w.held st (may.1 (honest refl) ∙ st.held),
-    (refl, (start_tried w (no_course p.actors w st.actors down), refl)),
+    with_held p w held honest' risks' failed' w.held st (may.1 (honest (loads_start at)) ∙ st.held),
+    (room_start at, (start_tried w at (no_course p.actors w st.actors down), refl)),
   ),
 )
 
@@ -435,6 +488,7 @@ start_risked : (risks : Risks) (outcome : Outcome) (why : StartError) → IsStar
 start_risked risks outcome (start.Store why) may = may
 start_risked risks outcome start.SessionsExhausted may = tt
 start_risked risks outcome start.OutOfMemory may = tt
+start_risked risks outcome start.StartNotAllowed may = tt
 
 -- so a save that fails
 pub save_refused : (p : Parts) (why : StoreError) (p' : Parts) → IsRisked p.risks why
@@ -443,7 +497,9 @@ save_refused p why p' may moves =
     Moves-risked p Save (Err (store_refusal why)) p' moves (λ w st. save_risked p.risks (next w Save) why may)
 
 -- and a session that doesn't start
-pub start_refused : (p : Parts) (why : StartError) (p' : Parts) → IsStartRisked p.risks why
-    → MovesBy Next p Start (Err (start_refusal why)) p' → Moves p Start (Err (start_refusal why)) p'
-start_refused p why p' may moves =
-    Moves-risked p Start (Err (start_refusal why)) p' moves (λ w st. start_risked p.risks (next w Start) why may)
+pub start_refused : (p : Parts) (at : Option ℕ) (why : StartError) (p' : Parts) → IsStartRisked p.risks why
+    → MovesBy Next p (start_after at) (Err (start_refusal why)) p'
+    → Moves p (start_after at) (Err (start_refusal why)) p'
+start_refused p at why p' may moves =
+    Moves-risked p (start_after at) (Err (start_refusal why)) p' moves
+    (λ w st. start_risked p.risks (next w (start_after at)) why may)

@@ -6,7 +6,7 @@ use Rattle.cdc_types.specs.declared.batches.Batch.TheVariants as batch
 use Rattle.cdc_types.specs.declared.transfers.NewTransfer.{NewTransfer}
 use Rattle.cdc_ledger.specs.declared.errors.BatchError.TheVariants.{LedgerClosed}
 use Rattle.cdc_match.specs.declared.pairs.Mode.TheVariants.{All}
-use Rattle.cdc_progress.specs.Records.{Saved}
+use Rattle.cdc_progress.specs.Records.{Saved, saved}
 use Rattle.cdc_progress.specs.Stores.{Risks}
 use Rattle.cdc_progress.specs.declared.errors.StoreError.TheVariants.{WriteFault}
 use Rattle.cdc_publisher.specs.Courses.{new_course}
@@ -14,10 +14,10 @@ use Rattle.cdc_subscriber.specs.declared.book.BookEntry.{BookEntry}
 use Rattle.cdc_subscriber.specs.Heard.{kept_of}
 use Rattle.cdc_subscriber.specs.Kept.{Kept}
 use Rattle.cdc_types.specs.declared.steps.Step.{Step}
-use Rattle.cdc_types.specs.declared.steps.Step.TheVariants.{Submit, CloseLedger, Start, Crash, Poll, Publish, Arrive, Answer, Save, Send, Rewind, Break, Take, Ack, Close}
+use Rattle.cdc_types.specs.declared.steps.Step.TheVariants.{Submit, CloseLedger, Start, StartAt, Crash, Poll, Publish, Arrive, Answer, Save, Send, Rewind, Break, Take, Ack, Close}
 use Rattle.cdc_world.specs.declared.steps.Did.TheVariants.{Done}
 use Rattle.cdc_world.specs.declared.steps.StepError.{StepError}
-use Rattle.cdc_world.specs.declared.steps.StepError.TheVariants.{NotEnabled, Refused, SessionsExhausted, Store}
+use Rattle.cdc_world.specs.declared.steps.StepError.TheVariants.{NotEnabled, Refused, SessionsExhausted, StartNotAllowed, Store}
 use Rattle.cdc_world.specs.Next.{Next}
 use Rattle.cdc_world.specs.Runs.{Run, run_of}
 use Rattle.cdc_world.specs.Tries.{NextPast}
@@ -90,7 +90,7 @@ empty_and_closed =
 -- the subscriber has ended with an empty book, and the first session is held with moment 0
 tells_end : shown (run_of start empty_and_closed) ≡ (
   (10, None),
-  Some (record { session = 1; timestamp = 0 }),
+  Some (saved 1 0),
   record { book = []; last = 0; applied = 0; ended = true; closed = false } ∷ [],
 )
 tells_end = refl
@@ -98,7 +98,7 @@ tells_end = refl
 -- an empty ledger that is open has nothing to tell, not even its end
 tells_no_end : shown (run_of start (Start ∷ Publish ∷ Arrive 1 ∷ sent)) ≡ (
   (4, Some NotEnabled),
-  Some (record { session = 1; timestamp = 0 }),
+  Some (saved 1 0),
   record { book = []; last = 0; applied = 0; ended = false; closed = false } ∷ [],
 )
 tells_no_end = refl
@@ -116,7 +116,7 @@ whole_way =
 -- the book shows both amounts, the subscriber has ended, and the second event's moment is held
 tells_all : shown (run_of start whole_way) ≡ (
   (25, None),
-  Some (record { session = 1; timestamp = 2001 }),
+  Some (saved 1 2001),
   record { book = moved 12; last = 2001; applied = 2; ended = true; closed = false } ∷ [],
 )
 tells_all = refl
@@ -130,7 +130,7 @@ refused w steps = (run_of w steps).0
 -- each with the number of steps that were done before it
 refuses : (refused start (CloseLedger ∷ Submit (batch.Pulse 5) ∷ []) ≡ (1, Some (Refused LedgerClosed)))
     × (refused start (Start ∷ Start ∷ []) ≡ (1, Some NotEnabled))
-    × (refused (record start { held = Some (record { session = 18446744073709551615; timestamp = 7 }) }) (Start ∷ [])
+    × (refused (record start { held = Some (saved 18446744073709551615 7) }) (Start ∷ [])
     ≡ (0, Some SessionsExhausted))
     × (refused start (connected two_transfers ++ sent ++ Arrive 3 ∷ []) ≡ (7, Some NotEnabled))
     × (refused start (Start ∷ Publish ∷ Arrive 0 ∷ []) ≡ (2, Some NotEnabled))
@@ -152,7 +152,7 @@ late_packets =
 -- the event is in the queue once, as the second session sent it: there is nothing to hand out after it
 passes_over_late : shown (run_of start late_packets) ≡ (
   (18, Some NotEnabled),
-  Some (record { session = 2; timestamp = 0 }),
+  Some (saved 2 0),
   record { book = moved 100; last = 2000; applied = 1; ended = false; closed = false } ∷ [],
 )
 passes_over_late = refl
@@ -166,7 +166,7 @@ saved_early =
 -- the first save holds moment 0, so both events come from the second session; its own save has the last one
 saves_confirmed_alone : shown (run_of start saved_early) ≡ (
   (25, None),
-  Some (record { session = 2; timestamp = 2001 }),
+  Some (saved 2 2001),
   record { book = moved 12; last = 2001; applied = 2; ended = false; closed = false } ∷ [],
 )
 saves_confirmed_alone = refl
@@ -185,7 +185,7 @@ handed_out_again =
 -- of the seven deliveries four are applied, and each amount is in the book once
 applies_once : shown (run_of start handed_out_again) ≡ (
   (36, None),
-  Some (record { session = 1; timestamp = 0 }),
+  Some (saved 1 0),
   record { book = moved 10; last = 2003; applied = 4; ended = false; closed = false } ∷ [],
 )
 applies_once = refl
@@ -207,7 +207,7 @@ crashed_between =
 -- the sixth event's moment is held, not the seventh's
 goes_on_from_saved : shown (run_of start crashed_between) ≡ (
   (49, None),
-  Some (record { session = 2; timestamp = 2005 }),
+  Some (saved 2 2005),
   record { book = []; last = 0; applied = 0; ended = false; closed = false } ∷ [],
 )
 goes_on_from_saved = refl
@@ -220,7 +220,7 @@ closed_between =
 -- the second event is taken, but book, count and last timestamp are those of the first
 stays_closed : shown (run_of start closed_between) ≡ (
   (18, None),
-  Some (record { session = 1; timestamp = 0 }),
+  Some (saved 1 0),
   record { book = moved 5; last = 2000; applied = 1; ended = false; closed = true } ∷ [],
 )
 stays_closed = refl
@@ -235,21 +235,63 @@ broken_off =
 -- the last hand-out isn't enabled, and of the three deliveries that were taken two are applied
 lifts_cursor : shown (run_of start broken_off) ≡ (
   (23, Some NotEnabled),
-  Some (record { session = 1; timestamp = 0 }),
+  Some (saved 1 0),
   record { book = moved 12; last = 2001; applied = 2; ended = false; closed = false } ∷ [],
 )
 lifts_cursor = refl
+
+-- ---- a late start
+
+-- a publisher that joins late, after the first of two events
+abbrev joins_late : List Step
+joins_late =
+    Submit (batch.Accounts 1000 (account 1 ∷ account 2 ∷ [])) ∷ Submit (batch.Transfers 2000 two_transfers)
+    ∷ StartAt 2000 ∷ []
+
+-- the second event alone is told, and yet the book has both amounts, since the ledger's balances come with it; the moment
+-- that was asked for is held as where all is confirmed up to, and as the start
+tells_what_follows : shown (run_of start (joins_late ++ Publish ∷ Arrive 1 ∷ taken 2 ++ Send 1 ∷ Take 1 ∷ [])) ≡ (
+  (10, None),
+  Some (record { session = 1; timestamp = 2000; start = 2000 }),
+  record { book = moved 12; last = 2001; applied = 1; ended = false; closed = false } ∷ [],
+)
+tells_what_follows = refl
+
+-- once it is held, no other start may be asked for: nothing is saved then
+no_second_start : shown (run_of start (joins_late ++ Crash ∷ StartAt 5 ∷ [])) ≡ (
+  (4, Some StartNotAllowed),
+  Some (record { session = 1; timestamp = 2000; start = 2000 }),
+  record { book = []; last = 0; applied = 0; ended = false; closed = false } ∷ [],
+)
+no_second_start = refl
+
+-- a session that starts without asking goes on where the first one was, and every save keeps the start
+keeps_its_start : shown (run_of start (joins_late ++ Publish ∷ Arrive 1 ∷ told 2 1 ++ Save ∷ Crash ∷ Start ∷ [])) ≡ (
+  (11, None),
+  Some (record { session = 2; timestamp = 2001; start = 2000 }),
+  record { book = []; last = 0; applied = 0; ended = false; closed = false } ∷ [],
+)
+keeps_its_start = refl
+
+-- where a session runs the step isn't enabled, whatever it asks for
+starts_once : refused start (joins_late ++ StartAt 2000 ∷ []) ≡ (3, Some NotEnabled)
+starts_once = refl
+
+-- and that no start may be asked for is found before that there is no further number
+asks_first : refused (record start { held = Some (saved 18446744073709551615 7) }) (StartAt 9 ∷ [])
+    ≡ (0, Some StartNotAllowed)
+asks_first = refl
 
 -- ---- steps that are tried again
 
 -- the world in which this is held
 abbrev holding : ℕ → WorldState
-holding session = record start { held = Some (record { session = session; timestamp = 0 }) }
+holding session = record start { held = Some (saved session 0) }
 
 -- and in which the session of this number has just started
 abbrev running : ℕ → WorldState
 running session =
-    record (holding session) { session = Some (new_course (record { session = session; timestamp = 0 }) 1) }
+    record (holding session) { session = Some (new_course (saved session 0) 1) }
 
 -- the store may fail, and lacks no memory
 abbrev failing : Risks
@@ -257,10 +299,10 @@ failing = record { memory = false; faults = true }
 
 -- the save of a first start fails, and the store holds the new record, or the old one
 fails_with_new : Next start Start (Err (Store WriteFault)) (holding 1)
-fails_with_new = (refl, (tt, (record { session = 1; timestamp = 0 }, refl, inr refl)))
+fails_with_new = (refl, (tt, (saved 1 0, refl, inr refl)))
 
 fails_with_old : Next start Start (Err (Store WriteFault)) start
-fails_with_old = (refl, (tt, (record { session = 1; timestamp = 0 }, refl, inl refl)))
+fails_with_old = (refl, (tt, (saved 1 0, refl, inl refl)))
 
 -- it is refused where it isn't tried again
 start_refused : NextPast failing 0 start Start (Err (Store WriteFault)) (holding 1)

@@ -2,6 +2,7 @@
 -- replay of the ledger's line.
 use Rattle.std.proofs.Common.{◌≡◌, ℕ, ◌-◌, true, List, [], ◌∷◌, ◌++◌, length, take, refl, sym, ap, ◌∙◌, subst, inl, inr, append-nil}
 use Rattle.std.specs.Prelude.{◌&&◌, not, nat_lt, Option, Some, None, Result, Ok, Err, Contains}
+use Rattle.core.specs.Result.{result_ok}
 use Rattle.std.specs.Option.{option_map}
 use Rattle.std.proofs.lemmas.Bool.{cases_Bool}
 use Rattle.std.proofs.lemmas.List.Elements.{Contains-append_left, Contains-push, Contains-push_cases}
@@ -15,9 +16,9 @@ use Rattle.cdc_ledger.specs.Submit.{submit}
 use Rattle.cdc_ledger.proofs.KeptLaws.{IsSound-submit}
 use Rattle.cdc_ledger.proofs.SoundLaws.{IsSound-closed, IsSound-empty}
 use Rattle.cdc_laws.specs.Arrivals.{AreOfTaken, taken_of}
-use Rattle.cdc_laws.specs.Connectors.{KeepsTo, held_timestamp}
+use Rattle.cdc_laws.specs.Connectors.{KeepsTo, held_start, held_timestamp}
 use Rattle.cdc_laws.specs.GoingOn.{GoesOn}
-use Rattle.cdc_laws.specs.Line.{line}
+use Rattle.cdc_laws.specs.Line.{line_after}
 use Rattle.cdc_laws.proofs.Arrivals.{IsReplay-taken}
 use Rattle.cdc_laws.proofs.Brokers.{AreOfTaken-confirmed, AreOfTaken-taken, taken_of-push}
 use Rattle.cdc_laws.proofs.Connectors.{IsConnectorRun-keeps, KeepsTo-begin, KeepsTo-confirm, KeepsTo-end, KeepsTo-goes_on, KeepsTo-half_started, KeepsTo-save, KeepsTo-sent, KeepsTo-start}
@@ -33,20 +34,21 @@ use Rattle.cdc_message.specs.declared.packets.Packet.TheVariants.{Connect, Publi
 use Rattle.cdc_message.specs.Replays.{IsReplay}
 use Rattle.cdc_progress.specs.Records.{Saved}
 use Rattle.cdc_publisher.specs.Courses.{Course, after_answer, all_sent, begun, new_course, next_packet, next_poll, progress_of, unconfirmed, with_offer, with_sent}
+use Rattle.cdc_publisher.specs.declared.errors.StartError.{StartError}
 use Rattle.cdc_publisher.specs.declared.session.Poll.{Poll}
 use Rattle.cdc_types.specs.Timestamps.{last_timestamp_from}
 use Rattle.cdc_types.specs.declared.batches.BatchResults.{BatchResults}
 use Rattle.cdc_types.specs.declared.steps.Step.{Step}
-use Rattle.cdc_types.specs.declared.steps.Step.TheVariants.{Submit, CloseLedger, Start, Crash, Poll as PollStep, Publish as PublishStep, Arrive, Answer, Save, Send, Rewind, Break, Take, Ack, Close}
+use Rattle.cdc_types.specs.declared.steps.Step.TheVariants.{Submit, CloseLedger, Start, StartAt, Crash, Poll as PollStep, Publish as PublishStep, Arrive, Answer, Save, Send, Rewind, Break, Take, Ack, Close}
 use Rattle.cdc_world.specs.Orderly.{IsOrderly, connector_in}
 use Rattle.cdc_laws.specs.Readings.{Reading, none_follow}
 use Rattle.cdc_world.specs.Next.{IsAtStart, IsReached, IsTried, Next, confirms_of, first_flight, next, next_delivery, saves, with_arrival, with_batch, with_poll, with_session, with_start}
-use Rattle.cdc_world.specs.Worlds.{Subscription, WorldState, new_world, numbered, taken_items}
+use Rattle.cdc_world.specs.Worlds.{Subscription, WorldState, new_world, numbered, start_of, taken_items}
 use Rattle.cdc_world.proofs.NumberedElements.{Contains_numbered}
 use Rattle.cdc_world.proofs.RelatedWorlds.{Keeps, Leaves, Leaves_on, Relates, next_leaves, reached_has}
 
--- a store at the start holds no moment, or 0
-none_yet : (held : Option Saved) → IsAtStart held → held_timestamp held ≡ 0
+-- a store at the start holds nothing, or a timestamp that is its start
+none_yet : (held : Option Saved) → IsAtStart held → held_timestamp held ≡ held_start held
 none_yet None start = refl
 none_yet (Some saved) start = start
 
@@ -87,7 +89,7 @@ IsOrderly-history w g is on sound = record {
   sound = sound;
   received = is.received;
   answers = is.answers;
-  connector = KeepsTo-goes_on w.history g (connector_in w is.received) is.sound on is.connector;
+  connector = KeepsTo-goes_on w.history g (connector_in w is.received) on is.connector;
   arrived = is.arrived;
   packets = is.packets;
   accepted = is.accepted;
@@ -112,17 +114,18 @@ IsOrderly-session w held session is keeps = record {
 -- ---- the connector
 
 -- a session that starts
-IsOrderly-started : (w : WorldState) (saved : Option Saved) → IsOrderly w → begun w.held ≡ saved
-    → Leaves IsOrderly (with_session w saved)
-IsOrderly-started w (Some saved) is new =
+IsOrderly-started : (w : WorldState) (at : Option ℕ) (answer : Result Saved StartError) → IsOrderly w
+    → begun w.held at ≡ answer → Leaves IsOrderly (with_session w answer)
+IsOrderly-started w at (Ok saved) is new =
     IsOrderly-session w (Some saved) (Some (new_course saved w.window)) is
-    (KeepsTo-start w.history (connector_in w is.received) saved w.window is.connector new)
-IsOrderly-started w None is new = tt
+    (KeepsTo-start w.history (connector_in w is.received) at saved w.window is.connector new)
+IsOrderly-started w at (Err why) is new = tt
 
 -- where the connector is down
-IsOrderly-starting : (w : WorldState) (session : Option Course) → IsOrderly w → Leaves IsOrderly (with_start w session)
-IsOrderly-starting w None is = IsOrderly-started w (begun w.held) is refl
-IsOrderly-starting w (Some course) is = tt
+IsOrderly-starting : (w : WorldState) (at : Option ℕ) (session : Option Course) → IsOrderly w
+    → Leaves IsOrderly (with_start w at session)
+IsOrderly-starting w at None is = IsOrderly-started w at (begun w.held at) is refl
+IsOrderly-starting w at (Some course) is = tt
 
 -- it is offered the events that it wants
 IsOrderly-polled : (w : WorldState) (course : Course) (poll : Poll) → IsOrderly w → w.session ≡ Some course
@@ -245,7 +248,8 @@ IsOrderly-step w (Submit batch) is =
 IsOrderly-step w CloseLedger is =
     IsOrderly-history w (record w.history { closed = true }) is (GoesOn-closed w.history)
     (IsSound-closed w.history is.sound)
-IsOrderly-step w Start is = IsOrderly-starting w w.session is
+IsOrderly-step w Start is = IsOrderly-starting w None w.session is
+IsOrderly-step w (StartAt moment) is = IsOrderly-starting w (Some moment) w.session is
 IsOrderly-step w Crash is =
     Leaves_on IsOrderly w.session _ (λ course there.
     IsOrderly-session w w.held None is (KeepsTo-end w.history (connector_in w is.received) is.connector))
@@ -285,9 +289,27 @@ IsOrderly-step w (Close i) is =
 -- ---- a store that fails
 
 -- a start that is tried comes where the connector is down
-tried_down : (w : WorldState) (session : Option Course) → IsTried (with_start w session) → session ≡ None
-tried_down w None tried = refl
-tried_down w (Some course) tried = absurd tried
+tried_down : (w : WorldState) (at : Option ℕ) (session : Option Course) → IsTried (with_start w at session)
+    → session ≡ None
+tried_down w at None tried = refl
+tried_down w at (Some course) tried = absurd tried
+
+-- what a start saves
+saved_by : (answer : Result Saved StartError) (saved : Saved) → result_ok answer ≡ Some saved → answer ≡ Ok saved
+saved_by (Ok other) saved is = ap (λ (x : Saved). Ok x) (same_Some other saved is)
+saved_by (Err why) saved is = absurd (none-some saved is)
+
+-- the record of a start was written all the same
+IsOrderly-start_written : (w : WorldState) (at : Option ℕ) → IsOrderly w → (saved : Saved)
+    → IsTried (with_start w at w.session) → result_ok (begun w.held at) ≡ Some saved
+    → IsOrderly (record w { held = Some saved })
+IsOrderly-start_written w at is saved tried saves =
+    IsOrderly-session w (Some saved) w.session is
+    (subst (λ session. KeepsTo w.history
+    (record (connector_in w is.received) { held = Some saved; session = session }))
+    (sym (tried_down w at w.session tried))
+    (KeepsTo-half_started w.history (connector_in w is.received) at saved is.connector
+    (saved_by (begun w.held at) saved saves)))
 
 -- what a session saves
 saved_of : (session : Option Course) (saved : Saved) → option_map progress_of session ≡ Some saved
@@ -298,12 +320,9 @@ saved_of (Some course) saved is = (course, refl, same_Some (progress_of course) 
 -- the record was written all the same
 IsOrderly-written : (w : WorldState) (s : Step) → IsOrderly w → (saved : Saved) → IsTried (next w s)
     → saves w s ≡ Some saved → IsOrderly (record w { held = Some saved })
-IsOrderly-written w Start is saved tried saves =
-    IsOrderly-session w (Some saved) w.session is
-    (subst (λ session. KeepsTo w.history
-    (record (connector_in w is.received) { held = Some saved; session = session }))
-    (sym (tried_down w w.session tried))
-    (KeepsTo-half_started w.history (connector_in w is.received) saved is.connector saves))
+IsOrderly-written w Start is saved tried saves = IsOrderly-start_written w None is saved tried saves
+IsOrderly-written w (StartAt moment) is saved tried saves =
+    IsOrderly-start_written w (Some moment) is saved tried saves
 IsOrderly-written w Save is saved tried saves =
     let of = saved_of w.session saved saves in
     IsOrderly-session w (Some saved) w.session is
@@ -334,11 +353,12 @@ IsOrderly-next w s answer w' next is =
 pub IsOrderly-reached : (w : WorldState) → IsReached w → IsOrderly w
 IsOrderly-reached = reached_has IsOrderly IsOrderly-next IsOrderly-new
 
--- what the broker took is a replay of the ledger's line
-pub IsReplay-orderly : (w : WorldState) → IsOrderly w → IsReplay (taken_items w) (line w.history)
+-- what the broker took is a replay of the ledger's line after the start
+pub IsReplay-orderly : (w : WorldState) → IsOrderly w
+    → IsReplay (taken_items w) (line_after w.history (start_of w))
 IsReplay-orderly w is =
     let confirmed : AreOfTaken is.received (taken_of is.arrived) =
     subst (AreOfTaken is.received) is.accepted (λ session tag came. is.confirmed session tag (is.answers _ came)) in
-    subst (λ ps. IsReplay (items_of ps) (line w.history)) (sym is.accepted)
-    (IsReplay-taken w.history w.packets is.arrived is.received is.sound
+    subst (λ ps. IsReplay (items_of ps) (line_after w.history (start_of w))) (sym is.accepted)
+    (IsReplay-taken w.history (start_of w) w.packets is.arrived is.received is.sound
     (IsConnectorRun-keeps w.history (connector_in w is.received) is.connector) is.packets confirmed)

@@ -5,7 +5,7 @@ use Rattle.cdc_laws.proofs.Faithful.{IsFaithful-queue, kept_of-queue}
 use Rattle.cdc_message.specs.Replays.{IsReplay}
 use Rattle.cdc_subscriber.specs.Heard.{kept_of}
 use Rattle.cdc_world.specs.Next.{IsReached}
-use Rattle.cdc_world.specs.Worlds.{Subscription, WorldState, numbered, queue_in, taken_items}
+use Rattle.cdc_world.specs.Worlds.{Subscription, WorldState, numbered, queue_in, start_of, taken_items}
 use Rattle.cdc_world.specs.Orderly.{IsOrderly}
 use Rattle.cdc_world.proofs.OrderlyWorlds.{IsOrderly-reached, IsReplay-orderly}
 use Rattle.cdc_world.proofs.ServedSubscribers.{IsReplay-served}
@@ -22,13 +22,13 @@ module _ (w : WorldState) (i : ℕ) (s : Subscription) (reached : IsReached w)
   hears = IsReplay-served (queue_in w s) s (AreQueued-reached w reached i s found)
 
   -- so each subscriber is faithful
-  pub faithful-reached : IsFaithful w.history s.binding s.heard
+  pub faithful-reached : IsFaithful w.history (start_of w) s.binding s.heard
   faithful-reached =
-      IsFaithful-queue w.history s.binding s.heard orderly.sound (taken_items w)
+      IsFaithful-queue w.history (start_of w) s.binding s.heard orderly.sound (taken_items w)
       (IsReplay-orderly w orderly) hears
 
   -- and what it keeps, as its readers tell it, is told by what it has applied
   pub kept-reached : kept_of s.heard ≡ kept_from s.heard
   kept-reached =
-      kept_of-queue w.history s.binding s.heard orderly.sound (taken_items w)
+      kept_of-queue w.history (start_of w) s.binding s.heard orderly.sound (taken_items w)
       (IsReplay-orderly w orderly) hears

@@ -9,16 +9,17 @@ use Rattle.cdc_message.specs.declared.items.Delivery.{Delivery}
 use Rattle.cdc_message.specs.declared.packets.Packet.{Packet}
 use Rattle.cdc_publisher.specs.Courses.{Course, begun, new_course, next_packet, next_poll}
 use Rattle.cdc_types.specs.declared.batches.BatchResults.{BatchResults}
-use Rattle.cdc_types.specs.declared.steps.Step.TheVariants.{Submit, CloseLedger, Start, Crash, Poll as PollStep, Publish as PublishStep, Arrive, Answer, Save, Send, Rewind, Break, Take, Ack, Close}
+use Rattle.cdc_types.specs.declared.steps.Step.TheVariants.{Submit, CloseLedger, Start, StartAt, Crash, Poll as PollStep, Publish as PublishStep, Arrive, Answer, Save, Send, Rewind, Break, Take, Ack, Close}
 use Rattle.cdc_world.proofs.NumberedElements.{Contains_numbered}
 use Rattle.cdc_match.specs.Arguments.{Arguments}
 use Rattle.cdc_progress.specs.declared.errors.StoreError.TheVariants as store
 use Rattle.cdc_progress.specs.Records.{Saved}
 use Rattle.cdc_progress.specs.Stores.{Risks}
+use Rattle.cdc_publisher.specs.declared.errors.StartError.{StartError}
 use Rattle.cdc_types.specs.declared.steps.Step.{Step}
 use Rattle.cdc_world.specs.declared.steps.Did.{Did}
 use Rattle.cdc_world.specs.declared.steps.StepError.{StepError}
-use Rattle.cdc_world.specs.declared.steps.StepError.TheVariants.{NotEnabled, Refused, Store, SessionsExhausted, OutOfMemory}
+use Rattle.cdc_world.specs.declared.steps.StepError.TheVariants.{NotEnabled, Refused, Store, SessionsExhausted, OutOfMemory, StartNotAllowed}
 use Rattle.cdc_world.specs.Moves.{DoesAll, Going, IsPlayBy, StopsAt}
 use Rattle.cdc_world.specs.Next.{IsAtStart, IsReached, IsTried, Leads, Next, Outcome, first_flight, next, next_delivery, saves, with_ack, with_arrival, with_batch, with_break, with_close, with_delivery, with_rewind, with_session, with_start, with_subscription, with_taking, ◌>>=◌}
 use Rattle.cdc_world.specs.Tries.{FailsTimes, NextPast}
@@ -69,15 +70,15 @@ module _ (P : WorldState → Type 0) (w : WorldState)
   leaves_batch (Ok answered) = others answered.1 w.held w.session w.packets
   leaves_batch (Err why) = tt
 
-  -- a session that starts, where there is a further number
-  leaves_session : (saved : Option Saved) → Leaves P (with_session w saved)
-  leaves_session (Some saved) = others w.history (Some saved) (Some (new_course saved w.window)) w.packets
-  leaves_session None = tt
+  -- a session that starts, where it may
+  leaves_session : (answer : Result Saved StartError) → Leaves P (with_session w answer)
+  leaves_session (Ok saved) = others w.history (Some saved) (Some (new_course saved w.window)) w.packets
+  leaves_session (Err why) = tt
 
   -- and where none runs
-  leaves_start : (session : Option Course) → Leaves P (with_start w session)
-  leaves_start None = leaves_session (begun w.held)
-  leaves_start (Some course) = tt
+  leaves_start : (at : Option ℕ) (session : Option Course) → Leaves P (with_start w at session)
+  leaves_start at None = leaves_session (begun w.held at)
+  leaves_start at (Some course) = tt
 
   -- of a step that acts on one subscriber
   of_one : (i : ℕ) (rest : Subscription → Outcome)
@@ -89,7 +90,8 @@ module _ (P : WorldState → Type 0) (w : WorldState)
   pub step_leaves : (s : Step) → Leaves P (next w s)
   step_leaves (Submit batch) = leaves_batch (submit w.history batch)
   step_leaves CloseLedger = others (record w.history { closed = true }) w.held w.session w.packets
-  step_leaves Start = leaves_start w.session
+  step_leaves Start = leaves_start None w.session
+  step_leaves (StartAt moment) = leaves_start (Some moment) w.session
   step_leaves Crash = Leaves_on P w.session _ (λ course found. others w.history w.held None w.packets)
   step_leaves PollStep =
       Leaves_on P w.session _ (λ course found.
@@ -125,6 +127,7 @@ next_leaves P w s (Ok did) w' is before held holds = Leaves_so P (next w s) did 
 next_leaves P w s (Err NotEnabled) w' is before held holds = subst P (sym is.1) before
 next_leaves P w s (Err (Refused why)) w' is before held holds = subst P (sym is.1) before
 next_leaves P w s (Err SessionsExhausted) w' is before held holds = subst P (sym is.1) before
+next_leaves P w s (Err StartNotAllowed) w' is before held holds = subst P (sym is.1) before
 next_leaves P w s (Err OutOfMemory) w' is before held holds = subst P (sym is.1.1) before
 next_leaves P w s (Err (Store store.ReadFault)) w' (uses, (tried, (loads, same))) before held holds =
     subst P (sym same) before
