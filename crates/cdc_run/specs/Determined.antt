@@ -1,7 +1,7 @@
 -- What of a run is the same in whatever order its threads came.
 use Rattle.std.specs.Prelude.{◌≡◌, ℕ, true, false, Option, Result, List, [], ◌∷◌, fold, map}
 use Rattle.cdc_ends.specs.SubscriberEnds.{is_asked}
-use Rattle.cdc_laws.specs.Line.{line}
+use Rattle.cdc_laws.specs.Line.{line_after}
 use Rattle.cdc_ledger.specs.declared.errors.BatchError.{BatchError}
 use Rattle.cdc_ledger.specs.History.{History, empty_history}
 use Rattle.cdc_ledger.specs.Submit.{history_or, submit}
@@ -29,9 +29,10 @@ pub record IsServedAlone (ledger : History) (replies : List Reply) : Type 0 wher
   pub ledger_is : ledger ≡ history_of (record { batches = map (λ r. r.batch) replies; closed = true })
   pub answers : map (λ r. r.answer) replies ≡ answers_from empty_history (map (λ r. r.batch) replies)
 
--- what a subscriber keeps that takes its queue of all that the ledger has to tell, each item once and in order
-abbrev pub kept_of_line : History → Arguments → Kept
-kept_of_line h binding = kept_of (fold next nothing (queue (line h) binding))
+-- what a subscriber keeps that takes its queue of all that the ledger has to tell after this start, each item once and in
+-- order
+abbrev pub kept_of_line : History → ℕ → Arguments → Kept
+kept_of_line h start binding = kept_of (fold next nothing (queue (line_after h start) binding))
 
 -- ---- laws
 
@@ -42,12 +43,12 @@ LoneClientsAreServedAlone = (order : List (ℕ × Batch)) (ledger : History) (re
 
 -- a subscriber that wasn't asked to close keeps just that
 abbrev pub UnaskedKeepTheLine : Type 0
-UnaskedKeepTheLine = (h : History) (binding : Arguments) (close_after : Option ℕ) (subscriber : Kept)
-    → is_asked close_after ≡ false → IsSubscribed h binding close_after subscriber
-    → subscriber ≡ kept_of_line h binding
+UnaskedKeepTheLine = (h : History) (start : ℕ) (binding : Arguments) (close_after : Option ℕ) (subscriber : Kept)
+    → is_asked close_after ≡ false → IsSubscribed h start binding close_after subscriber
+    → subscriber ≡ kept_of_line h start binding
 
 -- so do all subscribers from a number on, where none of them was asked to
 abbrev pub AllKeepTheLine : Type 0
-AllKeepTheLine = (number : ℕ) (h : History) (bindings : List Arguments) (closes : List (Option ℕ))
-    (subscribers : List Kept) → AreCloses number [] closes → AreSubscribed h bindings closes subscribers
-    → subscribers ≡ map (kept_of_line h) bindings
+AllKeepTheLine = (number : ℕ) (h : History) (start : ℕ) (bindings : List Arguments) (closes : List (Option ℕ))
+    (subscribers : List Kept) → AreCloses number [] closes → AreSubscribed h start bindings closes subscribers
+    → subscribers ≡ map (kept_of_line h start) bindings

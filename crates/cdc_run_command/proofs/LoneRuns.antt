@@ -1,17 +1,25 @@
 -- Runs in which one client hands in all batches.
 use Rattle.std.proofs.Common.{◌≡◌, ◌==◌, ℕ, ◌+◌, Bool, true, List, [], ◌∷◌, ◌++◌, refl, sym, ap, ap₂, ◌∙◌, subst, map, eq-eqb}
-use Rattle.std.specs.Prelude.{All, Result, cond, filter, fold, max}
+use Rattle.std.specs.Prelude.{All, None, Option, Result, Some, cond, filter, fold, max}
 use Rattle.std.proofs.lemmas.List.Elements.{All-head, All-tail}
 use Rattle.std.proofs.lemmas.Simd.{map-map}
-use Rattle.cdc_laws.specs.Line.{line}
+use Rattle.cdc_ends.specs.ConnectorEnds.{first_origin}
+use Rattle.cdc_laws.specs.Connectors.{held_start}
+use Rattle.cdc_laws.specs.Line.{line, line_after}
+use Rattle.cdc_laws.proofs.Lines.{line_after-zero}
 use Rattle.cdc_ledger.specs.declared.errors.BatchError.{BatchError}
 use Rattle.cdc_ledger.specs.History.{History, empty_history}
+use Rattle.cdc_ledger.specs.Sound.{IsSound}
+use Rattle.cdc_ledger.proofs.KeptLaws.{IsSound-after_batches}
+use Rattle.cdc_ledger.proofs.SoundLaws.{IsSound-closed, IsSound-empty}
 use Rattle.cdc_ledger.specs.Submit.{after_batches, history_or, submit}
 use Rattle.cdc_match.specs.Arguments.{Arguments}
+use Rattle.cdc_message.specs.declared.items.Item.{Item}
+use Rattle.cdc_progress.specs.Records.{Saved}
 use Rattle.cdc_run.specs.Books.{AreBooks}
 use Rattle.cdc_run.specs.Determined.{AllKeepTheLine, IsServedAlone, LoneClientsAreServedAlone, answers_from, kept_of_line}
 use Rattle.cdc_run.specs.Made.{AreCloses}
-use Rattle.cdc_run.specs.Reports.{replies_of}
+use Rattle.cdc_run.specs.Reports.{AreSubscribed, replies_of}
 use Rattle.cdc_script.specs.declared.scripts.ClientBatch.{ClientBatch}
 use Rattle.cdc_script.specs.declared.scripts.Script.{Script}
 use Rattle.cdc_subscriber.specs.Kept.{Kept}
@@ -103,18 +111,28 @@ lines_of-batches n h (b ∷ batches) =
     ap (λ (l : List ℕ). batch_line n (answer (submit h b.batch)) ++ l)
     (lines_of-batches (n + 1) (history_or h (submit h b.batch)) batches)
 
-text_of-kept : (n : ℕ) (h : History) (bindings : List Arguments)
-    → kept_text n (map (kept_of_line h) bindings) ≡ subscribers_text n (line h) bindings
-text_of-kept n h [] = refl
-text_of-kept n h (b ∷ bindings) =
-    ap (λ (l : List ℕ). subscriber_text n (kept_of_line h b) ++ l) (text_of-kept (n + 1) h bindings)
+text_of-kept : (n : ℕ) (h : History) (start : ℕ) (bindings : List Arguments)
+    → kept_text n (map (kept_of_line h start) bindings) ≡ subscribers_text n (line_after h start) bindings
+text_of-kept n h start [] = refl
+text_of-kept n h start (b ∷ bindings) =
+    ap (λ (l : List ℕ). subscriber_text n (kept_of_line h start b) ++ l) (text_of-kept (n + 1) h start bindings)
+
+-- the ledger of a script, which no event of 0 is in
+ledger_of : Script → History
+ledger_of script =
+    record (after_batches features empty_history (map (λ (b : ClientBatch). b.batch) script.batches)) { closed = true }
+
+sound_ledger : (script : Script) → IsSound (ledger_of script)
+sound_ledger script =
+    IsSound-closed (after_batches features empty_history (map (λ (b : ClientBatch). b.batch) script.batches))
+    (IsSound-after_batches empty_history (map (λ (b : ClientBatch). b.batch) script.batches) IsSound-empty)
 
 -- replies that have the answers to a script's batches, and subscribers that keep the line of its history
 text_of-books : (script : Script) (ledger : History) (share : List Reply) (entries : List (ℕ × Reply))
     (subscribers : List Kept) → IsServedAlone ledger share
     → map (λ (r : Reply). r.batch) share ≡ map (λ (b : ClientBatch). b.batch) script.batches
     → map (λ (e : ℕ × Reply). e.1) entries ≡ share
-    → subscribers ≡ map (kept_of_line ledger) script.bindings
+    → subscribers ≡ map (kept_of_line ledger 0) script.bindings
     → reply_lines 1 entries ++ kept_text 1 subscribers ≡ printed_books script
 text_of-books script ledger share entries subscribers served handed merged keeps =
     ap₂ (λ (a b : List ℕ). a ++ b)
@@ -123,10 +141,17 @@ text_of-books script ledger share entries subscribers served handed merged keeps
     ∙ ap (lines 1) (served.answers ∙ ap (answers_from empty_history) handed)
     ∙ lines_of-batches 1 empty_history script.batches)
     (ap (kept_text 1) keeps
-    ∙ text_of-kept 1 ledger script.bindings
-    ∙ ap (λ (h : History). subscribers_text 1 (line h) script.bindings)
+    ∙ text_of-kept 1 ledger 0 script.bindings
+    ∙ ap (λ (h : History). subscribers_text 1 (line_after h 0) script.bindings)
     (served.ledger_is
-    ∙ ap (λ (bs : List Batch). record (after_batches features empty_history bs) { closed = true }) handed))
+    ∙ ap (λ (bs : List Batch). record (after_batches features empty_history bs) { closed = true }) handed)
+    ∙ ap (λ (items : List Item). subscribers_text 1 items script.bindings)
+    (line_after-zero (ledger_of script) (sound_ledger script)))
+
+-- where no session is told where to start, the start is the one that is held
+start_of_held : (held : Option Saved) → (first_origin None held).start ≡ held_start held
+start_of_held None = refl
+start_of_held (Some saved) = refl
 
 -- a run by one client prints what `books` prints
 pub lone_runs : LoneClientsAreServedAlone → AllKeepTheLine → LoneRunsPrintBooks
@@ -137,10 +162,15 @@ lone_runs alone keeps setting script printed one plain runs =
     let only = one_share (replies_of runs.report) batches (run.scripts_are ∙ one_script script one) in
     let served : IsServedAlone ledger only.0 =
     alone run.order ledger only.0 (subst (AreBooks run.order ledger) only.1.0 run.books) in
-    let come = runs.comes.subscribers plain.honest plain.held in
-    let kept : runs.report.subscribers.items ≡ map (kept_of_line ledger) script.bindings =
-    keeps 1 ledger script.bindings come.0 runs.report.subscribers.items
-    (subst (λ (given : List (ℕ × ℕ)). AreCloses 1 given come.0) plain.closes come.1.0) come.1.1 in
+    let come = runs.comes.subscribers plain.honest (plain.held ∙ sym plain.held_from) in
+    let zero : (first_origin setting.start setting.held).start ≡ 0 =
+    ap (λ (o : Option ℕ). (first_origin o setting.held).start) plain.start
+    ∙ start_of_held setting.held
+    ∙ plain.held_from in
+    let kept : runs.report.subscribers.items ≡ map (kept_of_line ledger 0) script.bindings =
+    keeps 1 ledger 0 script.bindings come.0 runs.report.subscribers.items
+    (subst (λ (given : List (ℕ × ℕ)). AreCloses 1 given come.0) plain.closes come.1.0)
+    (subst (λ (n : ℕ). AreSubscribed ledger n script.bindings come.0 runs.report.subscribers.items) zero come.1.1) in
     let entries : List (ℕ × Reply) = runs.prints.replies in
     runs.prints.prints
     ∙ text_of-books script ledger only.0 entries runs.report.subscribers.items served only.1.1
