@@ -14,7 +14,6 @@ use Rattle.cdc_ledger.proofs.KeptLaws.{IsSound-after_batches}
 use Rattle.cdc_ledger.proofs.SoundLaws.{IsSound-closed, IsSound-empty}
 use Rattle.cdc_ledger.specs.Submit.{after_batches, history_or, submit}
 use Rattle.cdc_match.specs.Arguments.{Arguments}
-use Rattle.cdc_message.specs.declared.items.Item.{Item}
 use Rattle.cdc_progress.specs.Records.{Saved}
 use Rattle.cdc_run.specs.Books.{AreBooks}
 use Rattle.cdc_run.specs.Determined.{AllKeepTheLine, IsServedAlone, LoneClientsAreServedAlone, answers_from, kept_of_line}
@@ -145,7 +144,7 @@ text_of-books script ledger share entries subscribers served handed merged keeps
     ∙ ap (λ (h : History). subscribers_text 1 (line_after h 0) script.bindings)
     (served.ledger_is
     ∙ ap (λ (bs : List Batch). record (after_batches features empty_history bs) { closed = true }) handed)
-    ∙ ap (λ (items : List Item). subscribers_text 1 items script.bindings)
+    ∙ ap (λ items. subscribers_text 1 items script.bindings)
     (line_after-zero (ledger_of script) (sound_ledger script)))
 
 -- where no session is told where to start, the start is the one that is held
