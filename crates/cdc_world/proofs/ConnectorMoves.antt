@@ -1,6 +1,5 @@
 -- What is kept after each step of the connector, and the state that it stands for.
 use Rattle.std.proofs.Common.{◌≡◌, ℕ, Bool, true, false, List, [], ◌∷◌, ◌++◌, Option, Some, None, Result, Ok, Err, refl, sym, ap, ◌∙◌, subst, take, inl, inr}
-use Rattle.core.specs.Result.{result_ok}
 use Rattle.std.specs.Prelude.{◌⊎◌, ◌+◌, ◌==◌, IsTrue, is_some, option_map, if◌then◌else◌}
 use Rattle.cdc_ledger.specs.Events.{events}
 use Rattle.cdc_ledger.specs.History.{History}
@@ -24,7 +23,7 @@ use Rattle.cdc_world.specs.declared.steps.Did.TheVariants.{Counted, Done}
 use Rattle.cdc_world.specs.declared.steps.StepError.TheVariants.{NotEnabled}
 use Rattle.cdc_world.specs.Moves.{Moves, MovesBy}
 use Rattle.cdc_laws.specs.Readings.{none_follow}
-use Rattle.cdc_world.specs.Next.{IsStepRisked, IsTried, Next, Outcome, ◌>>=◌, counts, loads, next, saves, start_after, success, takes_memory, uses_store, with_answer, with_crash, with_packet, with_poll, with_progress, with_session, with_start}
+use Rattle.cdc_world.specs.Next.{IsStepRisked, IsTried, Next, Outcome, ◌>>=◌, counts, loads, next, saved_in, saves, start_after, success, takes_memory, uses_store, with_answer, with_crash, with_packet, with_poll, with_progress, with_session, with_start}
 use Rattle.cdc_world.specs.Parts.{ActorParts, Parts}
 use Rattle.cdc_world.specs.Refusals.{start_refusal, store_refusal}
 use Rattle.cdc_world.specs.Stands.{ActorsStand, SessionStands, Stands}
@@ -324,8 +323,8 @@ room_start (Some moment) = refl
 -- what it saves
 saves_start : (w : WorldState) (at : Option ℕ) (saved : Saved) → begun w.held at ≡ Ok saved
     → saves w (start_after at) ≡ Some saved
-saves_start w None saved begins = ap result_ok begins
-saves_start w (Some moment) saved begins = ap result_ok begins
+saves_start w None saved begins = ap saved_in begins
+saves_start w (Some moment) saved begins = ap saved_in begins
 
 -- a session starts where the connector is down, or what keeps it from that is answered
 starts_next : (w : WorldState) (at : Option ℕ) (answer : Result Saved StartError) → w.session ≡ None

@@ -2,7 +2,6 @@
 -- replay of the ledger's line.
 use Rattle.std.proofs.Common.{◌≡◌, ℕ, ◌-◌, true, List, [], ◌∷◌, ◌++◌, length, take, refl, sym, ap, ◌∙◌, subst, inl, inr, append-nil}
 use Rattle.std.specs.Prelude.{◌&&◌, not, nat_lt, Option, Some, None, Result, Ok, Err, Contains}
-use Rattle.core.specs.Result.{result_ok}
 use Rattle.std.specs.Option.{option_map}
 use Rattle.std.proofs.lemmas.Bool.{cases_Bool}
 use Rattle.std.proofs.lemmas.List.Elements.{Contains-append_left, Contains-push, Contains-push_cases}
@@ -42,7 +41,7 @@ use Rattle.cdc_types.specs.declared.steps.Step.{Step}
 use Rattle.cdc_types.specs.declared.steps.Step.TheVariants.{Submit, CloseLedger, Start, StartAt, Crash, Poll as PollStep, Publish as PublishStep, Arrive, Answer, Save, Send, Rewind, Break, Take, Ack, Close}
 use Rattle.cdc_world.specs.Orderly.{IsOrderly, connector_in}
 use Rattle.cdc_laws.specs.Readings.{Reading, none_follow}
-use Rattle.cdc_world.specs.Next.{IsAtStart, IsReached, IsTried, Next, confirms_of, first_flight, next, next_delivery, saves, with_arrival, with_batch, with_poll, with_session, with_start}
+use Rattle.cdc_world.specs.Next.{IsAtStart, IsReached, IsTried, Next, confirms_of, first_flight, next, next_delivery, saved_in, saves, with_arrival, with_batch, with_poll, with_session, with_start}
 use Rattle.cdc_world.specs.Worlds.{Subscription, WorldState, new_world, numbered, start_of, taken_items}
 use Rattle.cdc_world.proofs.NumberedElements.{Contains_numbered}
 use Rattle.cdc_world.proofs.RelatedWorlds.{Keeps, Leaves, Leaves_on, Relates, next_leaves, reached_has}
@@ -295,13 +294,13 @@ tried_down w at None tried = refl
 tried_down w at (Some course) tried = absurd tried
 
 -- what a start saves
-saved_by : (answer : Result Saved StartError) (saved : Saved) → result_ok answer ≡ Some saved → answer ≡ Ok saved
+saved_by : (answer : Result Saved StartError) (saved : Saved) → saved_in answer ≡ Some saved → answer ≡ Ok saved
 saved_by (Ok other) saved is = ap (λ (x : Saved). Ok x) (same_Some other saved is)
 saved_by (Err why) saved is = absurd (none-some saved is)
 
 -- the record of a start was written all the same
 IsOrderly-start_written : (w : WorldState) (at : Option ℕ) → IsOrderly w → (saved : Saved)
-    → IsTried (with_start w at w.session) → result_ok (begun w.held at) ≡ Some saved
+    → IsTried (with_start w at w.session) → saved_in (begun w.held at) ≡ Some saved
     → IsOrderly (record w { held = Some saved })
 IsOrderly-start_written w at is saved tried saves =
     IsOrderly-session w (Some saved) w.session is

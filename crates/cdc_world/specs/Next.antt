@@ -1,7 +1,6 @@
 -- What a step answers, and the world after it.
 use Rattle.std.specs.Prelude.{◌≡◌, ◌⊎◌, ℕ, Bool, true, false, IsTrue, Option, Some, None, Result, Ok, Err, List, [], ◌∷◌, ◌++◌, take}
 use Rattle.std.specs.Option.{option_map}
-use Rattle.core.specs.Result.{result_ok}
 use Rattle.cdc_broker.specs.Cursors.{after_ack, after_delivery, delivery_at, rewound}
 use Rattle.cdc_broker.specs.Packets.{is_taken}
 use Rattle.cdc_ledger.specs.declared.errors.BatchError.{BatchError}
@@ -210,10 +209,15 @@ next w (Close i) = numbered w.subscriptions i >>= (λ s. success (with_subscript
 
 -- ---- whatever is answered
 
+-- what is saved, where a session may start
+abbrev pub saved_in : Result Saved StartError → Option Saved
+saved_in (Ok saved) = Some saved
+saved_in (Err why) = None
+
 -- what a step saves, if it is one that does
 abbrev pub saves : WorldState → Step → Option Saved
-saves w Start = result_ok (begun w.held None)
-saves w (StartAt moment) = result_ok (begun w.held (Some moment))
+saves w Start = saved_in (begun w.held None)
+saves w (StartAt moment) = saved_in (begun w.held (Some moment))
 saves w Save = option_map progress_of w.session
 saves w _ = None
 
