@@ -4,9 +4,9 @@
     tests/speed.py [--program PATH] [--times N] [--processors N]
     tests/speed.py --hand-offs
 
-For one subscriber and for two: the least and the middle of the wall times and of the processor times, commands in turn,
-and how many events a second come from the first line of the script to the printed book; then how many times as long a
-run took as the `books` just before it, in the middle and over all. Other work on the machine shows in all of them, in the
+For 1, 2, 4 and 8 subscribers, and for 1 client and 4: the least and the middle of the wall times and of the processor
+times, commands in turn, the most memory, and how many events a second come from the first line of the script to the
+printed book; then how many times as long a run took as the `books` just before it, in the middle and over all. Other work on the machine shows in all of them, in the
 least ones least; under `chrt -f 10`, which root may say, it hardly does. Where other machines of the host take from the
 processors, a `books` on one of them finds it quiet sooner than a run on four: then the pairs say more than the least ones.
 
@@ -25,16 +25,24 @@ import rooms
 import stress
 
 COMMANDS = {'books': ['books'], 'run': ['run', '--window', '1']}
+# How many clients and subscribers.
+SIZES = [(1, 1), (1, 2), (1, 4), (1, 8), (4, 1), (4, 8)]
 
 
-def full_script(subscribers):
-    """As many transfers between two accounts as a script has room for, a thousand a batch; and how many they are."""
-    lines = ['subscriber all'] * subscribers + stress.ACCOUNTS.splitlines()
+def full_script(clients, subscribers):
+    """As many transfers as a script has room for, a thousand a batch, and how many they are. The clients hand in batches in
+    turn, each between two accounts of its own."""
+    lines = ['subscriber all'] * subscribers
+    for client in range(1, clients + 1):
+        lines += [f'client {client}', 'accounts 1000']
+        lines += [f'account id={account} ledger=700 code=10' for account in (2 * client - 1, 2 * client)]
     size = sum(len(line) + 1 for line in lines)
     count = 0
     while True:
-        more = [f'transfers {2000 + 1000 * count}'] if count % 1000 == 0 else []
-        fields = f'id={count + 1} debit_account_id=1 credit_account_id=2 amount={count % 97} ledger=700 code=1'
+        client = 1 + count // 1000 % clients
+        more = [f'client {client}', f'transfers {2000 + 1000 * count}'] if count % 1000 == 0 else []
+        fields = f'id={count + 1} debit_account_id={2 * client - 1} credit_account_id={2 * client}'
+        fields += f' amount={count % 97} ledger=700 code=1'
         more.append(f'transfer {fields}')
         size += sum(len(line) + 1 for line in more)
         if size > model.MOST_BYTES:
@@ -44,13 +52,13 @@ def full_script(subscribers):
 
 
 def timed(words, folder, processors):
-    """Wall time and processor time of a run."""
+    """Wall time and processor time of a run in seconds, and its memory in megabytes."""
     begun = time.monotonic()
     run = subprocess.Popen(words, cwd=folder, stdout=subprocess.DEVNULL, preexec_fn=stress.on_processors(processors))
     _, status, used = os.wait4(run.pid, 0)
     if status != 0:
         sys.exit(f'{words}: status {status}')
-    return time.monotonic() - begun, used.ru_utime + used.ru_stime
+    return time.monotonic() - begun, used.ru_utime + used.ru_stime, used.ru_maxrss / 1024
 
 
 def print_hand_offs(times=50_000, looks=256):
@@ -77,8 +85,9 @@ def main(words):
         return
     options = rooms.options_of(parser, words)
     with rooms.room('speed-') as folder:
-        for subscribers in (1, 2):
-            script, events = full_script(subscribers)
+        for clients, subscribers in SIZES:
+            script, events = full_script(clients, subscribers)
+            what = f'{events} transfers, clients {clients}, subscribers {subscribers}'
             (pathlib.Path(folder) / 'full.script').write_text(script)
             times = {command: [] for command in COMMANDS}
             for _ in range(options.times):
@@ -86,17 +95,17 @@ def main(words):
                     said = [options.program, name, 'full.script', *flags]
                     times[command].append(timed(said, folder, options.processors))
             for command, found in times.items():
-                wall, used = ([one[part] for one in found] for part in (0, 1))
+                wall, used, memory = ([one[part] for one in found] for part in (0, 1, 2))
                 print(
-                    f'{events} transfers, subscribers {subscribers}, {command}: wall {min(wall):.2f} s,'
-                    f' {statistics.median(wall):.2f} in the middle; processors {min(used):.2f} s,'
-                    f' {statistics.median(used):.2f} in the middle; {events / min(wall):,.0f} events a second'
+                    f'{what}, {command}: wall {min(wall):.2f} s, {statistics.median(wall):.2f} in the middle; processors'
+                    f' {min(used):.2f} s, {statistics.median(used):.2f} in the middle; memory {max(memory):.0f} MB;'
+                    f' {events / min(wall):,.0f} events a second'
                 )
-            walls = [[wall for wall, _ in times[command]] for command in ('run', 'books')]
+            walls = [[one[0] for one in times[command]] for command in ('run', 'books')]
             middle = statistics.median(run / books for run, books in zip(*walls))
             print(
-                f'{events} transfers, subscribers {subscribers}, run beside books: {middle:.2f} times as long in the'
-                f' middle, {sum(walls[0]) / sum(walls[1]):.2f} over all'
+                f'{what}, run beside books: {middle:.2f} times as long in the middle,'
+                f' {sum(walls[0]) / sum(walls[1]):.2f} over all'
             )
 
 

@@ -4,11 +4,11 @@
     tests/stress.py [--program PATH] [--runs N] [--seed S] [--processors P]
     tests/stress.py [--program PATH] --times N [--tests PATH] [--processors P]
 
-Each run is of a script of 1 to 4 clients and 1 to 8 subscribers: a short one, drawn anew, or one of 1,000 transfers. Its
+Each run is of a script of 1 to 4 clients and 1 to 8 subscribers: a short one, drawn anew, or one of some 500 transfers. Its
 plan loses confirms and publishes, restarts the connector, lets queues go back and closes subscribers, at random counts,
-on two processors and on four in turn, or on P; its sessions wait for one event, or for up to 64. Of a short one the
-output has to be what the outside model (model.py) has for the order of batches that the output allows (orders.py); two of
-three start after a moment. A long one closes nothing, and its first book tells the order of its batches: the output has to be what `books` prints of a
+on two processors or on four, or on P; its sessions wait for one event, or for up to 64. Of a short one the
+output has to be what the outside model (model.py) has for the order of batches that the output allows (orders.py); two
+of three start after a moment. A long one closes nothing, and its first book tells the order of its batches: the output has to be what `books` prints of a
 script in this order. Half of the runs save their progress to a file; from the record that is left, the plan did what it
 says, where the window is 1. A run that takes longer than SECONDS hangs, and has failed. One run more is held for a while,
 by a pipe in the place of its saved progress, and must take no processor time meanwhile.
@@ -35,12 +35,12 @@ import model
 import orders
 import rooms
 
-SECONDS = 60  # that a run may take
+SECONDS = 120  # that a run may take
 HOLD = 1  # seconds for which a run that waits is looked at
 MOST_HOLDS = 20
 PROCESSORS = (2, 4)
 MOST_SHOWN = 3  # failures that are shown
-TRANSFERS = 1000  # of a long script, about
+TRANSFERS = 500  # of a long script, about
 # Lines of a report: how many events the first subscriber has applied, the last one's moment; a batch.
 FIRST = re.compile(r'(?m)^subscriber 1 applied (\d+) last (\d+) ')
 LAST = re.compile(r'(?m)(?<= )last \d+')
@@ -389,11 +389,11 @@ def saved(events, plan):
 
 def run_stress(options, runner):
     rng = random.Random(options.seed)
-    kinds = [Short(runner, rng), Short(runner, rng), Short(runner, rng), Long(runner, rng)]
+    kinds = [Long(runner, rng)] + [Short(runner, rng)] * 19
     times = {}
     for number in range(1, options.runs + 1):
         stress = kinds[number % len(kinds)]
-        processors = options.processors or PROCESSORS[number // len(kinds) % len(PROCESSORS)]
+        processors = options.processors or rng.choice(PROCESSORS)
         script, plan = stress.drawn()
         saves = rng.random() < 0.5
         progress = runner.folder / 'stress.progress'

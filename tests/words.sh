@@ -230,13 +230,6 @@ same 'a run that goes on keeps its start' 'tb-cdc 2 2 9223372036854775807 922337
 printf 'tb-cdc 1 3 2000\n' >saved
 run run one.script --progress saved
 same 'a record of version 1 is read, and written in version 2' 'tb-cdc 2 4 2000 0' "$(cat saved)"
-printf 'subscriber all\nsubscriber all\nsubscriber all\n' >three.script
-run run three.script
-same 'too many subscribers of a run: status' 2 "$status"
-same 'too many subscribers of a run: standard output' 'fault: too_many_subscribers
-' "$out"
-same 'too many subscribers of a run: standard error' 'three.script: too_many_subscribers: a run has at most 2 subscribers
-' "$err"
 run run no-such.script
 same 'a run of no file: status' 1 "$status"
 same 'a run of no file: standard output' 'fault: read_fault
@@ -246,10 +239,12 @@ printf '%stransfer id=1\n' "$one_transfer" >refused.script
 run run refused.script
 same 'a run that refuses: standard error' 'relayplum: items not accepted: 1, batches refused: 0
 ' "$err"
-printf 'subscriber all\nclient 3\n' >third.script
-run run third.script
-same 'a run of a third client: standard output' 'fault: script line 2: bad_client
+printf 'subscriber all\nclient 5\n' >fifth.script
+run run fifth.script
+same 'a run of a fifth client: standard output' 'fault: script line 2: bad_client
 ' "$out"
+same 'a run of a fifth client: standard error' "fifth.script:2: bad_client: a client's number is 1 to 4
+" "$err"
 
 # Two clients at once: which of them comes first isn't fixed, but each one's own order is, and both books are told by the
 # ledger's events. Ten times over.
@@ -291,6 +286,61 @@ account 4 0 0 0 7' "$(sed '1,/^subscriber 2/d' output)"
     esac
 done
 
+# Four clients at once, each with two accounts and one transfer on a ledger of its own; of eight subscribers four hear one
+# ledger each, and four all. In which order the batches come isn't fixed, but what each book has in the end. Ten times over.
+for client in 1 2 3 4; do
+    echo "subscriber all ledger=70$client"
+done >four.script
+for _ in 5 6 7 8; do
+    echo 'subscriber all'
+done >>four.script
+for client in 1 2 3 4; do
+    debit=$((2 * client - 1)) credit=$((2 * client))
+    printf 'client %s\naccounts 1000\n' "$client"
+    printf 'account id=%s ledger=70%s code=10\n' "$debit" "$client" "$credit" "$client"
+    printf 'transfers 2000\ntransfer id=%s debit_account_id=%s credit_account_id=%s' "$client" "$debit" "$credit"
+    printf ' amount=%s ledger=70%s code=1\n' "$client" "$client"
+done >>four.script
+for _ in 1 2 3 4 5 6 7 8 9 10; do
+    run run four.script --window 64 --restart-after 2
+    ends_well 'four clients'
+    same 'four clients: their batches' 'batch 1: 0 0
+batch 2: 0
+batch 3: 0 0
+batch 4: 0
+batch 5: 0 0
+batch 6: 0
+batch 7: 0 0
+batch 8: 0' "$(head -n 8 output)"
+    same 'four clients: the books of one ledger' 'subscriber 1 applied 1 last .. ended yes closed no
+account 1 0 1 0 0
+account 2 0 0 0 1
+subscriber 2 applied 1 last .. ended yes closed no
+account 3 0 2 0 0
+account 4 0 0 0 2
+subscriber 3 applied 1 last .. ended yes closed no
+account 5 0 3 0 0
+account 6 0 0 0 3
+subscriber 4 applied 1 last .. ended yes closed no
+account 7 0 4 0 0
+account 8 0 0 0 4' "$(sed -n '9,20s/last [0-9]*/last ../; 9,20p' output)"
+    last=$(sed -n 's/^subscriber 5 applied 4 last \([0-9]*\) ended yes closed no$/\1/p' output)
+    for subscriber in 5 6 7 8; do
+        begins=$((21 + 9 * (subscriber - 5)))
+        same "four clients: how far subscriber $subscriber is" "subscriber $subscriber applied 4 last $last ended yes closed no" \
+            "$(sed -n "${begins}p" output)"
+        same "four clients: the book of subscriber $subscriber" 'account 1 0 1 0 0
+account 2 0 0 0 1
+account 3 0 2 0 0
+account 4 0 0 0 2
+account 5 0 3 0 0
+account 6 0 0 0 3
+account 7 0 4 0 0
+account 8 0 0 0 4' "$(sed -n "$((begins + 1)),$((begins + 8))p" output | sort)"
+    done
+    same 'four clients: lines in all' 56 "$(wc -l <output)"
+done
+
 # A bad script: the fault's line on standard output, and one line for a person on standard error.
 bad_script() {
     local name=$1 line=$2 fault=$3 expected=$4 script=$5 place
@@ -316,7 +366,7 @@ bad_script key.script 3 unknown_key 'key=value' 'subscriber all\naccounts 5\nacc
 bad_script twice.script 3 key_twice 'once' 'subscriber all\naccounts 5\naccount id=1 id=2\n'
 bad_script batch.script 2 no_open_batch 'accounts NOW' 'subscriber all\naccount id=1\n'
 bad_script binding.script 1 bad_binding 'all' 'subscriber some\n'
-bad_script client.script 2 bad_client '1 or 2' 'subscriber all\nclient 9\n'
+bad_script client.script 2 bad_client '1 to 4' 'subscriber all\nclient 9\n'
 bad_script none.script 0 no_subscriber 'subscriber all' ''
 for _ in 1 2 3 4 5 6 7 8 9; do echo 'subscriber all'; done >many
 "$program" books many >output 2>errors

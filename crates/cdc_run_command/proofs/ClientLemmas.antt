@@ -152,13 +152,13 @@ reads_rows context first rest = (
     reads_client context rest,
     (
       reads_then context (lone_number rest) (λ now. Ok (says.Accounts now))
-      (λ now. reads context (says.Accounts now) tt),
+          (λ now. reads context (says.Accounts now) tt),
       (
         reads_then context (lone_number rest) (λ now. Ok (says.Transfers now))
-        (λ now. reads context (says.Transfers now) tt),
+            (λ now. reads context (says.Transfers now) tt),
         (
           reads_then context (lone_number rest) (λ now. Ok (says.Pulse now))
-          (λ now. reads context (says.Pulse now) tt),
+              (λ now. reads context (says.Pulse now) tt),
           (reads_account context context.open_batch rest, (reads_transfer context context.open_batch rest, tt)),
         ),
       ),

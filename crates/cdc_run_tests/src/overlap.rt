@@ -1,6 +1,6 @@
 //! That the ends of a run work at the same time, each on a thread of its own.
 
-ghost use Rattle.std.specs.Prelude.{◌≡◌, vec_len};
+ghost use Rattle.std.specs.Prelude.{◌≡◌, ◌+◌, ◌≤◌, vec_len};
 ghost use Rattle.cdc_run.specs.Configs.{Fits};
 
 use cdc_match::Binding;
@@ -13,16 +13,17 @@ use std::hint::spin_loop;
 use std::process::Abort;
 use std::sync::atomic::{AtomicU64, Ordering};
 
-// The ends of a run of one client and two subscribers.
-const PLACES: u64 = 6;
 // How often a hold looks before it gives up.
 const MOST_LOOKS: u32 = 1_000_000_000;
 
 // Holds the first turn of every place until all have been asked for; then the third turn of client 1 until the second
-// one of subscriber 2 has been asked for, and the other way round. The test fails where a hold waits for too long.
+// one of the last subscriber has been asked for, and the other way round. The test fails where a hold waits for too long.
 #[derive(Drop)]
 struct MeetingGate<'a, R: Abort> {
     rt: &'a R,
+    // How many places there are, and the last subscriber's number.
+    places: u64,
+    last: u64,
     // How many of these turns were asked for.
     first: AtomicU64,
     third_of_client: AtomicU64,
@@ -30,9 +31,11 @@ struct MeetingGate<'a, R: Abort> {
 }
 
 impl<'a, R: Abort> MeetingGate<'a, R> {
-    fn new(rt: &'a R) -> MeetingGate<'a, R> {
+    fn new(rt: &'a R, places: u64, last: u64) -> MeetingGate<'a, R> {
         MeetingGate {
             rt,
+            places,
+            last,
             first: AtomicU64::new(0),
             third_of_client: AtomicU64::new(0),
             second_of_subscriber: AtomicU64::new(0),
@@ -64,11 +67,11 @@ impl<'a, R: Abort> MeetingGate<'a, R> {
 impl<R: Abort> Gate for MeetingGate<'_, R> {
     fn pass(&self, place: Place, turn: u64) {
         match (place, turn) {
-            (_, 1) => self.hold(&self.first, &self.first, PLACES),
+            (_, 1) => self.hold(&self.first, &self.first, self.places),
             (Place::Client(1), 3) => {
                 self.hold(&self.third_of_client, &self.second_of_subscriber, 1)
             }
-            (Place::Subscriber(2), 2) => {
+            (Place::Subscriber(number), 2) if number == self.last => {
                 self.hold(&self.second_of_subscriber, &self.third_of_client, 1)
             }
             _ => {}
@@ -142,24 +145,42 @@ fn all_events(rt: &impl Abort, alloc: Global) -> Binding {
     Binding::parse(alloc, &["all"]).expect(rt, "a binding")
 }
 
-// The bindings of two subscribers, to all events.
-fn two_of_all(rt: &impl Abort, alloc: Global) -> Vec<Binding>
-    ensures { vec_len result ≡ 2 }
+// Two subscribers more, of all events.
+fn with_two_more(rt: &impl Abort, alloc: Global, bindings: Vec<Binding>) -> Vec<Binding>
+    ensures { vec_len result ≡ vec_len bindings + 2 }
 {
-    let mut bindings = Vec::new(alloc);
+    let mut bindings = bindings;
     bindings.push(all_events(rt, alloc)).expect(rt, "memory");
     bindings.push(all_events(rt, alloc)).expect(rt, "memory");
     bindings
 }
 
-// A run of one client and two subscribers.
-fn config_of(rt: &impl Abort, alloc: Global) -> Config
+// The bindings of two subscribers, to all events.
+fn two_of_all(rt: &impl Abort, alloc: Global) -> Vec<Binding>
+    ensures { vec_len result ≡ 2 }
+{
+    with_two_more(rt, alloc, Vec::new(alloc))
+}
+
+// The bindings of eight.
+fn eight_of_all(rt: &impl Abort, alloc: Global) -> Vec<Binding>
+    ensures { vec_len result ≡ 8 }
+{
+    let four = with_two_more(rt, alloc, two_of_all(rt, alloc));
+    let six = with_two_more(rt, alloc, four);
+    with_two_more(rt, alloc, six)
+}
+
+// A run of one client and these subscribers.
+fn config_of(bindings: Vec<Binding>) -> Config
+    requires some { 1 ≤ vec_len bindings }
+    requires few { vec_len bindings ≤ 8 }
     ensures fits { Fits result }
     ensures clients { result.clients ≡ 1 }
 {
     Config {
         system: 1,
-        bindings: two_of_all(rt, alloc),
+        bindings,
         clients: 1,
         window: 1,
         prefetch: 8,
@@ -167,27 +188,46 @@ fn config_of(rt: &impl Abort, alloc: Global) -> Config
     }
 }
 
-// How many events a subscriber has applied, and the timestamp of the last.
-fn seen(subscriber: Option<&Subscriber>) -> Option<(u64, u64)> {
-    subscriber.map(|it| (it.applied_count(), it.last()))
+// Whether a subscriber has applied both events.
+fn has_seen_all(subscriber: &Subscriber) -> bool {
+    subscriber.applied_count() == 2 && subscriber.last() == 3000
 }
 
-// Whether both subscribers have applied both events.
-fn all_seen(report: &Report) -> bool {
-    let subscribers = &report.subscribers;
-    seen(subscribers.get(0)) == Some((2, 3000)) && seen(subscribers.get(1)) == Some((2, 3000))
+// How many subscribers have applied both events.
+fn count_seen(report: &Report) -> usize {
+    report
+        .subscribers
+        .as_slice()
+        .iter()
+        .filter(|subscriber| has_seen_all(subscriber))
+        .count()
 }
 
 #[test]
 fn two_ends_at_once(rt: HostRuntime) {
-    let config = config_of(&rt, rt.alloc());
+    let config = config_of(two_of_all(&rt, rt.alloc()));
     let scripts = scripts(&rt, rt.alloc());
-    let gate = MeetingGate::new(&rt);
+    // One client and two subscribers, beside the ledger, the connector and the broker.
+    let gate = MeetingGate::new(&rt, 6, 2);
     let faults = Faults::none(rt.alloc());
     let store = MemoryStore::new();
     let report = run(&rt, rt.alloc(), config, scripts, faults, store, &gate).expect(
         &rt, "a report",
     );
-    assert_eq!(rt; gate.held(), [PLACES, 1, 1]);
-    assert!(rt; all_seen(&report));
+    assert_eq!(rt; gate.held(), [6, 1, 1]);
+    assert_eq!(rt; count_seen(&report), 2);
+}
+
+#[test]
+fn twelve_ends_at_once(rt: HostRuntime) {
+    let config = config_of(eight_of_all(&rt, rt.alloc()));
+    let scripts = scripts(&rt, rt.alloc());
+    let gate = MeetingGate::new(&rt, 12, 8);
+    let faults = Faults::none(rt.alloc());
+    let store = MemoryStore::new();
+    let report = run(&rt, rt.alloc(), config, scripts, faults, store, &gate).expect(
+        &rt, "a report",
+    );
+    assert_eq!(rt; gate.held(), [12, 1, 1]);
+    assert_eq!(rt; count_seen(&report), 8);
 }
