@@ -75,7 +75,10 @@ fn records_are_printed_and_read_back(rt: HostRuntime) -> Result<(), Fail> {
 #[test]
 fn records_of_the_first_version_start_at_0(rt: HostRuntime) {
     for (session, timestamp, text) in FIRST_RECORDS {
-        assert_eq!(rt; parse(text.as_bytes()), Some(progress(session, timestamp, 0)));
+        assert_eq!(rt;
+            parse(text.as_bytes()),
+            Some(progress(session, timestamp, 0))
+        );
     }
 }
 
@@ -123,8 +126,14 @@ fn a_save_goes_by_way_of_a_new_file(rt: HostRuntime) -> Result<(), Fail> {
     let beside = format!(in rt.alloc(); "{folder}/saved.new")?;
     let stale = "half of a record that is longer than any record";
     fs::write(&rt, beside.as_str(), stale)?;
-    assert_eq!(rt; save_at(&rt, path.as_str(), Progress::new(3, 2000, 0)), Ok(()));
-    assert_eq!(rt; text_at(&rt, path.as_str())?.as_str(), "tb-cdc 2 3 2000 0\n");
+    assert_eq!(rt;
+        save_at(&rt, path.as_str(), Progress::new(3, 2000, 0)),
+        Ok(())
+    );
+    assert_eq!(rt;
+        text_at(&rt, path.as_str())?.as_str(),
+        "tb-cdc 2 3 2000 0\n"
+    );
     assert!(rt; !fs::exists(&rt, beside.as_str())?);
     fs::remove_dir_all(&rt, folder.as_str())?;
     Ok(())

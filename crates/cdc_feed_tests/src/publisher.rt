@@ -120,7 +120,12 @@ fn a_session_starts_where_its_number_is_saved(rt: HostRuntime) {
     let rows: [(Held, u32, Result<(u64, u64), StartError>, Held); 6] = [
         (None, 0, Ok((1, 0)), Some((1, 0, 0))),
         (Some((2, 2000, 0)), 0, Ok((3, 2000)), Some((3, 2000, 0))),
-        (Some((2, 2001, 2000)), 0, Ok((3, 2001)), Some((3, 2001, 2000))),
+        (
+            Some((2, 2001, 2000)),
+            0,
+            Ok((3, 2001)),
+            Some((3, 2001, 2000)),
+        ),
         (Some((1, 2000, 0)), 1, read_fault, Some((1, 2000, 0))),
         (Some((1, 2000, 0)), 2, write_fault, Some((2, 2000, 0))),
         (
@@ -148,7 +153,12 @@ fn a_session_starts_late_where_nothing_is_saved(rt: HostRuntime) {
         (Some((1, 0, 0)), 0, not_allowed, Some((1, 0, 0))),
         (Some((1, 2000, 2000)), 0, not_allowed, Some((1, 2000, 2000))),
         (Some((1, 2000, 0)), 1, read_fault, Some((1, 2000, 0))),
-        (Some((u64::MAX, 5, 0)), 0, not_allowed, Some((u64::MAX, 5, 0))),
+        (
+            Some((u64::MAX, 5, 0)),
+            0,
+            not_allowed,
+            Some((u64::MAX, 5, 0)),
+        ),
     ];
     for (held, fails_at, started, held_then) in rows {
         let mut store = MemoryStore::with_faults(progress(held), u64::from(fails_at), true);

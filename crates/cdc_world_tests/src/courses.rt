@@ -2,7 +2,7 @@
 
 use crate::played::{Course, Seen, outcome};
 use cdc_progress::MemoryStore;
-use cdc_world::{Played, Step, StepError};
+use cdc_world::{Moment, Played, Step, StepError};
 use std::alloc::{AllocError, Global};
 use std::process::Abort;
 use std::test::Fail;
@@ -249,4 +249,49 @@ fn a_thousand_events(rt: HostRuntime) -> Result<(), Fail> {
         (6_004, None),
         left,
     )
+}
+
+// The steps of a publisher that starts after this moment, with the events that follow it.
+fn late_course(alloc: Global, at: Moment) -> Result<Vec<Step>, AllocError> {
+    let mut steps = Vec::with_capacity(alloc, 8)?;
+    steps.push(Step::StartAt(at))?;
+    steps.push(Step::Publish)?;
+    steps.push(Step::Arrive(1))?;
+    steps.push(Step::Poll)?;
+    steps.push(Step::Publish)?;
+    steps.push(Step::Arrive(2))?;
+    steps.push(Step::Send(1))?;
+    steps.push(Step::Take(1))?;
+    Ok(steps)
+}
+
+#[test]
+fn a_start_after_the_first_of_two_events(rt: HostRuntime) -> Result<(), Fail> {
+    let left = Seen {
+        saved: Some((1, 2000)),
+        events: 2,
+        packets: 2,
+        confirms: 1,
+        acks: 1,
+        applied: 1,
+        last: 2001,
+        ..NOTHING
+    };
+    let at = Moment::new(2000).expect(&rt, "a moment");
+    let steps = late_course(rt.alloc(), at)?;
+    leaves(&rt, rt.alloc(), &[5, 7], steps.as_slice(), (8, None), left)
+}
+
+#[test]
+fn a_second_late_start_is_not_allowed(rt: HostRuntime) -> Result<(), Fail> {
+    let left = Seen {
+        saved: Some((1, 2000)),
+        events: 2,
+        ..NOTHING
+    };
+    let at = Moment::new(2000).expect(&rt, "a moment");
+    let again = Moment::new(5).expect(&rt, "a moment");
+    let steps = [Step::StartAt(at), Step::Crash, Step::StartAt(again)];
+    let refused = (2, Some(StepError::StartNotAllowed));
+    leaves(&rt, rt.alloc(), &[5, 7], &steps, refused, left)
 }
