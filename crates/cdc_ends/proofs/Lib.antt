@@ -2,13 +2,13 @@ mod Closing
 mod Answered
 mod Dealing
 mod Equal
-mod FaultKinds
 mod Finishing
 mod Hearing
 mod Lanes
 mod Linked
 mod Places
 mod ConnectorHearing
+mod ConnectorHistories
 mod ConnectorMessages
 mod ConnectorRounds
 mod ConnectorSessions

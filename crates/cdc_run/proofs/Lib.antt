@@ -10,7 +10,7 @@ mod Fresh
 mod Gathering
 mod Kept
 mod Leaving
-mod Met
+mod Counting
 mod Listed
 mod Paired
 mod Passed

@@ -1,5 +1,5 @@
 -- What of a run is the same in whatever order its threads came.
-use Rattle.std.specs.Prelude.{◌≡◌, ℕ, true, false, Option, Result, List, [], ◌∷◌, fold, map}
+use Rattle.std.specs.Prelude.{◌≡◌, ℕ, true, false, Option, Result, List, [], ◌∷◌, ◌++◌, All, fold, map}
 use Rattle.cdc_ends.specs.SubscriberEnds.{is_asked}
 use Rattle.cdc_laws.specs.Line.{line_after}
 use Rattle.cdc_ledger.specs.declared.errors.BatchError.{BatchError}
@@ -34,12 +34,17 @@ pub record IsServedAlone (ledger : History) (replies : List Reply) : Type 0 wher
 abbrev pub kept_of_line : History → ℕ → Arguments → Kept
 kept_of_line h start binding = kept_of (fold next nothing (queue (line_after h start) binding))
 
+-- clients that were replied nothing
+abbrev pub HaveNone : List (List Reply) → Type 0
+HaveNone replies = All (λ own. own ≡ []) replies
+
 -- ---- laws
 
--- so it is where a run has one client
+-- so it is where the clients before one and after it were replied nothing, whichever its number
 abbrev pub LoneClientsAreServedAlone : Type 0
-LoneClientsAreServedAlone = (order : List (ℕ × Batch)) (ledger : History) (replies : List Reply)
-    → AreBooks order ledger (replies ∷ []) → IsServedAlone ledger replies
+LoneClientsAreServedAlone = (order : List (ℕ × Batch)) (ledger : History) (before : List (List Reply))
+    (replies : List Reply) (after : List (List Reply)) → HaveNone before → HaveNone after
+    → AreBooks order ledger (before ++ replies ∷ after) → IsServedAlone ledger replies
 
 -- a subscriber that wasn't asked to close keeps just that
 abbrev pub UnaskedKeepTheLine : Type 0

@@ -1,6 +1,6 @@
 -- Which faults the ends of a run have met, by their places.
 use Rattle.std.proofs.Common.{◌≡◌, ◌⊎◌, ℕ, ◌+◌, List, [], ◌∷◌, ◌++◌, Option, Some, None, Result, Ok, Err, refl, sym, ap, ◌∙◌, subst, arith, length, map, inl, inr}
-use Rattle.std.specs.Prelude.{Bool, IfSome}
+use Rattle.std.specs.Prelude.{Bool}
 use Rattle.std.specs.List.{AllZip}
 use Rattle.cdc_ends.specs.ConnectorEnds.{IsTurnFault as IsConnectorFault}
 use Rattle.cdc_ends.specs.Clients.{ClientState, first_words}
