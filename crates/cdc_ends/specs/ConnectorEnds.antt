@@ -376,11 +376,11 @@ first_work inbox polls packets held honest start window restarts = record {
   finished = false;
 }
 
--- over an honest store that held nothing or the timestamp 0 as the run began, a connector's packets and confirms so far
--- are a connector run on the history that the ledger's last reply names, or on the empty one before the first; the
+-- over an honest store, where the run began at its start, a connector's packets and confirms so far are a connector run
+-- after the start that is held, on the history that the ledger's last reply names, or on the empty one before the first; the
 -- replies are what the ledger may send
 abbrev pub PacketsMakeRuns : Type 0
 PacketsMakeRuns = (c : Publishing) → IsConnectorEnd c → CanSend FollowsToConnector 0 (of_sender 0 c.inbox.received)
-    → c.honest ≡ true → start_of c.first c.held ≡ 0
-    → IsConnectorRun (history_of (last_named (of_sender 0 c.inbox.received))) (packets_in c.packets.sent)
+    → c.honest ≡ true → IsAtStart (origin_of c)
+    → IsConnectorRun (history_of (last_named (of_sender 0 c.inbox.received))) (held_start c.held) (packets_in c.packets.sent)
     (confirms_in (of_sender 1 c.inbox.received))

@@ -8,7 +8,7 @@ invariant_of-result g c =
     let a = c.args in
     let r = c.requires in (
       λ none. subst IsConnectorEnd (sym c.new.ensures)
-          (begins a.inbox a.polls a.packets _ _ a.window a.restart_after.items r.fresh r.two r.to_ledger r.asked
+          (begins a.inbox a.polls a.packets _ _ _ a.window a.restart_after.items r.fresh r.two r.to_ledger r.asked
           r.to_broker r.published r.window),
       tt,
     )
