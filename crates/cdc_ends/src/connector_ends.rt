@@ -86,8 +86,9 @@ impl<S: ProgressStore> ConnectorEnd<S> {
     /// One turn: the first starts a session, each later one receives a message, and all that follows is sent. Once the
     /// connector has finished, a turn changes nothing. `PeerGone`: a link refused to send or to receive, or a confirm came
     /// that answers no packet. `OutOfMemory`: there was no memory for a session or for a packet, or in the store. `Store`:
-    /// the store refused to load, or to save. `SessionsExhausted`: there is no further number for a session. The first
-    /// fault stays: it is answered from then on.
+    /// the store refused to load, or to save. `SessionsExhausted`: there is no further number for a session.
+    /// `StartNotAllowed`: the first session was told where to start, and progress is saved. The first fault stays: it is
+    /// answered from then on.
     pub fn turn<R: Wait>(&mut self, rt: &R, alloc: Global) -> Result<Turn, RunFault>
         ensures turns { IfOk result (λ _. IsTurn self.old.work self.new.work) }
         ensures kept { IfOk result (λ _. IsConnectorEnd self.new.work) }
