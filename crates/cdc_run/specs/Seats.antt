@@ -61,10 +61,6 @@ pub record ConnectorSeat : Type 0 where
 abbrev pub origin_if : Bool → Origin → Option Origin
 origin_if honest origin = if honest then Some origin else None
 
--- the first session begins right after the start
-abbrev pub at_start : ℕ → Origin
-at_start start = record { after = start; start = start }
-
 abbrev pub connector_seat : ConnectorEndState → ConnectorSeat
 connector_seat end = record {
   system = end.system;
@@ -76,6 +72,10 @@ connector_seat end = record {
   window = end.work.window;
   restarts = end.work.restarts;
 }
+
+-- where the first session of a run begins right after its start
+abbrev pub at_start : ℕ → Origin
+at_start start = record { after = start; start = start }
 
 -- the broker's: its system, its inbox, over which links it confirms and hands out, and the bindings of its queues
 pub record BrokerSeat : Type 0 where
