@@ -267,7 +267,7 @@ no_second_start = refl
 
 -- a session that starts without asking goes on where the first one was, and every save keeps the start
 keeps_its_start : shown (run_of start (joins_late ++ Publish ∷ Arrive 1 ∷ told 2 1 ++ Save ∷ Crash ∷ Start ∷ [])) ≡ (
-  (11, None),
+  (12, None),
   Some (record { session = 2; timestamp = 2001; start = 2000 }),
   record { book = []; last = 0; applied = 0; ended = false; closed = false } ∷ [],
 )
