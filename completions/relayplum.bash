@@ -15,7 +15,7 @@ _relayplum() {
             messages) words='--check -h --help' ;;
             simulate) words='--window --explain --trace --diagram --check -h --help' ;;
             run)
-                words='--window --prefetch --lose-confirm --lose-publish --restart-after --repeat --close --progress -h --help'
+                words='--window --prefetch --lose-confirm --lose-publish --restart-after --repeat --close --start-after --progress -h --help'
                 ;;
         esac
     fi

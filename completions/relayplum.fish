@@ -18,4 +18,5 @@ complete -c relayplum -n '__fish_seen_subcommand_from run' -l lose-publish -x -d
 complete -c relayplum -n '__fish_seen_subcommand_from run' -l restart-after -x -d 'Restart the connector after its Nth publish'
 complete -c relayplum -n '__fish_seen_subcommand_from run' -l repeat -x -d 'Let a queue go back after it has first handed out a position: QUEUE:POSITION'
 complete -c relayplum -n '__fish_seen_subcommand_from run' -l close -x -d 'Close a subscriber after N applied events: SUBSCRIBER:N'
+complete -c relayplum -n '__fish_seen_subcommand_from run' -l start-after -x -d 'Start the first session after this moment, in nanoseconds'
 complete -c relayplum -n '__fish_seen_subcommand_from run' -l progress -r -d 'The file that the connector saves its progress in'

@@ -7,7 +7,8 @@ A run of one client keeps its progress in a file, and is killed at a random mome
 What the file holds then has to be a whole record, not behind the one before it, and at an event's moment. Then the run
 is begun again and comes to its end. It makes the ledger's events anew, the same ones; of those after the saved moment
 each has to come to its subscribers, once, and no other: their lines have to be what the outside model (model.py) has
-for these events. In the end the file has to name the last event, in the next session.
+for these events. In the end the file has to name the last event, in the next session. One run of three starts after a
+moment, which each record has to keep; another one of three goes on from a record that an earlier version wrote.
 
 The last line is `kill: N passed, M failed`; exit status 1 where one failed.
 """
@@ -23,7 +24,9 @@ import rooms
 import stress
 
 SECONDS = 30  # that a run may take
-RECORD = re.compile(rb'tb-cdc 1 (0|[1-9][0-9]*) (0|[1-9][0-9]*)\n')
+NUMBER = rb'(0|[1-9][0-9]*)'
+RECORD = re.compile(rb'tb-cdc 2 %b %b %b\n' % (NUMBER, NUMBER, NUMBER))
+EARLIER = re.compile(rb'tb-cdc 1 %b %b\n' % (NUMBER, NUMBER))  # its start is 0
 TRANSFERS = 600
 MOST_SHOWN = 3  # failures that are shown
 
@@ -39,6 +42,7 @@ class Killing:
         self.script = model.read_script(script.encode('ascii'))
         self.ledger, self.batches = model.run_batches(self.script)
         self.moments = [0] + [event.timestamp for event in self.ledger.events]
+        self.start = None  # the moment after which the run starts, where it is told to
         self.seconds = self.length()
         # Kills before anything was saved, before the first event was, between events, and after the last one.
         self.when = dict.fromkeys(['before the start', 'before an event', 'between events', 'after the last event'], 0)
@@ -47,7 +51,10 @@ class Killing:
         self.failed = 0
 
     def words(self):
-        return [self.program, 'run', 'kill.script', '--progress', self.progress.name]
+        words = [self.program, 'run', 'kill.script', '--progress', self.progress.name]
+        if self.start is None or self.progress.exists():
+            return words
+        return [*words, '--start-after', str(self.start)]
 
     def length(self):
         """How long a run takes that nobody kills: the least of three."""
@@ -81,11 +88,12 @@ class Killing:
         return False
 
     def saved(self):
-        """The record in the file: session and moment, or None where there is no file."""
+        """The record in the file: session, moment and start, or None where there is no file."""
         if not self.progress.exists():
             return None
-        found = RECORD.fullmatch(self.progress.read_bytes())
-        return (int(found[1]), int(found[2])) if found else 'no record'
+        text = self.progress.read_bytes()
+        found = RECORD.fullmatch(text) or EARLIER.fullmatch(text)
+        return tuple(int(number) for number in [*found.groups(), 0][:3]) if found else 'no record'
 
     def check(self, what, wanted, found):
         if wanted == found:
@@ -96,35 +104,50 @@ class Killing:
             print(f'failed: {what}\nwanted: {stress.shortened(wanted)}\nfound: {stress.shortened(found)}', flush=True)
 
     def check_record(self, before, after):
-        """A record is whole, goes on from the one before, and is at an event."""
+        """A record is whole, goes on from the one before, and is at an event, or where the run began."""
         is_good = after is None and before is None
         if isinstance(after, tuple):
-            session, moment = before or (0, 0)
-            is_good = after[1] in self.moments and after[1] >= moment and session <= after[0] <= session + 1
+            session, moment, start = before or self.nothing_saved()
+            is_good = after[1] == moment or after[1] in self.moments and after[1] > moment
+            is_good = is_good and session <= after[0] <= session + 1 and after[2] == start
         self.check(f'what is saved after {before}', True, is_good or after)
+
+    def nothing_saved(self):
+        """What a run goes on from where nothing is saved: session, moment and start."""
+        return 0, self.start or 0, self.start or 0
 
     def note(self, saved):
         if saved is None:
             self.when['before the start'] += 1
-        elif saved[1] == 0:
+        elif saved[1] == saved[2]:
             self.when['before an event'] += 1
         else:
-            self.when['after the last event' if saved[1] == self.moments[-1] else 'between events'] += 1
+            self.when['after the last event' if saved[1] >= self.moments[-1] else 'between events'] += 1
 
     def wanted(self, saved):
         """What a run that goes on from a record prints and leaves."""
-        session, moment = saved or (0, 0)
+        session, moment, start = saved or self.nothing_saved()
         text = model.batch_lines(self.batches)
         for number, binding in enumerate(self.script.bindings, start=1):
             later = [event for event in self.ledger.events if event.timestamp > moment]
             text += model.subscriber_lines(number, model.heard([*later, model.END_MARK], binding, None))
-        return text, (session + 1, self.moments[-1])
+        return text, (session + 1, max(moment, self.moments[-1]), start)
+
+    def prepare(self):
+        """Begins with nothing saved, and perhaps with a start, or with a record that an earlier version wrote; with what is saved."""
+        self.progress.unlink(missing_ok=True)
+        self.start = None
+        match self.rng.choice(['nothing', 'a start', 'a record']):
+            case 'a start':
+                self.start = self.rng.choice(self.moments) + self.rng.choice([0, 0, 1])
+            case 'a record':
+                self.progress.write_bytes(b'tb-cdc 1 %d %d\n' % (self.rng.choice([0, 1, 7]), self.rng.choice(self.moments)))
+        return self.saved()
 
     def kill_and_go_on(self):
         """Kills a run, one to four times in a row, and then lets it come to its end; how often it was killed."""
         kills = 0
-        self.progress.unlink(missing_ok=True)
-        saved = None
+        saved = self.prepare()
         for _ in range(self.rng.choice([1, 1, 2, 4])):
             was_killed = self.kill_one()
             before, saved = saved, self.saved()

@@ -10,7 +10,7 @@ hundred lines.
     tests/model.py messages FILE
     tests/model.py simulate FILE STEPS [--window N]
     tests/model.py run FILE [--lose-confirm N].. [--lose-publish N].. [--restart-after N].. [--repeat QUEUE:POSITION]..
-                            [--close SUBSCRIBER:N].. [--window N] [--prefetch N]
+                            [--close SUBSCRIBER:N].. [--window N] [--prefetch N] [--start-after N]
 
 FILE may be `-`. Output and exit status are those of `relayplum` with the same words; under `run`, of a script with
 batches of several clients, what it prints where they come to the ledger in the order of the file.
@@ -669,10 +669,19 @@ class Broker:
         self.cursors[place] = max(self.cursors[place], self.acked[place] + 1)
 
 
+def begun(progress, moment=None):
+    """What is saved when a session starts: its number, its base and the start. `moment` is the start that was asked for."""
+    if progress is None:
+        return 1, moment or 0, moment or 0
+    session, timestamp, start = progress
+    return session + 1, timestamp, start
+
+
 class Session:
-    def __init__(self, number, base, window):
+    def __init__(self, number, base, start, window):
         self.number = number
         self.base = base
+        self.start = start  # it is kept in what the session saves
         self.window = window
         self.offered = []  # events, the one with tag 1 first
         self.complete = False  # whether the end mark follows the last one offered
@@ -758,11 +767,12 @@ class Subscriber:
 
 # ---------------------------------------------------------------- The world
 
-# The steps and how many numbers follow each word.
+# The steps and how many numbers follow each one's words.
 STEPS = {
     'batch': 0,
     'close_ledger': 0,
     'start': 0,
+    'start at': 1,
     'crash': 0,
     'poll': 0,
     'publish': 0,
@@ -811,7 +821,7 @@ class World:
         self.ledger = Ledger()
         self.batches = list(batches)  # those that were not handed in yet
         self.window = window
-        self.progress = None  # what the store holds: session and timestamp
+        self.progress = None  # what the store holds: session, timestamp and start
         self.session = None
         self.packets = []  # all that were ever sent
         self.confirms = []  # all that were ever sent
@@ -825,8 +835,8 @@ class World:
                 return self.batch()
             case 'close_ledger':
                 return self.close_ledger()
-            case 'start':
-                return self.start()
+            case 'start' | 'start at':
+                return self.start(*step.numbers)
             case 'crash':
                 return self.crash()
             case 'poll':
@@ -865,12 +875,13 @@ class World:
         self.ledger.closed = True
         return 'closed already' if was_closed else 'closed'
 
-    def start(self):
+    def start(self, moment=None):
         enabled_where(self.session is None)
-        number, base = (1, 0) if self.progress is None else (self.progress[0] + 1, self.progress[1])
-        self.progress = (number, base)
-        self.session = Session(number, base, self.window)
-        return 'first session' if number == 1 else 'later session'
+        if moment is not None and self.progress is not None:
+            raise StepRefused('start_not_allowed')
+        self.progress = begun(self.progress, moment)
+        self.session = Session(*self.progress, self.window)
+        return 'first session' if self.session.number == 1 else 'later session'
 
     def crash(self):
         enabled_where(self.session is not None)
@@ -913,7 +924,7 @@ class World:
     def save(self):
         enabled_where(self.session is not None)
         before = self.progress
-        self.progress = (self.session.number, self.session.moment())
+        self.progress = (self.session.number, self.session.moment(), self.session.start)
         return 'the same' if self.progress == before else 'moved'
 
     def seat(self, number):
@@ -984,6 +995,7 @@ class Plan:
     restart_after: tuple = ()
     close: tuple = ()  # pairs of a subscriber and a number of applied events
     window: int = 1
+    start: int = None  # the moment that the first session is told to start after
 
     def breaks(self):
         """How many of its faults can end a session, at the most."""
@@ -1000,7 +1012,7 @@ def published(events, plan, progress):
     An item is sent again, by the next session, where the publish or its confirm was lost and where the connector was
     to restart right after it; what was saved until then stays.
     """
-    session, moment = (0, 0) if progress is None else progress
+    session, moment, start = (0, plan.start or 0, plan.start or 0) if progress is None else progress
     sent = 0
     taken = []
     is_done = False
@@ -1018,7 +1030,7 @@ def published(events, plan, progress):
                 is_done = True
             else:
                 moment = item.timestamp
-    return taken, (session, moment)
+    return taken, (session, moment, start)
 
 
 def heard(items, binding, close_after):
@@ -1237,9 +1249,20 @@ def read_step(words):
     word = words.take()
     if word not in STEPS:
         raise words.fault('unknown_word')
+    if word == 'start' and words.have_more():
+        return read_start(words)
     numbers = tuple(words.number(words.take(), 64) for _ in range(STEPS[word]))
     words.end()
     return Step(word, numbers)
+
+
+def read_start(words):
+    """What follows the word of a start that isn't alone: `at` and a moment that an event can have."""
+    if words.take() != 'at':
+        raise words.fault('wrong_count')
+    moment = words.number(words.take(), 63)
+    words.end()
+    return Step('start at', (moment,))
 
 
 # ---------------------------------------------------------------- Commands and printed text
@@ -1353,7 +1376,7 @@ def simulate(script_data, steps_data, window=1):
     if report.refused is not None:
         report.text += f'refused {len(report.steps) + 1} {report.refused[1]}\n'
         report.status = 1
-    report.text += 'progress ' + ('none' if world.progress is None else '%d %d' % world.progress) + '\n'
+    report.text += 'progress ' + ('none' if world.progress is None else '%d %d' % world.progress[:2]) + '\n'
     for number, seat in enumerate(world.seats, start=1):
         report.text += subscriber_lines(number, seat.subscriber)
     return report
@@ -1375,13 +1398,15 @@ def run(script_data, plan=Plan(), progress=None, order=None):
         script = read_script(script_data)
     except Fault as fault:
         return report_of_fault('script', fault)
+    if plan.start is not None and progress is not None:
+        return Report('fault: start_not_allowed\n', 1)
     ledger, batches = run_batches(script, order)
     more = 0
     if plan.window == 1:
         items, progress = published(ledger.events, plan, progress)
     else:
         # What is sent again, and by which session, hangs on how far the connector is when it hears of a fault.
-        items, progress = published(ledger.events, Plan(), progress)
+        items, progress = published(ledger.events, Plan(start=plan.start), progress)
         more = plan.breaks()
     text = batch_lines(batches)
     for number, binding in enumerate(script.bindings, start=1):
@@ -1392,7 +1417,7 @@ def run(script_data, plan=Plan(), progress=None, order=None):
 def plan_of(words):
     """The plan that these words of the command line say."""
     told = {'--lose-confirm': [], '--lose-publish': [], '--restart-after': [], '--close': []}
-    window = 1
+    window, start = 1, None
     for word, value in zip(words[::2], words[1::2]):
         if word == '--close':
             subscriber, _, count = value.partition(':')
@@ -1401,9 +1426,11 @@ def plan_of(words):
             told[word].append(int(value))
         elif word == '--window':
             window = int(value)
+        elif word == '--start-after':
+            start = int(value)
         elif word not in ('--repeat', '--prefetch'):
             sys.exit(__doc__)
-    return Plan(*(tuple(counts) for counts in told.values()), window=window)
+    return Plan(*(tuple(counts) for counts in told.values()), window=window, start=start)
 
 
 def bytes_of(name):

@@ -112,7 +112,7 @@ def report_of_run(script_data, plan, progress, printed):
     report = model.run(script_data, plan, progress)
     if report.status != 0 or report.text == printed:
         return report
-    moment = 0 if progress is None else progress[1]
+    moment = plan.start or 0 if progress is None else progress[1]
     for order in orders_of(model.read_script(script_data), printed, moment):
         other = model.run(script_data, plan, progress, order)
         if other.text == printed:

@@ -416,6 +416,7 @@ class StepMaker:
         'batch': 5,
         'close_ledger': 0.05,
         'start': 8,
+        'start at': 0.1,
         'crash': 0.4,
         'poll': 8,
         'publish': 10,
@@ -438,6 +439,7 @@ class StepMaker:
         self.world = model.World(script.bindings, script.batches, window)
         self.arrived = 0  # the greatest number of a packet that came
         self.answered = 0  # the greatest number of a confirm that came
+        self.begins_late = rng.random() < 1 / 3  # whether the first session is told where to start
         moods = [0.2, 1, 1, 1, 3]
         self.weights = {word: weight * rng.choice(moods) for word, weight in self.WEIGHTS.items()}
         self.is_calm = rng.random() < 0.3
@@ -475,6 +477,8 @@ class StepMaker:
             self.weights['close_ledger'] = max(self.weights['close_ledger'], 0.7)
         for _ in range(60):
             word = self.rng.choices(list(self.weights), list(self.weights.values()))[0]
+            if word == 'start' and self.begins_late and self.world.progress is None:
+                word = 'start at'
             step = model.Step(word, self.numbers(word))
             if self.is_idle(step) and self.rng.random() > self.IDLE.get(word, 0.05):
                 continue
@@ -523,6 +527,8 @@ class StepMaker:
             confirm = self.rng.randint(1, max(1, len(self.world.confirms)))
             without_session = [model.Step('answer', (confirm,))]
             without_session += [model.Step(word) for word in ('poll', 'publish', 'save')]
+            if self.world.progress is not None:
+                without_session += [model.Step('start at', self.numbers('start at'))] * 2
             return [self.rng.choice(without_session)]
         for _ in range(40):
             word = self.rng.choice(list(model.STEPS))
@@ -548,6 +554,8 @@ class StepMaker:
             return (self.of_line(self.arrived, len(self.world.packets)),)
         if word == 'answer':
             return (self.look_alike() or self.of_line(self.answered, len(self.world.confirms)),)
+        if word == 'start at':
+            return (moment_near(self.rng, self.world.ledger),)
         if model.STEPS[word] == 0:
             return ()
         subscriber = self.rng.randint(1, len(self.world.seats))
@@ -579,12 +587,19 @@ class StepMaker:
     def any_step(self):
         """A step with any numbers."""
         word = self.rng.choice(list(model.STEPS))
-        values = [0, 1, 2, 3, 9, 2**64 - 1]
+        values = [0, 1, 2, 3, 9, END_OF_TIME if word == 'start at' else 2**64 - 1]
         return model.Step(word, tuple(self.rng.choice(values) for _ in range(model.STEPS[word])))
 
 
 def last_of(ledger):
     return ledger.events[-1].timestamp if ledger.events else 0
+
+
+def moment_near(rng, ledger):
+    """A moment to start after: that of an event or the one before it, the first or the last of all, or one to come."""
+    moments = [event.timestamp + rng.choice([0, 0, 0, -1]) for event in ledger.events]
+    later = [ledger.last + rng.choice([0, 1, 1000, model.SECOND])]
+    return min(max(rng.choice(moments * 2 + later + [0, rng.choice([0, END_OF_TIME])]), 0), END_OF_TIME)
 
 
 # The steps that a calm play has few of.
@@ -599,11 +614,12 @@ class PlanMaker:
 
     def __init__(self, rng, script):
         self.rng = rng
-        self.events = model.run_batches(script)[0].events
+        self.ledger = model.run_batches(script)[0]
+        self.events = self.ledger.events
         self.subscribers = len(script.bindings)
 
     def words(self):
-        words = words_of_window(self.rng) + self.prefetch()
+        words = words_of_window(self.rng) + self.prefetch() + self.start()
         for option in ('--lose-confirm', '--lose-publish', '--restart-after'):
             for _ in range(self.rng.choice([0, 0, 1, 1, 2, 4])):
                 words += (option, f'{zeros(self.rng)}{self.count()}')
@@ -618,6 +634,12 @@ class PlanMaker:
             return ()
         return ('--prefetch', str(self.rng.choice([1, 1, 2, 3, 8, 64])))
 
+    def start(self):
+        """Where the first session starts, in one run of three."""
+        if self.rng.random() < 2 / 3:
+            return ()
+        return ('--start-after', f'{zeros(self.rng)}{moment_near(self.rng, self.ledger)}')
+
     def count(self):
         """A count of events or packets, or a position."""
         if self.rng.random() < 0.03:
@@ -627,13 +649,15 @@ class PlanMaker:
     def subscriber(self):
         return self.rng.randint(1, self.subscribers + (self.rng.random() < 0.05))
 
-    def progress(self):
-        """What was saved by an earlier run, if anything was."""
-        if self.rng.random() < 0.5:
+    def progress(self, starts_late):
+        """What was saved by an earlier run, if anything was; the less where this one is told where to start."""
+        if self.rng.random() < (0.9 if starts_late else 0.5):
             return None
         moments = [0] + [event.timestamp + self.rng.choice([0, 0, 0, -1]) for event in self.events]
         moments += [END_OF_TIME] * (self.rng.random() < 0.05)
-        return self.rng.choice([0, 1, 7, 2**63]), min(max(self.rng.choice(moments), 0), END_OF_TIME)
+        moment = min(max(self.rng.choice(moments), 0), END_OF_TIME)
+        start = self.rng.choice([0, moment, min(self.rng.choice(moments), moment)])
+        return self.rng.choice([0, 1, 7, 2**63]), moment, max(start, 0)
 
 
 # ---------------------------------------------------------------- Broken lines and odd layouts
@@ -718,7 +742,7 @@ class Spoiler:
         no_number = self.rng.choice(NO_NUMBERS)
         line = self.rng.choice(
             ['arrive', f'arrive {no_number}', f'arrive {2**64}', f'take {FAR_TOO_LARGE}', 'batch 1', 'Batch']
-            + ['start at', 'start x', 'send 1 1', 'send', 'answer 1 x', ' #x', 'stop', 'save me', 'close_ledger 1']
+            + ['start at', 'start x', 'start at x', f'start at {2**63}', f'start at {2**63} x', 'start at 1 x', 'send 1 1', 'send', 'answer 1 x', ' #x', 'stop', 'save me', 'close_ledger 1']
             + ['poll x y', 'rewind', f'break {no_number}', f'close {2**64}', 'crash 1', 'ack 1', 'ack x', 'ack x 1']
             + ['ack 1 x', 'ack 1 2 3', f'ack {2**64} x']
         )
@@ -786,6 +810,7 @@ class Case:
     plan: tuple  # words of a run
     saves: bool  # whether it keeps its progress in a file
     progress: tuple  # what stands there before, if anything does
+    version: int  # in the text of which version
 
 
 def case_of(seed, number):
@@ -797,14 +822,15 @@ def case_of(seed, number):
     runs = PlanMaker(rng, script_of(lines))
     plan = runs.words()
     saves = rng.random() < 0.5
-    progress = runs.progress() if saves else None
+    progress = runs.progress('--start-after' in plan) if saves else None
+    version = 1 if progress is not None and progress[2] == 0 and rng.random() < 0.7 else 2
     spoilt = rng.random()
     if spoilt < 0.15:
         lines = spoiler.spoilt_script(lines)
     elif spoilt < 0.25:
         steps = spoiler.spoilt_steps(steps)
     script, step_file = spoiler.lay_out(lines), spoiler.lay_out(steps)
-    return Case(script, step_file, window, plan, saves, progress)
+    return Case(script, step_file, window, plan, saves, progress, version)
 
 
 def words_of_window(rng):
@@ -845,9 +871,13 @@ def words_of(command, case):
     return [command, 'soak.script']
 
 
-def record_of(progress):
-    """The bytes of saved progress."""
-    return None if progress is None else b'tb-cdc 1 %d %d\n' % progress
+def record_of(progress, version=2):
+    """The bytes of saved progress; those of version 1 have no start."""
+    if progress is None:
+        return None
+    if version == 1:
+        return b'tb-cdc 1 %d %d\n' % progress[:2]
+    return b'tb-cdc 2 %d %d %d\n' % progress
 
 
 @dataclass(frozen=True)
@@ -872,7 +902,7 @@ class Runner:
         self.progress = self.folder / 'soak.progress'
         self.progress.unlink(missing_ok=True)
         if case.progress is not None:
-            self.progress.write_bytes(record_of(case.progress))
+            self.progress.write_bytes(record_of(case.progress, case.version))
 
     def run(self, command, case):
         try:
@@ -894,10 +924,10 @@ def wanted(report, case):
     """What the program may come to, by a report of the model; more than one record where threads choose the session."""
     text = report.text.encode('ascii')
     if report.progress is None or not case.saves:
-        return [Found(text, report.status, record_of(case.progress))]
-    session, moment = report.progress
+        return [Found(text, report.status, record_of(case.progress, case.version))]
+    session, moment, start = report.progress
     return [
-        Found(text, report.status, record_of((number, moment)))
+        Found(text, report.status, record_of((number, moment, start)))
         for number in range(session, session + report.more_sessions + 1)
     ]
 
@@ -983,7 +1013,7 @@ def told(seed, number, command, case, report, found):
     if command == 'simulate':
         text += file_in_words('soak.steps', case.steps)
     if command == 'run' and case.progress is not None:
-        text += file_in_words('soak.progress', record_of(case.progress))
+        text += file_in_words('soak.progress', record_of(case.progress, case.version))
     text += ' '.join(['relayplum', *words_of(command, case)]) + '\n'
     if command == 'run':
         text += 'no order of the batches allows what was found; wanted in the order of the file\n'
@@ -1000,6 +1030,7 @@ ANSWERS = {
     'batch': ['taken'],
     'close_ledger': ['closed', 'closed already'],
     'start': ['first session', 'later session'],
+    'start at': ['first session'],
     'crash': ['crashed'],
     'poll': ['events', 'no events', 'events, the end', 'no events, the end'],
     'publish': ['connect', 'event', 'end mark'],
@@ -1021,6 +1052,7 @@ ANSWERS = {
 REFUSALS = {
     'batch': ['not_enabled', 'refused'],
     'start': ['not_enabled'],
+    'start at': ['not_enabled', 'start_not_allowed'],
     'crash': ['not_enabled'],
     'poll': ['not_enabled without a session', 'not_enabled'],
     'publish': ['not_enabled without a session', 'not_enabled', 'not_enabled while the end waits for a confirm'],
@@ -1057,6 +1089,8 @@ EXPECTED = {
         'of one session',
         'of several sessions',
         'from saved progress',
+        'from saved progress with a start',
+        'of a start that is not allowed',
     ],
     'clients of runs': [str(number) for number in model.CLIENTS],
     'subscribers of runs': [str(number) for number in range(1, model.MOST_SUBSCRIBERS + 1)],
@@ -1068,6 +1102,7 @@ EXPECTED = {
         '--restart-after',
         '--repeat',
         '--close',
+        '--start-after',
         '--progress',
     ],
     'subscribers after a run': ['ended', 'closed'],
@@ -1134,6 +1169,7 @@ def count_subscriber(binding, subscriber, ledger, counts):
 
 def count_run(case, report, found, counts):
     """Adds what came up in a run."""
+    counts['runs', 'of a start that is not allowed'] += 'start_not_allowed' in report.text
     if report.status != 0:
         return
     for option in case.plan[::2] + ('--progress',) * case.saves:
@@ -1147,6 +1183,7 @@ def count_run(case, report, found, counts):
     sessions = report.progress[0] - (case.progress[0] if case.progress else 0)
     counts['runs', 'of one session' if sessions == 1 else 'of several sessions'] += 1
     counts['runs', 'from saved progress'] += case.progress is not None
+    counts['runs', 'from saved progress with a start'] += case.progress is not None and case.progress[2] > 0
     for state in ('ended', 'closed'):
         counts['subscribers after a run', state] += found.text.count(b' %s yes' % state.encode('ascii'))
 
@@ -1269,7 +1306,8 @@ def ignore_signals():
 def run_case(options):
     """One case alone: its files and what it prints, and the difference where there is one."""
     case = case_of(options.seed, options.case)
-    files = {'soak.script': case.script, 'soak.steps': case.steps, 'soak.progress': record_of(case.progress)}
+    record = record_of(case.progress, case.version)
+    files = {'soak.script': case.script, 'soak.steps': case.steps, 'soak.progress': record}
     print(''.join(file_in_words(name, data) for name, data in files.items() if data is not None))
     print('\n'.join(' '.join(['relayplum', *words_of(command, case)]) for command in COMMANDS) + '\n')
     _, runs, differing = run_chunk(options.program, None, options.seed, [options.case])

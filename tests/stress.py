@@ -1,3 +1,4 @@
+#!/usr/bin/env python3
 """Runs scripts on threads again and again, under random faults, and compares what is printed and saved.
 
     tests/stress.py [--program PATH] [--runs N] [--seed S] [--processors P]
@@ -6,8 +7,8 @@
 Each run is of a script of 1 to 4 clients and 1 to 8 subscribers: a short one, drawn anew, or one of some 500 transfers. Its
 plan loses confirms and publishes, restarts the connector, lets queues go back and closes subscribers, at random counts,
 on two processors or on four, or on P; its sessions wait for one event, or for up to 64. Of a short one the
-output has to be what the outside model (model.py) has for the order of batches that the output allows (orders.py). A long
-one closes nothing, and its first book tells the order of its batches: the output has to be what `books` prints of a
+output has to be what the outside model (model.py) has for the order of batches that the output allows (orders.py); two
+of three start after a moment. A long one closes nothing, and its first book tells the order of its batches: the output has to be what `books` prints of a
 script in this order. Half of the runs save their progress to a file; from the record that is left, the plan did what it
 says, where the window is 1. A run that takes longer than SECONDS hangs, and has failed. One run more is held for a while,
 by a pipe in the place of its saved progress, and must take no processor time meanwhile.
@@ -29,7 +30,6 @@ import re
 import subprocess
 import sys
 import time
-from types import SimpleNamespace
 
 import model
 import orders
@@ -298,8 +298,8 @@ def plan_of(rng, events, subscribers, closes):
 
 def records_of(report):
     """The bytes of the progress that a run may save last, by a report of the model."""
-    session, moment = report.progress
-    return [b'tb-cdc 1 %d %d\n' % (session + more, moment) for more in range(report.more_sessions + 1)]
+    session, moment, start = report.progress
+    return [b'tb-cdc 2 %d %d %d\n' % (session + more, moment, start) for more in range(report.more_sessions + 1)]
 
 
 class Stress:
@@ -315,7 +315,11 @@ class Stress:
         script = self.script(clients, subscribers)
         self.told = f'{clients} clients, {subscribers} subscribers'
         events = len(re.findall('(?m)^transfer ', script.text()))
-        return script, plan_of(self.rng, events, subscribers, self.closes)
+        return script, plan_of(self.rng, events, subscribers, self.closes) + self.start()
+
+    def start(self):
+        """The words for where the first session starts."""
+        return []
 
 
 class Short(Stress):
@@ -325,6 +329,12 @@ class Short(Stress):
 
     def script(self, clients, subscribers):
         return script_of(self.rng, clients, subscribers, self.rng.randint(1, 3), 3, [1000, 2000, 5000])
+
+    def start(self):
+        if self.rng.random() < 1 / 3:
+            return []
+        moment = self.rng.choice([0, 1000, 2000, 5000]) + self.rng.randint(-1, 8)
+        return ['--start-after', str(max(moment, 0))]
 
     def wanted(self, script, plan, saves, printed):
         report = orders.report_of_run(script.text().encode('ascii'), model.plan_of(plan), None, printed)
@@ -456,7 +466,7 @@ def run_waiting(runner):
             rested = has_rested(run)
             # Without a reader this is refused, and doesn't wait.
             with open(os.open(pipe, os.O_WRONLY | os.O_NONBLOCK), 'wb') as saved:
-                saved.write(b'tb-cdc 1 4 0\n')
+                saved.write(b'tb-cdc 2 4 0 0\n')
             found = run.communicate(timeout=SECONDS)[0].decode('utf-8', 'backslashreplace')
         except (OSError, subprocess.TimeoutExpired) as error:
             run.kill()

@@ -154,6 +154,12 @@ bad_words "'--lose-confirm'" books one.script --lose-confirm 1
 for prefetch in 0 65 18446744073709551617 x 8: -1 ''; do
     bad_words 'a prefetch is 1 to 64' run one.script --prefetch="$prefetch"
 done
+bad_words "'--start-after" run one.script --start-after
+bad_words "'--start-after" run one.script --start-after 1 --start-after 1
+bad_words "'--start-after'" simulate one.script three.steps --start-after 1
+for start in 9223372036854775808 18446744073709551616 x 1:1 +1 -1 ''; do
+    bad_words 'a start is a moment in nanoseconds, 0 to 9223372036854775807' run one.script --start-after="$start"
+done
 for option in --lose-confirm --lose-publish --restart-after; do
     bad_words "'$option" run one.script "$option"
     for count in 0 00 18446744073709551616 x 1:1 +1 -1 ''; do
@@ -186,15 +192,44 @@ for words in 'run one.script --progress=saved' 'run --progress saved - --prefetc
     run $words
     same "words '$words'" "$its_book" "$out"
     ends_well "words '$words'"
-    same "words '$words': saved" 'tb-cdc 1 1 2000' "$(cat saved)"
+    same "words '$words': saved" 'tb-cdc 2 1 2000 0' "$(cat saved)"
 done
+run run one.script --progress saved --start-after 1999
+same 'a start where progress is saved: status' 1 "$status"
+same 'a start where progress is saved: standard output' 'fault: start_not_allowed
+' "$out"
+same 'a start where progress is saved: standard error' \
+    'relayplum: start_not_allowed: progress is saved already, and says where the run goes on
+' "$err"
+same 'a start where progress is saved: saved' 'tb-cdc 2 1 2000 0' "$(cat saved)"
 run run one.script --progress saved
 same 'a run that goes on: standard output' 'batch 1: 0 0
 batch 2: 0
 subscriber 1 applied 0 last 0 ended yes closed no
 ' "$out"
 ends_well 'a run that goes on'
-same 'a run that goes on: saved' 'tb-cdc 1 2 2000' "$(cat saved)"
+same 'a run that goes on: saved' 'tb-cdc 2 2 2000 0' "$(cat saved)"
+for start in 0 1999 01999; do
+    rm -f saved
+    run run one.script --start-after $start --progress saved
+    same "a start after $start: standard output" "$its_book" "$out"
+    ends_well "a start after $start"
+    same "a start after $start: saved" "tb-cdc 2 1 2000 $((10#$start))" "$(cat saved)"
+done
+for start in 2000 9223372036854775807; do
+    rm -f saved
+    run run one.script --start-after=$start --progress saved
+    same "a start after $start: standard output" 'batch 1: 0 0
+batch 2: 0
+subscriber 1 applied 0 last 0 ended yes closed no
+' "$out"
+    same "a start after $start: saved" "tb-cdc 2 1 $start $start" "$(cat saved)"
+done
+run run one.script --progress saved
+same 'a run that goes on keeps its start' 'tb-cdc 2 2 9223372036854775807 9223372036854775807' "$(cat saved)"
+printf 'tb-cdc 1 3 2000\n' >saved
+run run one.script --progress saved
+same 'a record of version 1 is read, and written in version 2' 'tb-cdc 2 4 2000 0' "$(cat saved)"
 run run no-such.script
 same 'a run of no file: status' 1 "$status"
 same 'a run of no file: standard output' 'fault: read_fault
@@ -442,6 +477,7 @@ not_enabled 4 start 'session 1 runs already' '# A comment.\n  start  \n\nstart\n
 for step in crash poll publish save 'answer 1'; do
     not_enabled 1 "$step" 'no session runs' "$step\n"
 done
+not_enabled 2 'start at 5' 'session 1 runs already' 'start\nstart at 5\n'
 not_enabled 5 poll 'the session has an event that it is to publish first' 'batch\nbatch\nstart\npoll\npoll\n'
 not_enabled 7 poll 'the session waits for the confirm of tag 1' "${published}poll\n"
 not_enabled 4 poll 'the session knows that no event follows' 'close_ledger\nstart\npoll\npoll\n'
@@ -470,6 +506,12 @@ not_enabled 1 'ack 1 1' 'subscriber 1 has acknowledged nothing' 'ack 1 1\n'
 not_enabled 11 'ack 1 2' 'subscriber 1 has sent acknowledgements up to number 1' \
     "${published}arrive 1\narrive 2\nsend 1\ntake 1\nack 1 2\n"
 not_enabled 11 'ack 1 0' 'numbers count from 1' "${published}arrive 1\narrive 2\nsend 1\ntake 1\nack 1 0\n"
+printf 'start at 1999\ncrash\nstart at 5\n' >why.steps
+run simulate one.script why.steps
+same 'a start that is not allowed: status' 1 "$status"
+same 'a start that is not allowed: standard error' \
+    'why.steps:3: start at 5: start_not_allowed: session 1 has saved progress up to 1999, and a moment is taken only where none is saved
+' "$err"
 printf 'batch\nclose_ledger\nbatch\n' >why.steps
 run simulate one.script why.steps
 same 'a refused batch: status' 1 "$status"
@@ -495,7 +537,9 @@ bad_steps 2 bad_text 'printable ASCII' 'start\npoll\t\n'
 bad_steps 1 unknown_word 'ack or close' 'jump\n'
 bad_steps 1 wrong_count 'have one number' 'arrive\n'
 bad_steps 1 bad_number 'a number is one or more digits from 0 to 9' 'arrive x\n'
+bad_steps 1 wrong_count 'start at have one number' 'start at\n'
 bad_steps 1 number_out_of_range '64 bits' 'answer 18446744073709551616\n'
+bad_steps 1 number_out_of_range 'at most 9223372036854775807' 'start at 9223372036854775808\n'
 bad_steps 0 too_long '1048576' "$(head -c 1048577 /dev/zero | tr '\0' ' ')"
 head -c 1048576 /dev/zero | tr '\0' ' ' >long.steps
 printf 'subscriber all\n' >alone.script
@@ -637,6 +681,29 @@ run simulate --trace one.script twice.steps
 same 'a trace up to a refused step' 'start: session 1 begins after 0
 twice.steps:2: start: not enabled: session 1 runs already
 ' "$err"
+
+# A start after a moment: what is left out, also of what comes later, and what later sessions go on from.
+printf '%s\n' 'start at 2500' batch batch publish 'arrive 1' poll save crash start poll >late.steps
+run simulate --trace --explain one.script late.steps
+same 'a start after all that is there' 'start at 2500: session 1 begins after 2500, events left out so far: 0
+batch: batch 1, items 2, accepted 2, refused 0
+batch: batch 2, items 1, accepted 1, refused 0
+publish: packet 1, connect of session 1
+arrive 1: taken, session 1 is connected
+poll: no event yet
+save: session 1 is confirmed up to 2500
+crash: session 1 is gone
+start: session 2 begins after 2500
+poll: no event yet
+one.script: events up to the start, 2500, are left out: 1 of 1
+' "$err"
+printf '%s\n' batch batch 'start at 1999' publish 'arrive 1' poll publish 'arrive 2' 'answer 1' save >late.steps
+run simulate --trace one.script late.steps
+same 'a start before an event' 'start at 1999: session 1 begins after 1999, events left out so far: 0
+poll: event 2000
+save: session 1 is confirmed up to 2000
+' "$(grep -E '^(start|poll|save)' errors)
+"
 
 # Files that are judged alone.
 for words in 'books --check one.script' 'messages one.script --check' 'simulate --check one.script three.steps' \

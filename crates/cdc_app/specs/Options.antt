@@ -9,11 +9,12 @@ use Rattle.cdc_app.specs.declared.command_line.Options.TheVariants.{Books, Messa
 use Rattle.cdc_app.specs.declared.command_line.OptionsFault.{OptionsFault}
 use Rattle.cdc_app.specs.declared.command_line.OptionsFault.TheVariants.{BadWords, OutOfMemory}
 
--- the plan of a run of which nothing else is said: a window of one event, a prefetch of 8, and no fault
+-- the plan of a run of which nothing else is said: a window of one event, a prefetch of 8, no fault and no start
 pub record IsDefaultPlan (plan : RunPlan) : Type 0 where
   pub window : plan.window ≡ 1
   pub prefetch : plan.prefetch ≡ 8
   pub faults : HasNoFaults plan.faults
+  pub start : plan.start ≡ None
 
 -- the command `run` over the file of this name, by the default plan, with its progress in memory
 abbrev pub IsRun : List ℕ → Options → Type 0

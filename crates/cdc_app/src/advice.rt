@@ -77,6 +77,11 @@ fn advice(rt: &HostRuntime, place: &str, ending: Ending) -> io::Result<()> {
                 "relayplum: sessions_exhausted: the saved session has the greatest number there is"
             )
         }
+        Ending::Failed(ProgramFault::StartNotAllowed) => {
+            eprintln!(rt;
+                "relayplum: start_not_allowed: progress is saved already, and says where the run goes on"
+            )
+        }
         Ending::Failed(ProgramFault::NotOneSystem) => {
             eprintln!(rt;
                 "relayplum: not_one_system: the ends of the run weren't those of one system"

@@ -37,9 +37,10 @@ A subscriber's binding is all or any, and up to ten pairs of a header and its va
 A script is run on threads: the ledger, each client, the connector, the broker and each subscriber have one each. What
 goes wrong on the way is counted over the whole run, from 1.
 
-STEPS is a file with one step of a simulation in each line: batch, close_ledger, start, crash, poll, publish,
-arrive K, answer K, save, send I, rewind I, break I, take I, ack I K or close I. I is a subscriber and its queue,
-and K counts the packets, the confirms or a subscriber's acknowledgements ever sent, from 1.
+STEPS is a file with one step of a simulation in each line: batch, close_ledger, start, start at N, crash, poll,
+publish, arrive K, answer K, save, send I, rewind I, break I, take I, ack I K or close I. I is a subscriber and its
+queue, K counts the packets, the confirms or a subscriber's acknowledgements ever sent, from 1, and N is a moment in
+nanoseconds.
 
 Examples:
   relayplum books examples/two-phase.script

@@ -9,7 +9,7 @@ use crate::options::{MORE, asked_window, bad_words, script_argument, window_opti
 use cdc_message::decimal_up_to;
 use cdc_run::Faults;
 use cdc_run_command::RunPlan;
-use cdc_types::Limits;
+use cdc_types::{Limits, Moment};
 use clap::{Arg, ArgAction, ArgMatches, Command};
 use std::alloc::{AllocError, Global};
 
@@ -53,6 +53,7 @@ pub fn run_words<'a>(alloc: Global) -> Result<Command<'a>, AllocError> {
             "SUBSCRIBER:N",
             "Close a subscriber after N applied events",
         ))?
+        .arg(start_option(alloc))?
         .arg(progress_option(alloc))
 }
 
@@ -88,6 +89,17 @@ fn pair_option<'a>(
         .help(help)
 }
 
+/// The option `--start-after`.
+fn start_option<'a>(alloc: Global) -> Arg<'a> {
+    Arg::new(alloc, "start-after")
+        .long("start-after")
+        .value_name("N")
+        .action(ArgAction::Set)
+        .help(
+            "Start the first session after this moment, in nanoseconds, and tell later events alone",
+        )
+}
+
 /// The option `--progress`.
 fn progress_option<'a>(alloc: Global) -> Arg<'a> {
     Arg::new(alloc, "progress")
@@ -99,7 +111,7 @@ fn progress_option<'a>(alloc: Global) -> Arg<'a> {
         )
 }
 
-/// The plan of a run where no word says otherwise: a window of one event, a prefetch of 8, and no fault.
+/// The plan of a run where no word says otherwise: a window of one event, a prefetch of 8, no fault and no start.
 pub fn default_plan(alloc: Global) -> RunPlan
     ensures default { IsDefaultPlan result }
     ensures plan { IsPlan result }
@@ -108,6 +120,7 @@ pub fn default_plan(alloc: Global) -> RunPlan
         window: 1,
         prefetch: DEFAULT_PREFETCH,
         faults: Faults::none(alloc),
+        start: None,
     }
 }
 
@@ -118,11 +131,34 @@ pub fn run_plan(alloc: Global, arguments: &ArgMatches<'_>) -> Result<RunPlan, Op
     let window = asked_window(alloc, arguments)?;
     let prefetch = asked_prefetch(alloc, arguments)?;
     let faults = asked_faults(alloc, arguments)?;
+    let start = asked_start(alloc, arguments)?;
     Ok(RunPlan {
         window,
         prefetch,
         faults,
+        start,
     })
+}
+
+/// The moment after which the words ask the first session to start, if they do.
+fn asked_start(alloc: Global, arguments: &ArgMatches<'_>) -> Result<Option<Moment>, OptionsFault> {
+    let Some(word) = arguments.get_str("start-after") else {
+        return Ok(None);
+    };
+    match moment_in(word) {
+        Some(moment) => Ok(Some(moment)),
+        None => Err(bad_words(
+            alloc,
+            "error: a start is a moment in nanoseconds, 0 to 9223372036854775807\n\n\
+             For more information, try '--help'.\n",
+        )?),
+    }
+}
+
+/// The moment that a word says, in nanoseconds.
+fn moment_in(word: &str) -> Option<Moment> {
+    let number = decimal_up_to(word.as_bytes(), u128::from(Limits::TIMESTAMP))?;
+    Moment::new(number as u64)
 }
 
 /// The prefetch that the words say, or 8.

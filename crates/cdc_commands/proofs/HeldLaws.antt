@@ -13,17 +13,18 @@ use Rattle.cdc_ledger.specs.Verdict.{max_timestamp}
 use Rattle.cdc_ledger.proofs.KeptLaws.{IsSound-after_batches}
 use Rattle.cdc_ledger.proofs.SoundLaws.{IsSound-empty, IsSound-closed}
 use Rattle.cdc_match.specs.Arguments.{Arguments}
-use Rattle.cdc_match.specs.Queue.{queue, takes_event}
+use Rattle.cdc_match.specs.Queue.{feed, queue, takes_event}
 use Rattle.cdc_message.specs.declared.items.Item.{Item}
 use Rattle.cdc_message.specs.Replays.{IsPrefix, IsReplay}
 use Rattle.cdc_subscriber.specs.Book.{accounts_of, book_of}
 use Rattle.cdc_subscriber.specs.Heard.{Heard, has_ended}
 use Rattle.cdc_subscriber.specs.Kept.{Kept}
 use Rattle.cdc_laws.specs.Faithful.{IsFaithful, applied}
-use Rattle.cdc_laws.specs.Line.{feed_of, line, told}
+use Rattle.cdc_laws.specs.Line.{feed_of, line, line_after, told}
 use Rattle.cdc_laws.proofs.Books.{book_of-prefix}
 use Rattle.cdc_laws.proofs.Faithful.{hears-all, hears-told, kept_of-line}
 use Rattle.cdc_laws.proofs.Feeds.{queue-line}
+use Rattle.cdc_laws.proofs.Lines.{all_after_zero, line_after-zero}
 use Rattle.cdc_laws.proofs.Replays.{IsReplay-same}
 use Rattle.cdc_script.specs.declared.scripts.Script.{Script}
 use Rattle.cdc_commands.specs.Feeds.{heard_of, hearing, kept_by}
@@ -73,9 +74,15 @@ module _ (h : History) (binding : Arguments) (is : sound.IsSound h) (shut : h.cl
       ap hearing whole_queue ∙ hears-told (feed_of h binding)
       ∙ ap (λ (items : List Item). record { items = items; closed = false }) (sym whole_queue)
 
+  -- all that the ledger has to tell comes after 0
+  line_zero : line_after h 0 ≡ line h
+  line_zero = line_after-zero h is
+
   -- so it has ended and is faithful
-  hears : (has_ended (heard_of (line h) binding) ≡ true) × IsFaithful h binding (heard_of (line h) binding)
-  hears = hears-all h binding (heard_of (line h) binding) is shut (ap (λ (x : Heard). x.items) hears_queue)
+  hears : (has_ended (heard_of (line h) binding) ≡ true) × IsFaithful h 0 binding (heard_of (line h) binding)
+  hears =
+      hears-all h 0 binding (heard_of (line h) binding) is shut
+      (ap (λ (x : Heard). x.items) hears_queue ∙ ap (λ (items : List Item). queue items binding) (sym line_zero))
 
   -- its feed is short enough to be counted
   few_of_feed : length (feed_of h binding) ≤ 2 ^ 64 - 1
@@ -94,12 +101,15 @@ module _ (h : History) (binding : Arguments) (is : sound.IsSound h) (shut : h.cl
       let replay : IsReplay heard.items (queue (line h) binding) =
       subst (λ items. IsReplay items (queue (line h) binding)) (sym (ap (λ (x : Heard). x.items) hears_queue))
       (IsReplay-same (queue (line h) binding)) in
-      let whole : applied heard ≡ feed_of h binding = (hears.1.whole hears.0).1 in
+      let after_zero : IsReplay heard.items (queue (line_after h 0) binding) =
+      subst (λ (items : List Item). IsReplay heard.items (queue items binding)) (sym line_zero) replay in
+      let whole : applied heard ≡ feed_of h binding =
+      (hears.1.whole hears.0).1 ∙ ap (λ es. feed es binding) (all_after_zero h is) in
       let count : min (length (feed_of h binding)) (2 ^ 64 - 1) ≡ length (feed_of h binding) =
       omega (arith, few_of_feed) in
       let kept : List Event → ℕ → Bool → Bool → Kept = λ es n ended closed.
       record { book = book_of es; last = last_timestamp es; applied = n; ended = ended; closed = closed } in
-      kept_of-line h binding heard is replay
+      kept_of-line h 0 binding heard is after_zero
       ∙ ap (λ es. kept es (min (length es) (2 ^ 64 - 1)) (has_ended heard) heard.closed) whole
       ∙ ap (λ n. kept (feed_of h binding) n (has_ended heard) heard.closed) count
       ∙ ap₂ (kept (feed_of h binding) (length (feed_of h binding))) hears.0

@@ -167,4 +167,5 @@ may_fail (fault.Store why) is = absurd is
 may_fail fault.OutOfMemory is = tt
 may_fail fault.PeerGone is = absurd is
 may_fail fault.SessionsExhausted is = absurd is
+may_fail fault.StartNotAllowed is = absurd is
 may_fail fault.NotOneSystem is = absurd is

@@ -7,7 +7,7 @@ use Rattle.cdc_types.specs.declared.steps.Step.{Step}
 use Rattle.cdc_laws.specs.Faithful.{IsFaithful}
 use Rattle.cdc_world.specs.declared.steps.StepError.{StepError}
 use Rattle.cdc_world.specs.Next.{IsReached, Leads}
-use Rattle.cdc_world.specs.Worlds.{WorldState}
+use Rattle.cdc_world.specs.Worlds.{WorldState, start_of}
 use Rattle.cdc_world.proofs.Reached.{faithful-reached}
 use Rattle.cdc_script.specs.declared.scripts.ClientBatch.{ClientBatch}
 use Rattle.cdc_script.specs.declared.scripts.Script.{Script}
@@ -59,7 +59,7 @@ is_reached bindings window batches acts refusal end plays =
 -- each subscriber is faithful
 pub all_faithful : (bindings : List Arguments) (window : ℕ) (batches : List ClientBatch) (acts : List Act)
     (refusal : Option StepError) (end : Stage) → PlaysActs batches (at_start bindings window) acts refusal end
-    → All (λ s. IsFaithful end.world.history s.binding s.heard) end.world.subscriptions
+    → All (λ s. IsFaithful end.world.history (start_of end.world) s.binding s.heard) end.world.subscriptions
 all_faithful bindings window batches acts refusal end plays = λ k d inside.
     let subscriptions = end.world.subscriptions in
     faithful-reached end.world (k + 1) (get_or subscriptions k d)

@@ -12,10 +12,10 @@ use Rattle.cdc_laws.specs.Faithful.{IsFaithful}
 use Rattle.cdc_laws.specs.Line.{feed_of, line}
 use Rattle.cdc_commands.specs.Feeds.{heard_of, kept_by}
 
--- a subscriber of this binding is faithful and has heard the end: so it has applied each event that its binding takes,
--- and what it keeps is told by these alone
+-- a subscriber of this binding is faithful after the start 0, that is of all events, and has heard the end: so it has
+-- applied each event that its binding takes, and what it keeps is told by these alone
 pub record HasWholeFeed (h : History) (binding : Arguments) : Type 0 where
-  pub faithful : IsFaithful h binding (heard_of (line h) binding)
+  pub faithful : IsFaithful h 0 binding (heard_of (line h) binding)
   pub ended : has_ended (heard_of (line h) binding) ≡ true
   pub kept : kept_by (line h) binding ≡ record {
     book = book_of (feed_of h binding);

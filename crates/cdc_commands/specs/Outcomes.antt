@@ -57,6 +57,7 @@ MayFailScript (fault.Store why) = ⊥
 MayFailScript fault.OutOfMemory = Unit {0}
 MayFailScript fault.PeerGone = ⊥
 MayFailScript fault.SessionsExhausted = ⊥
+MayFailScript fault.StartNotAllowed = ⊥
 MayFailScript fault.NotOneSystem = ⊥
 
 -- this is printed by a command that ends so, and makes such an outcome of the bytes of its script, which are known or

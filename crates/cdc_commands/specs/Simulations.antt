@@ -15,7 +15,7 @@ use Rattle.cdc_world.specs.declared.steps.StepError.{StepError}
 use Rattle.cdc_world.specs.declared.steps.StepError.TheVariants.{NotEnabled}
 use Rattle.cdc_world.specs.Errors.{step_error_name}
 use Rattle.cdc_world.specs.Next.{Next, NextOver}
-use Rattle.cdc_world.specs.Worlds.{Subscription, WorldState, new_world}
+use Rattle.cdc_world.specs.Worlds.{Subscription, WorldState, new_world, start_of}
 use Rattle.cdc_script.specs.declared.scripts.ClientBatch.{ClientBatch}
 use Rattle.cdc_script.specs.declared.scripts.Script.{Script}
 use Rattle.cdc_script.specs.declared.step_files.Act.{Act}
@@ -112,9 +112,9 @@ pub record Plan : Type 0 where
   pub acts : List Act
 
 -- a simulation of this plan prints this: the lines of a world that its acts lead to, each of whose subscribers is
--- faithful
+-- faithful after the start of that world
 pub record Simulates (plan : Plan) (refusal : Option StepError) (printed : List ℕ) : Type 0 where
   pub end : Stage
   pub plays : PlaysActs plan.script.batches (at_start plan.script.bindings plan.window) plan.acts refusal end
   pub prints : printed ≡ simulation_text (length plan.acts) refusal end
-  pub faithful : All (λ s. IsFaithful end.world.history s.binding s.heard) end.world.subscriptions
+  pub faithful : All (λ s. IsFaithful end.world.history (start_of end.world) s.binding s.heard) end.world.subscriptions

@@ -30,6 +30,9 @@ pub enum ProgramFault {
     /// There is no further number for a session.
     #[error("sessions_exhausted")]
     SessionsExhausted,
+    /// A run was told where to start, and progress was saved already.
+    #[error("start_not_allowed")]
+    StartNotAllowed,
     /// The ends of a run weren't those of one system.
     #[error("not_one_system")]
     NotOneSystem,
@@ -47,6 +50,7 @@ impl ProgramFault {
             ProgramFault::OutOfMemory => "fault: out_of_memory\n",
             ProgramFault::PeerGone => "fault: peer_gone\n",
             ProgramFault::SessionsExhausted => "fault: sessions_exhausted\n",
+            ProgramFault::StartNotAllowed => "fault: start_not_allowed\n",
             ProgramFault::NotOneSystem => "fault: not_one_system\n",
         }
     }

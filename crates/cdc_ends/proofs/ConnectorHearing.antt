@@ -1,17 +1,17 @@
 -- What stays so of a connector as it receives a message.
 use Rattle.std.proofs.Common.{◌≡◌, ℕ, zero, suc, ◌+◌, ◌-◌, ◌<◌, Bool, true, false, List, [], ◌∷◌, ◌++◌, inl, inr, refl, sym, ap, ap₂, ◌∙◌, subst, length, take, arith}
-use Rattle.std.specs.Prelude.{Contains, Option, Some, None, if◌then◌else◌}
+use Rattle.std.specs.Prelude.{Contains, Option, Some, None, unwrap_or, if◌then◌else◌}
 use Rattle.std.specs.Option.{option_map}
 use Rattle.std.proofs.lemmas.List.{length-append}
 use Rattle.std.proofs.lemmas.List.Elements.{Contains-append_cases}
 use Rattle.std.proofs.lemmas.List.Sums.{fold-append}
 use Rattle.std.proofs.lemmas.Option.{none-some, same_Some}
-use Rattle.cdc_ends.specs.ConnectorEnds.{AreUnanswered, IsPollOf, IsPublishing, Publishing, SessionStands, confirms_in, connector_of, packets_in, start_of}
+use Rattle.cdc_ends.specs.ConnectorEnds.{AreUnanswered, IsAtStart, IsPollOf, IsPublishing, Origin, Publishing, SessionStands, confirms_in, connector_of, first_origin, origin_of, packets_in}
 use Rattle.cdc_ends.specs.ConnectorMoves.{wanted_by}
 use Rattle.cdc_ends.proofs.ConnectorMessages.{confirms-more}
-use Rattle.cdc_ends.proofs.ConnectorSteps.{kept_of}
+use Rattle.cdc_ends.proofs.ConnectorSteps.{kept_of, start_held}
 use Rattle.cdc_laws.proofs.WholeReads.{Contains-read, IsReply-read}
-use Rattle.cdc_laws.specs.Connectors.{ConnectorState, KeepsTo}
+use Rattle.cdc_laws.specs.Connectors.{ConnectorState, KeepsTo, held_number}
 use Rattle.cdc_laws.specs.Readings.{AreReadings, Reading}
 use Rattle.cdc_laws.proofs.Connectors.{KeepsTo-confirm, KeepsTo-save}
 use Rattle.cdc_laws.proofs.Offers.{KeepsToReadings-offer, KeepsToReadings-unused}
@@ -25,7 +25,7 @@ use Rattle.cdc_message.specs.declared.items.Item.TheVariants.{Event as OfEvent}
 use Rattle.cdc_message.specs.declared.packets.Answer.{Answer}
 use Rattle.cdc_message.specs.declared.packets.Answer.TheVariants.{Connected, Confirmed, Ignored, Broken}
 use Rattle.cdc_message.specs.declared.packets.Confirm.{Confirm}
-use Rattle.cdc_publisher.specs.Courses.{Course, after_answer, next_poll, progress_of, takes_confirm, unconfirmed, with_offer}
+use Rattle.cdc_publisher.specs.Courses.{Course, after_answer, confirmed_timestamp, next_poll, progress_of, takes_confirm, unconfirmed, with_offer}
 use Rattle.cdc_publisher.specs.Kept.{Kept}
 use Rattle.cdc_publisher.specs.Offers.{IsOffered, IsReply}
 use Rattle.cdc_publisher.specs.declared.session.Poll.{Poll as Wanted}
@@ -212,6 +212,7 @@ module _ (c : Publishing) (course : Course) (is : IsPublishing c (Some course))
           runs = record {
             number = is.runs.number;
             held = is.runs.held;
+            start = is.runs.start;
             told = λ event there.
                 elim (Contains-append_cases course.offered reply.events event there) [
                   | inl before ↦ is.runs.told event before
@@ -231,7 +232,7 @@ module _ (c : Publishing) (course : Course) (is : IsPublishing c (Some course))
 
 -- ---- a confirm
 
--- an answer leaves a session its number and what it was offered
+-- an answer leaves a session its number, its start and what it was offered
 pub number_kept : (course : Course) (session : ℕ) (answer : Answer)
     → (after_answer course session answer).number ≡ course.number
 number_kept course session (Confirmed tag) = go (takes_confirm course session tag)
@@ -243,6 +244,18 @@ number_kept course session (Confirmed tag) = go (takes_confirm course session ta
 number_kept course session Connected = refl
 number_kept course session Ignored = refl
 number_kept course session Broken = refl
+
+start_stays : (course : Course) (session : ℕ) (answer : Answer)
+    → (after_answer course session answer).start ≡ course.start
+start_stays course session (Confirmed tag) = go (takes_confirm course session tag)
+  where
+    go : (b : Bool) → (if b then record course { confirmed = course.confirmed ++ tag ∷ [] } else course).start
+        ≡ course.start
+    go true = refl
+    go false = refl
+start_stays course session Connected = refl
+start_stays course session Ignored = refl
+start_stays course session Broken = refl
 
 offered_kept : (course : Course) (session : ℕ) (answer : Answer)
     → (after_answer course session answer).offered ≡ course.offered
@@ -299,6 +312,7 @@ module _ (c : Publishing) (course : Course) (is : IsPublishing c (Some course))
         runs = record {
           number = subst (λ n. 0 < n) (sym number) is.runs.number;
           held = is.runs.held ∙ sym number;
+          start = is.runs.start ∙ sym (start_stays course confirm.session confirm.answer);
           told = λ event there. is.runs.told event
               (subst (λ (es : List Event). Contains es event)
               (offered_kept course confirm.session confirm.answer) there);
@@ -313,20 +327,30 @@ module _ (c : Publishing) (course : Course) (is : IsPublishing c (Some course))
             (is.keeps gives zero h (subst (λ rs. AreReadings rs h) came.readings are)));
       }
 
--- how far it has come is saved
+-- how far it has come is saved: the run has the same origin then
+pub origin_saved : (c : Publishing) (course : Course) → IsPublishing c (Some course)
+    → origin_of (record c { held = Some (progress_of course) }) ≡ origin_of c
+origin_saved c course is =
+    let some : 0 < held_number c.held = subst (λ n. 0 < n) (sym is.runs.held) is.runs.number in
+    let after : unwrap_or c.first (confirmed_timestamp course) ≡ unwrap_or c.first (first_origin c.start c.held).after =
+    ap (λ o. unwrap_or o (confirmed_timestamp course)) is.first.1
+    ∙ sym (ap (λ o. unwrap_or o (first_origin c.start c.held).after) is.first.1) in
+    let start : course.start ≡ (first_origin c.start c.held).start =
+    sym is.runs.start ∙ sym (start_held c.start c.held some) in
+    ap₂ (λ (a s : ℕ). record { after = a; start = s }) after start
+
 pub IsPublishing-saved : (c : Publishing) (course : Course) → IsPublishing c (Some course)
     → IsPublishing (record c { held = Some (progress_of course) }) (Some course)
 IsPublishing-saved c course is =
-    let start : start_of c.first (Some (progress_of course)) ≡ start_of c.first c.held =
-    ap (λ o. start_of o (Some (progress_of course))) is.first.1 ∙ sym (ap (λ o. start_of o c.held) is.first.1) in
     record {
       wired = is.wired;
       said = is.said;
       answers = is.answers;
       stands = is.stands;
-      runs = record { number = is.runs.number; held = refl; told = is.runs.told };
+      runs = record { number = is.runs.number; held = refl; start = refl; told = is.runs.told };
       first = is.first;
       poll = is.poll;
       keeps = λ gives zero h are.
-          KeepsTo-save h (connector_of c (Some course)) course (is.keeps gives (sym start ∙ zero) h are) refl;
+          KeepsTo-save h (connector_of c (Some course)) course
+          (is.keeps gives (subst IsAtStart (origin_saved c course is) zero) h are) refl;
     }

@@ -3,12 +3,12 @@ use Rattle.std.proofs.Common.{◌≡◌, ◌==◌, ℕ, ◌+◌, ◌≤◌, Bool
 use Rattle.std.specs.Prelude.{◌&&◌, Option, Some, None, is_some, if◌then◌else◌}
 use Rattle.std.proofs.lemmas.Bool.{and_parts, eqb-true}
 use Rattle.std.proofs.lemmas.Option.{none-some}
-use Rattle.cdc_ends.specs.ConnectorEnds.{FinishedConnectorsAreDone, HasFollowed, HasSent, IsAtRest, IsConnectorEnd, IsDone, IsOfSame, IsPublishing, IsTurnIf, IsWorkingTurn, Publishing, RisesBy, SessionStands, broken_by, confirms_in, ended_by, finish_if, first_work, packets_in, planned_up_to, polls_in, start_of}
+use Rattle.cdc_ends.specs.ConnectorEnds.{FinishedConnectorsAreDone, HasFollowed, HasSent, IsAtRest, IsConnectorEnd, IsDone, IsOfSame, IsPublishing, IsTurnIf, IsWorkingTurn, Publishing, RisesBy, SessionStands, broken_by, confirms_in, ended_by, finish_if, first_origin, first_work, packets_in, planned_up_to, polls_in, IsAtStart, origin_of}
 use Rattle.cdc_ends.specs.ConnectorMoves.{IsAdvanced, IsAnswerTaken, IsBegun, IsBegunOrReceived, IsBrokenOff, IsConfirmTaken, IsFollowed, IsHeard, IsReplyTaken, IsSending}
-use Rattle.cdc_ends.proofs.ConnectorHearing.{IsPublishing-answered, IsPublishing-offered, IsPublishing-saved, IsPublishing-unused, confirm_came, number_kept, reply_came}
-use Rattle.cdc_ends.proofs.ConnectorSteps.{GoesOn-begun, IsPublishing-begun, finished-begun}
+use Rattle.cdc_ends.proofs.ConnectorHearing.{IsPublishing-answered, IsPublishing-offered, IsPublishing-saved, IsPublishing-unused, confirm_came, number_kept, origin_saved, reply_came}
+use Rattle.cdc_ends.proofs.ConnectorSteps.{GoesOn-begun, IsPublishing-begun, finished-begun, start_held}
 use Rattle.cdc_ends.proofs.ConnectorTurns.{RisesBy-begun, RisesBy-same, RisesBy-trans, same_of, same_trans}
-use Rattle.cdc_laws.specs.Connectors.{KeepsTo, held_number}
+use Rattle.cdc_laws.specs.Connectors.{KeepsTo, held_number, held_start, held_timestamp}
 use Rattle.cdc_laws.proofs.Connectors.{KeepsTo-begin}
 use Rattle.cdc_links.specs.Links.{Incoming, Outgoing, Takes, of_sender}
 use Rattle.cdc_message.specs.declared.packets.Answer.{Answer}
@@ -42,12 +42,6 @@ rises_as n old new held is number plan published = λ gives.
 add_none : (n : ℕ) → n ≡ n + 0
 add_none n = omega arith
 
--- the timestamp that the store held as the run began, where its first session has begun
-start_known : (first : Option ℕ) (held other : Option Saved) → (moment : ℕ) × (first ≡ Some moment)
-    → start_of first other ≡ start_of first held
-start_known first held other known =
-    ap (λ o. start_of o other) known.1 ∙ sym (ap (λ o. start_of o held) known.1)
-
 module _ (old : Publishing) (course : Course) (is : IsPublishing old (Some course))
     (inbox : Incoming ToConnector (Option Past)) where
   -- ---- a reply to a poll was received and taken
@@ -73,7 +67,7 @@ module _ (old : Publishing) (course : Course) (is : IsPublishing old (Some cours
                 polls = refl;
                 packets = refl;
                 honest = refl;
-                start = λ _. refl;
+                origin = λ _. refl;
                 window = refl;
                 restarts = refl;
               });
@@ -98,7 +92,7 @@ module _ (old : Publishing) (course : Course) (is : IsPublishing old (Some cours
                 polls = refl;
                 packets = refl;
                 honest = refl;
-                start = λ _. refl;
+                origin = λ _. refl;
                 window = refl;
                 restarts = refl;
               });
@@ -148,7 +142,7 @@ module _ (old : Publishing) (course : Course) (is : IsPublishing old (Some cours
     heard_only new after publishing ends =
         subst (IsHeard old course true) (sym after)
         (heard_of counted course 0 publishing refl refl (RisesBy-same old counted refl refl refl) ends
-        (record { polls = refl; packets = refl; honest = refl; start = λ _. refl; window = refl; restarts = refl }))
+        (record { polls = refl; packets = refl; honest = refl; origin = λ _. refl; window = refl; restarts = refl }))
 
 module _ (old : Publishing) (course : Course) (is : IsPublishing old (Some course))
     (inbox : Incoming ToConnector (Option Past)) (session unanswered : ℕ)
@@ -167,6 +161,12 @@ module _ (old : Publishing) (course : Course) (is : IsPublishing old (Some cours
       (Some next)
   saved_if next s publishing true = publishing
   saved_if next s publishing false = IsPublishing-saved (record answered { session = s }) next publishing
+
+  origin_if : (next : Course) (s : Option Kept) → IsPublishing (record answered { session = s }) (Some next) → (b : Bool)
+      → origin_of (record answered { held = if b then old.held else Some (progress_of next); session = s })
+      ≡ origin_of old
+  origin_if next s publishing true = refl
+  origin_if next s publishing false = origin_saved (record answered { session = s }) next publishing
 
   number_if : (next : Course) → next.number ≡ course.number → (b : Bool)
       → held_number (if b then old.held else Some (progress_of next)) ≡ held_number old.held + 0
@@ -191,7 +191,9 @@ module _ (old : Publishing) (course : Course) (is : IsPublishing old (Some cours
         polls = refl;
         packets = refl;
         honest = refl;
-        start = λ _. start_known old.first old.held held is.first;
+        origin = λ _.
+            origin_if next new.session
+            (answered_as old course is inbox session (Confirmed tag) takes unanswered less new.session stands) moved;
         window = refl;
         restarts = refl;
       }))
@@ -214,7 +216,7 @@ module _ (old : Publishing) (course : Course) (is : IsPublishing old (Some cours
         polls = goes.polls;
         packets = goes.packets;
         honest = goes.honest;
-        start = goes.start;
+        origin = goes.origin;
         window = goes.window;
         restarts = goes.restarts;
       })
@@ -392,13 +394,18 @@ took inside now new message other same is takes =
 
 -- ---- it begins
 
+-- a store that holds nothing, or a timestamp that is its start
+at_start : (at : Option ℕ) (held : Option Saved) → IsAtStart (first_origin at held) → held_timestamp held ≡ held_start held
+at_start at None same = refl
+at_start at (Some saved) same = same
+
 -- nothing was said yet, over whatever a store holds
 pub begins : (inbox : Incoming ToConnector (Option Past)) (polls : Outgoing ToLedger (Unit {0}))
-    (packets : Outgoing ToBroker (Unit {0})) (held : Option Saved) (honest : Bool) (window : ℕ) (restarts : List ℕ)
-    → inbox.received ≡ [] → inbox.senders ≡ 2 → polls.number ≡ 0 → polls.sent ≡ [] → packets.number ≡ 0
+    (packets : Outgoing ToBroker (Unit {0})) (held : Option Saved) (honest : Bool) (start : Option ℕ) (window : ℕ)
+    (restarts : List ℕ) → inbox.received ≡ [] → inbox.senders ≡ 2 → polls.number ≡ 0 → polls.sent ≡ [] → packets.number ≡ 0
     → packets.sent ≡ [] → IsWindow window
-    → IsConnectorEnd (first_work inbox polls packets held honest window restarts)
-begins inbox polls packets held honest window restarts fresh two to_ledger asked to_broker published fits =
+    → IsConnectorEnd (first_work inbox polls packets held honest start window restarts)
+begins inbox polls packets held honest start window restarts fresh two to_ledger asked to_broker published fits =
     let no_packets : packets_in packets.sent ≡ [] =
     ap (λ (l : List (ToBroker × Unit {0})). packets_in l) published in
     let no_confirms : confirms_in (of_sender 1 inbox.received) ≡ [] =
@@ -427,7 +434,7 @@ begins inbox polls packets held honest window restarts fresh two to_ledger asked
               confirms = confirms_in (of_sender 1 inbox.received);
             })) (sym no_packets)
             (subst (λ cs. KeepsTo h (record { held = held; session = None; sent = []; confirms = cs }))
-            (sym no_confirms) (KeepsTo-begin h held zero));
+            (sym no_confirms) (KeepsTo-begin h held (at_start start held zero)));
       };
       rest = record { received = fresh; polls = asked; packets = published; working = refl };
     }
@@ -454,5 +461,6 @@ finished_done c end finished = go end.course end.publishing end.rest
               finished;
           sent = is.said.sent
               ∙ ap (λ b. map to_broker.Packet (packets_in c.packets.sent) ++ finish_if to_broker.Finish b) finished;
+          start = sym (start_held c.start c.held (subst (λ n. 0 < n) (sym is.runs.held) is.runs.number));
           keeps = is.keeps;
         }

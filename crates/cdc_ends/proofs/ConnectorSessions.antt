@@ -4,7 +4,7 @@ use Rattle.std.specs.Prelude.{unwrap_or}
 use Rattle.cdc_ends.specs.ConnectorEnds.{Publishing, SessionStands}
 use Rattle.cdc_ends.specs.ConnectorMoves.{IsBegun}
 use Rattle.cdc_progress.specs.Records.{Saved}
-use Rattle.cdc_publisher.specs.Courses.{Course, begun, new_course}
+use Rattle.cdc_publisher.specs.Courses.{Course, new_course}
 use Rattle.cdc_publisher.specs.Kept.{Kept}
 use Rattle.cdc_publisher.specs.Starts.{HasStarted}
 
@@ -12,7 +12,7 @@ use Rattle.cdc_publisher.specs.Starts.{HasStarted}
 pub begun_entry : (inside now new : Publishing) → inside ≡ now → IsBegun inside new → IsBegun now new
 begun_entry inside now new same begun = subst (λ (c : Publishing). IsBegun c new) same begun
 
--- a session has started: the number after the one that was loaded is held
+-- a session has started: the number after the one that was loaded is held, and no later session is told where to start
 pub begun_so : (old : Publishing) (kept : Kept) (held : Option Saved) (honest : Bool) (base failed failed' : ℕ)
     → HasStarted (record {
       honest = old.honest;
@@ -20,10 +20,11 @@ pub begun_so : (old : Publishing) (kept : Kept) (held : Option Saved) (honest : 
       after = held;
       failed_before = failed;
       failed_after = failed';
-    }) old.window kept
+    }) old.start old.window kept
     → honest ≡ old.honest
     → ((course : Course) → SessionStands (Some kept) (Some course) → base ≡ unwrap_or old.first course.base)
     → IsBegun old (record old {
+      start = None;
       first = Some base;
       held = held;
       honest = honest;
@@ -40,6 +41,7 @@ begun_so old kept held honest base failed failed' has same is_base =
       begins = has.begins;
       stands = has.stands;
       after = λ i. record old {
+        start = None;
         first = Some (based i);
         held = has.held i;
         honest = same i;

@@ -1,19 +1,21 @@
 -- What stays so of a connector at each step: as it starts a session, sends, asks, finishes, and receives.
 use Rattle.std.proofs.Common.{◌≡◌, ℕ, ◌+◌, ◌≤◌, Bool, true, false, List, [], ◌∷◌, ◌++◌, refl, sym, ap, ◌∙◌, subst, length, arith}
-use Rattle.std.specs.Prelude.{Option, Some, None, unwrap_or}
+use Rattle.std.specs.Prelude.{◌==◌, ◌<◌, Option, Some, None, Result, Ok, Err, unwrap_or, if◌then◌else◌}
 use Rattle.std.specs.Option.{option_map}
 use Rattle.std.proofs.lemmas.List.{length-append}
 use Rattle.std.proofs.lemmas.Option.{none-some, same_Some}
-use Rattle.cdc_ends.specs.ConnectorEnds.{AreUnanswered, HasSent, IsPollOf, IsPublishing, Publishing, SessionStands, confirms_in, connector_of, packets_in, poll_for, start_of}
+use Rattle.cdc_ends.specs.ConnectorEnds.{AreUnanswered, HasSent, IsAtStart, IsPollOf, IsPublishing, Origin, Publishing, SessionStands, confirms_in, connector_of, packets_in, first_origin, origin_of, poll_for}
 use Rattle.cdc_ends.specs.ConnectorMoves.{GoesOn, IsBegun, finished_if, publish_count, with_poll}
 use Rattle.cdc_ends.proofs.ConnectorMessages.{HasSent-finished, HasSent-packet, HasSent-poll, IsPacket-next, packets-finished, packets-more, to_broker_goes_on, to_ledger_goes_on}
-use Rattle.cdc_laws.specs.Connectors.{ConnectorState, KeepsTo}
-use Rattle.cdc_laws.proofs.Connectors.{KeepsTo-sent, KeepsTo-start, begun_parts}
+use Rattle.cdc_laws.specs.Connectors.{ConnectorState, KeepsTo, held_number, held_start}
+use Rattle.cdc_laws.proofs.Connectors.{KeepsTo-sent, KeepsTo-start}
 use Rattle.cdc_laws.proofs.Places.{none_there}
 use Rattle.cdc_links.specs.Links.{of_sender, with_sent as with_message}
 use Rattle.cdc_message.specs.declared.packets.Packet.{Packet}
 use Rattle.cdc_progress.specs.Records.{Saved}
-use Rattle.cdc_publisher.specs.Courses.{Course, begun, new_course, next_packet, next_poll, with_sent}
+use Rattle.cdc_publisher.specs.Courses.{Course, begun, first_saved, last_session, new_course, next_packet, next_poll, with_sent}
+use Rattle.cdc_publisher.specs.declared.errors.StartError.{StartError}
+use Rattle.cdc_publisher.specs.declared.errors.StartError.TheVariants.{SessionsExhausted}
 use Rattle.cdc_publisher.specs.Kept.{Kept}
 use Rattle.cdc_publisher.specs.Stands.{StandsFor}
 use Rattle.cdc_publisher.specs.declared.session.Poll.{Poll as Wanted}
@@ -36,20 +38,54 @@ kept_of (Some kept) course stands = (kept, refl, stands)
 
 -- ---- a session starts
 
--- the timestamp that the store held as the run began is the same one then
-start_kept : (first : Option ℕ) (held : Option Saved) (saved : Saved) → begun held ≡ Some saved
-    → unwrap_or first saved.timestamp ≡ start_of first held
-start_kept first held saved begins = ap (unwrap_or first) (begun_parts held saved begins).1
+-- what is answered is one and the same
+same_Ok : (x y : Saved) (answer : Result Saved StartError) → answer ≡ Ok x → answer ≡ Ok y → x ≡ y
+same_Ok x y answer is also = cc
+
+-- what is saved as a session starts: the next number, and the origin that there was, or that it was told
+pub record IsNext (at : Option ℕ) (held : Option Saved) (saved : Saved) : Type 0 where
+  pub number : saved.session ≡ held_number held + 1
+  pub origin : record { after = saved.timestamp; start = saved.start } ≡ first_origin at held
+
+pub next_saved_is : (at : Option ℕ) (held : Option Saved) (saved : Saved) → begun held at ≡ Ok saved
+    → IsNext at held saved
+next_saved_is at None saved is =
+    subst (IsNext at None) (same_Ok (first_saved at) saved (begun None at) refl is)
+    (record { number = refl; origin = refl })
+next_saved_is (Some moment) (Some held) saved is = cc
+next_saved_is None (Some held) saved is = either (held.session == last_session) is
+  where
+    next : Saved
+    next = record held { session = held.session + 1 }
+
+    either : (b : Bool) → (if b then Err SessionsExhausted else Ok next) ≡ Ok saved → IsNext None (Some held) saved
+    either true is = cc
+    either false is =
+        subst (IsNext None (Some held)) (same_Ok next saved (Ok next) refl is) (record { number = refl; origin = refl })
+
+-- so the run has the same origin then
+origin_kept : (c : Publishing) (saved : Saved) → begun c.held c.start ≡ Ok saved
+    → record { after = unwrap_or c.first saved.timestamp; start = saved.start } ≡ origin_of c
+origin_kept c saved begins =
+    ap (λ (o : Origin). record { after = unwrap_or c.first o.after; start = o.start })
+    (next_saved_is c.start c.held saved begins).origin
+
+-- once a session has begun, the start of the run is held
+pub start_held : (at : Option ℕ) (held : Option Saved) → 0 < held_number held
+    → (first_origin at held).start ≡ held_start held
+start_held at None some = absurd (omega (arith, some))
+start_held at (Some saved) some = refl
 
 -- an honest store gives what it holds
-begins_over : (old new : Publishing) (on : IsBegun old new) → old.honest ≡ true → begun old.held ≡ Some on.saved
-begins_over old new on gives = ap begun (sym (on.given gives)) ∙ on.begins
+begins_over : (old new : Publishing) (on : IsBegun old new) → old.honest ≡ true
+    → begun old.held old.start ≡ Ok on.saved
+begins_over old new on gives = ap (λ h. begun h old.start) (sym (on.given gives)) ∙ on.begins
 
 pub IsPublishing-begun : (old new : Publishing) (course : Option Course) (is : IsPublishing old course)
     (on : IsBegun old new) → IsPublishing new (Some (new_course on.saved old.window))
 IsPublishing-begun old new course is on =
     let next : Course = new_course on.saved old.window in
-    let parts = begun_parts on.loaded on.saved on.begins in
+    let number = (next_saved_is old.start on.loaded on.saved on.begins).number in
     subst (λ (c : Publishing). IsPublishing c (Some next)) (sym on.after)
     (record {
       wired = is.wired;
@@ -57,16 +93,17 @@ IsPublishing-begun old new course is on =
       answers = is.answers;
       stands = on.stands;
       runs = record {
-        number = omega (arith, parts.0);
+        number = omega (arith, number);
         held = refl;
+        start = refl;
         told = λ event there. absurd (none_there event there);
       };
       first = (unwrap_or old.first on.saved.timestamp, refl);
       poll = λ poll there. absurd (none-some poll there);
       keeps = λ gives zero h are.
-          KeepsTo-start h (connector_of old course) on.saved old.window
-          (is.keeps gives (sym (start_kept old.first old.held on.saved (begins_over old new on gives)) ∙ zero) h are)
-          (begins_over old new on gives);
+          let begins = begins_over old new on gives in
+          KeepsTo-start h (connector_of old course) old.start on.saved old.window
+          (is.keeps gives (subst IsAtStart (origin_kept old on.saved begins) zero) h are) begins;
     })
 
 pub GoesOn-begun : (old new : Publishing) → IsBegun old new → GoesOn old new
@@ -77,7 +114,7 @@ GoesOn-begun old new on =
       polls = refl;
       packets = refl;
       honest = refl;
-      start = λ gives. start_kept old.first old.held on.saved (begins_over old new on gives);
+      origin = λ gives. origin_kept old on.saved (begins_over old new on gives);
       window = refl;
       restarts = refl;
     })
@@ -183,7 +220,12 @@ module _ (c : Publishing) (course : Course) (is : IsPublishing c (Some course)) 
               (HasSent-packet c.polls.sent c.packets.sent c.published said_so_far packet);
           answers = record { exact = omega (arith, is.answers.exact, count); room = omega (arith, room) };
           stands = stands;
-          runs = record { number = is.runs.number; held = is.runs.held; told = is.runs.told };
+          runs = record {
+            number = is.runs.number;
+            held = is.runs.held;
+            start = is.runs.start;
+            told = is.runs.told;
+          };
           first = is.first;
           poll = λ poll there. poll_kept course c.asked poll packet next (is.poll poll there);
           keeps = λ gives zero h are.

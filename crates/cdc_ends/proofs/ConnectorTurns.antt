@@ -6,7 +6,7 @@ use Rattle.std.proofs.lemmas.Bool.Decides.{nat_tests}
 use Rattle.std.specs.List.{list_any}
 use Rattle.cdc_ends.specs.ConnectorEnds.{HasFollowed, IsOfSame, IsPublishing, Publishing, RisesBy, is_publish, planned_up_to, poll_for}
 use Rattle.cdc_ends.specs.ConnectorMoves.{AreSent, GoesOn, IsBegun, IsFollowed, IsPacketSent, IsSending, IsSentNext, asked_if, finished_if, publish_count, with_poll}
-use Rattle.cdc_ends.proofs.ConnectorSteps.{GoesOn-begun, IsPublishing-asked, IsPublishing-begun, IsPublishing-finished, IsPublishing-none, IsPublishing-sent, finished-begun}
+use Rattle.cdc_ends.proofs.ConnectorSteps.{GoesOn-begun, IsPublishing-asked, IsPublishing-begun, IsPublishing-finished, IsPublishing-none, IsPublishing-sent, finished-begun, next_saved_is}
 use Rattle.cdc_laws.specs.Connectors.{held_number}
 use Rattle.cdc_message.specs.declared.packets.Packet.{Packet}
 use Rattle.cdc_progress.specs.Records.{Saved}
@@ -25,7 +25,7 @@ GoesOn-same c =
       polls = refl;
       packets = refl;
       honest = refl;
-      start = λ _. refl;
+      origin = λ _. refl;
       window = refl;
       restarts = refl;
     }
@@ -36,7 +36,7 @@ GoesOn-trans a b c one two = record {
   polls = two.polls ∙ one.polls;
   packets = two.packets ∙ one.packets;
   honest = two.honest ∙ one.honest;
-  start = λ gives. two.start (one.honest ∙ gives) ∙ one.start gives;
+  origin = λ gives. two.origin (one.honest ∙ gives) ∙ one.origin gives;
   window = two.window ∙ one.window;
   restarts = two.restarts ∙ one.restarts;
 }
@@ -59,24 +59,12 @@ RisesBy-trans n m a b c same one two = λ gives.
     let then_on = two (same ∙ gives) in
     omega (arith, first, then_on)
 
--- the next number is held
-next_number : (held : Option Saved) (saved : Saved) → begun held ≡ Some saved → saved.session ≡ held_number held + 1
-next_number None saved is = ap (λ (s : Saved). s.session) (sym (same_Some _ saved is))
-next_number (Some held) saved is = either (held.session == last_session) is
-  where
-    next : Saved
-    next = record { session = held.session + 1; timestamp = held.timestamp }
-
-    either : (b : Bool) → (if b then None else Some next) ≡ Some saved → saved.session ≡ held.session + 1
-    either true is = absurd (none-some saved is)
-    either false is = ap (λ (s : Saved). s.session) (sym (same_Some next saved is))
-
--- so one session has begun
+-- the next number is held where one session has begun
 pub RisesBy-begun : (old new : Publishing) → IsBegun old new → RisesBy 1 old new
 RisesBy-begun old new on = λ gives.
     let number : held_number new.held ≡ held_number old.held + 1 =
     ap (λ (c : Publishing). held_number c.held) on.after
-    ∙ next_number on.loaded on.saved on.begins
+    ∙ (next_saved_is old.start on.loaded on.saved on.begins).number
     ∙ ap (λ o. held_number o + 1) (on.given gives) in
     let planned : planned_up_to new.restarts new.published ≡ planned_up_to old.restarts old.published =
     ap (λ (c : Publishing). planned_up_to c.restarts c.published) on.after in
@@ -119,7 +107,7 @@ module _ (old mid : Publishing) (sending : IsSending old) (room : old.unanswered
           polls = refl;
           packets = refl;
           honest = refl;
-          start = λ _. refl;
+          origin = λ _. refl;
           window = refl;
           restarts = refl;
         };
@@ -145,7 +133,7 @@ module _ (old mid : Publishing) (sending : IsSending old) (room : old.unanswered
           polls = refl;
           packets = refl;
           honest = refl;
-          start = λ _. refl;
+          origin = λ _. refl;
           window = refl;
           restarts = refl;
         };
@@ -311,7 +299,7 @@ module _ (c : Publishing) (sends : IsSending c) where
           polls = refl;
           packets = refl;
           honest = refl;
-          start = λ _. refl;
+          origin = λ _. refl;
           window = refl;
           restarts = refl;
         };
@@ -359,7 +347,7 @@ module _ (old sent asked : Publishing) (are : AreSent old sent) (is : IsAskedFor
         polls = refl;
         packets = refl;
         honest = refl;
-        start = λ _. refl;
+        origin = λ _. refl;
         window = refl;
         restarts = refl;
       }
@@ -398,7 +386,7 @@ same_of old new on =
       polls = on.polls;
       packets = on.packets;
       honest = on.honest;
-      start = on.start;
+      origin = on.origin;
       window = on.window;
       restarts = on.restarts;
     }
@@ -408,7 +396,7 @@ same_trans a b c one two = record {
   polls = two.polls ∙ one.polls;
   packets = two.packets ∙ one.packets;
   honest = two.honest ∙ one.honest;
-  start = λ gives. two.start (one.honest ∙ gives) ∙ one.start gives;
+  origin = λ gives. two.origin (one.honest ∙ gives) ∙ one.origin gives;
   window = two.window ∙ one.window;
   restarts = two.restarts ∙ one.restarts;
 }

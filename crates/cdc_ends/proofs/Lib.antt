@@ -8,6 +8,7 @@ mod Lanes
 mod Linked
 mod Places
 mod ConnectorHearing
+mod ConnectorHistories
 mod ConnectorMessages
 mod ConnectorRounds
 mod ConnectorSessions

@@ -1,6 +1,7 @@
 -- What a client's end has said to the ledger, and what it was replied.
-use Rattle.std.specs.Prelude.{◌≡◌, ℕ, ◌+◌, ◌<◌, Bool, true, false, ◌&&◌, Option, List, [], ◌∷◌, ◌++◌, is_none, length, map, if◌then◌else◌}
+use Rattle.std.specs.Prelude.{◌⊎◌, ◌≡◌, ℕ, ◌+◌, ◌<◌, Bool, true, false, ◌&&◌, Option, List, [], ◌∷◌, ◌++◌, is_none, length, map, if◌then◌else◌}
 use Rattle.cdc_ends.specs.declared.faults.RunFault.{RunFault}
+use Rattle.cdc_ends.specs.declared.faults.RunFault.TheVariants.{PeerGone, OutOfMemory}
 use Rattle.cdc_ledger.specs.Submit.{IsLegal}
 use Rattle.cdc_links.specs.Links.{Incoming, Outgoing, of_sender, with_received, with_sent}
 use Rattle.cdc_traffic.specs.Answering.{answer_to}
@@ -89,6 +90,11 @@ pub record IsReplied (old : ClientState) (batch : Batch) (reply : Reply) (new : 
 abbrev pub finished_talk : Talk → Talk
 finished_talk c =
     if c.finished then c else record c { requests = with_sent c.requests (Done c.number, tt); finished = true }
+
+-- a submission fails where a link refuses it, where the reply isn't one to it, or for want of memory; that a client is
+-- done, where its link refuses that
+abbrev pub IsTurnFault : RunFault → Type 0
+IsTurnFault fault = (fault ≡ PeerGone) ⊎ (fault ≡ OutOfMemory)
 
 -- ---- what is left in the end
 

@@ -2,12 +2,15 @@
 use Rattle.std.specs.Prelude.{◌≡◌, ◌==◌, ◌⊎◌, ℕ, zero, suc, ◌+◌, ◌<◌, ◌≤◌, ◌&&◌, Bool, is_none, is_some, true, false, Option, Some, None, List, [], ◌∷◌, ◌++◌, Contains, length, map, unwrap_or, if◌then◌else◌}
 use Rattle.std.specs.List.{filter, filter_map, list_any}
 use Rattle.std.specs.Option.{option_map}
+use Rattle.cdc_ends.specs.Faults.{IsSaveFault, IsStartFault}
 use Rattle.cdc_ends.specs.declared.faults.RunFault.{RunFault}
+use Rattle.cdc_ends.specs.declared.faults.RunFault.TheVariants.{PeerGone, OutOfMemory}
 use Rattle.cdc_ends.specs.declared.turns.Turn.{Turn}
 use Rattle.cdc_ends.specs.declared.turns.Turn.TheVariants.{More, Finished}
-use Rattle.cdc_laws.specs.Connectors.{ConnectorState, held_number, held_timestamp}
+use Rattle.cdc_laws.specs.ConnectorRuns.{IsConnectorRun}
+use Rattle.cdc_laws.specs.Connectors.{ConnectorState, held_number, held_start}
 use Rattle.cdc_laws.specs.Readings.{KeepsToReadings}
-use Rattle.cdc_links.specs.Links.{Incoming, Outgoing, Takes, of_sender}
+use Rattle.cdc_links.specs.Links.{CanSend, Incoming, Outgoing, Takes, of_sender}
 use Rattle.cdc_message.specs.declared.items.Item.TheVariants.{Event as OfEvent}
 use Rattle.cdc_message.specs.declared.packets.Answer.{Answer}
 use Rattle.cdc_message.specs.declared.packets.Answer.TheVariants.{Connected, Confirmed, Ignored, Broken}
@@ -19,8 +22,9 @@ use Rattle.cdc_publisher.specs.Courses.{Course, is_done, next_packet, next_poll}
 use Rattle.cdc_publisher.specs.Kept.{Kept}
 use Rattle.cdc_publisher.specs.Polls.{IsWanted}
 use Rattle.cdc_publisher.specs.Stands.{StandsFor}
-use Rattle.cdc_traffic.specs.Following.{FollowsToConnector, IsTold}
+use Rattle.cdc_traffic.specs.Following.{FollowsToConnector, IsTold, last_named}
 use Rattle.cdc_traffic.specs.Laws.{readings_of}
+use Rattle.cdc_traffic.specs.Pasts.{history_of}
 use Rattle.cdc_traffic.specs.declared.messages.ToBroker.{ToBroker}
 use Rattle.cdc_traffic.specs.declared.messages.ToBroker.TheVariants as to_broker
 use Rattle.cdc_traffic.specs.declared.messages.ToConnector.{ToConnector}
@@ -32,8 +36,9 @@ use Rattle.cdc_traffic.specs.declared.polls.Poll.{Poll}
 use Rattle.cdc_types.specs.Windows.{IsWindow}
 use Rattle.cdc_types.specs.declared.events.Event.{Event}
 
--- what a connector works with: its inbox; its ends of the links to the ledger and to the broker; the timestamp that its
--- first session began after, once one has; what its store holds, and whether it is honest; what its session keeps, if
+-- what a connector works with: its inbox; its ends of the links to the ledger and to the broker; the moment that its first
+-- session is told to start after, if it is, until that has begun; the timestamp that its first session began after, once
+-- one has; what its store holds, and whether it is honest; what its session keeps, if
 -- one runs; how many polls that one has sent, and the one that is open; how many packets are without an answer, and for
 -- how many events a session waits; after which publish packets it restarts, and how many it has sent; and whether it
 -- has finished
@@ -41,6 +46,7 @@ pub record Publishing : Type 0 where
   pub inbox : Incoming ToConnector (Option Past)
   pub polls : Outgoing ToLedger (Unit {0})
   pub packets : Outgoing ToBroker (Unit {0})
+  pub start : Option ℕ
   pub first : Option ℕ
   pub held : Option Saved
   pub honest : Bool
@@ -129,9 +135,27 @@ IsUnasked asked (to_connector.Confirm confirm) = ⊥
 
 -- ---- its session
 
--- the timestamp that the store held as the run began, where this is held now: it is the base of the run's first session
-abbrev pub start_of : Option ℕ → Option Saved → ℕ
-start_of first held = unwrap_or first (held_timestamp held)
+-- where a run begins: the moment that its first session begins after, and the start, before which nothing is told
+pub record Origin : Type 0 where
+  pub after : ℕ
+  pub start : ℕ
+
+-- so it is as the first session starts, where this is held, and it is told to start after this moment, or not
+abbrev pub first_origin : Option ℕ → Option Saved → Origin
+first_origin at None = record { after = unwrap_or at 0; start = unwrap_or at 0 }
+first_origin at (Some saved) = record { after = saved.timestamp; start = saved.start }
+
+-- and of a connector at any moment: what is held later has the same start
+abbrev pub origin_of : Publishing → Origin
+origin_of c = record {
+  after = unwrap_or c.first (first_origin c.start c.held).after;
+  start = (first_origin c.start c.held).start;
+}
+
+-- the first session begins right after the start, as it does where the store holds nothing, or a timestamp that is its
+-- start
+abbrev pub IsAtStart : Origin → Type 0
+IsAtStart origin = origin.after ≡ origin.start
 
 -- the base of the first session is known once a session runs, and not before
 abbrev pub IsFirstIn : Option ℕ → Option Course → Type 0
@@ -145,11 +169,12 @@ SessionStands None (Some course) = ⊥
 SessionStands (Some kept) None = ⊥
 SessionStands (Some kept) (Some course) = StandsFor kept course
 
--- a session has a number from 1 up, which is the one that is held, and each event that it was offered is one of a
--- history that batches and a close make
+-- a session has a number from 1 up, which is the one that is held, and the start that is held, and each event that it was
+-- offered is one of a history that batches and a close make
 pub record IsRunning (saved : Option Saved) (course : Course) : Type 0 where
   pub number : 0 < course.number
   pub held : held_number saved ≡ course.number
+  pub start : held_start saved ≡ course.start
   pub told : (event : Event) → Contains course.offered event → IsTold (OfEvent event)
 
 -- the same of a session that runs, if one does
@@ -207,7 +232,7 @@ connector_of c course = record {
   confirms = confirms_in (of_sender 1 c.inbox.received);
 }
 
--- at each moment: where its store is honest, and held the timestamp 0 as the run began, it keeps to every history of
+-- at each moment: where its store is honest, and the run began at its start, it keeps to every history of
 -- which the replies to polls that it has received are readings; and an open poll is the latest of its session, for what
 -- that wants
 pub record IsPublishing (c : Publishing) (course : Option Course) : Type 0 where
@@ -219,7 +244,7 @@ pub record IsPublishing (c : Publishing) (course : Option Course) : Type 0 where
   pub runs : IsRunningIn c.held course
   pub first : IsFirstIn c.first course
   pub poll : (poll : Poll) → c.poll ≡ Some poll → IsPollIn course c.asked poll
-  pub keeps : c.honest ≡ true → start_of c.first c.held ≡ 0
+  pub keeps : c.honest ≡ true → IsAtStart (origin_of c)
       → KeepsToReadings (readings_of (of_sender 0 c.inbox.received)) (connector_of c course)
 
 -- between two turns nothing is left to send. Before the first one nothing was sent or received. After it a session
@@ -248,13 +273,13 @@ pub record IsConnectorEnd (c : Publishing) : Type 0 where
 
 -- ---- a turn
 
--- whichever turn it is, these stay: which links its ends are of, whether its store is honest, and of an honest one the
--- timestamp that it held as the run began, its window and its plan of restarts
+-- whichever turn it is, these stay: which links its ends are of, whether its store is honest, and of an honest one where
+-- the run began, its window and its plan of restarts
 pub record IsOfSame (old new : Publishing) : Type 0 where
   pub polls : new.polls.link ≡ old.polls.link
   pub packets : new.packets.link ≡ old.packets.link
   pub honest : new.honest ≡ old.honest
-  pub start : old.honest ≡ true → start_of new.first new.held ≡ start_of old.first old.held
+  pub origin : old.honest ≡ true → origin_of new ≡ origin_of old
   pub window : new.window ≡ old.window
   pub restarts : new.restarts ≡ old.restarts
 
@@ -289,6 +314,12 @@ IsTurn old new = IsTurnIf old.finished old new
 abbrev pub turn_if : Bool → Turn
 turn_if finished = if finished then Finished else More
 
+-- a turn fails where a link refuses it, or hands out what wasn't asked for; for want of memory; where a session doesn't
+-- start; or where it isn't saved
+abbrev pub IsTurnFault : RunFault → Type 0
+IsTurnFault fault =
+    (fault ≡ PeerGone) ⊎ ((fault ≡ OutOfMemory) ⊎ (IsStartFault fault ⊎ IsSaveFault fault))
+
 -- ---- its end
 
 -- its end has finished, and has met no fault
@@ -305,8 +336,8 @@ pub record ArePartsOf (c : Publishing) (inbox : Incoming ToConnector (Option Pas
   pub holds : saved ≡ c.held
 
 -- a connector that has finished: its last session is done, each of its packets has its confirm, and behind its polls
--- and its packets stand its last messages; and it keeps to every history of which the replies that it has received are
--- readings, where its store is honest and held the timestamp 0 as the run began
+-- and its packets stand its last messages; the start of the run is held; and it keeps to every history of which the replies
+-- that it has received are readings, where its store is honest and the run began at its start
 pub record IsDone (c : Publishing) : Type 0 where
   pub course : Course
   pub done : is_done course ≡ true
@@ -315,7 +346,8 @@ pub record IsDone (c : Publishing) : Type 0 where
       ≡ map to_ledger.Poll (polls_in c.polls.sent) ++ to_ledger.Finish ∷ []
   pub sent : map (λ m. m.0) c.packets.sent
       ≡ map to_broker.Packet (packets_in c.packets.sent) ++ to_broker.Finish ∷ []
-  pub keeps : c.honest ≡ true → start_of c.first c.held ≡ 0
+  pub start : held_start c.held ≡ (origin_of c).start
+  pub keeps : c.honest ≡ true → IsAtStart (origin_of c)
       → KeepsToReadings (readings_of (of_sender 0 c.inbox.received)) (connector_of c (Some course))
 
 abbrev pub FinishedConnectorsAreDone : Type 0
@@ -323,13 +355,14 @@ FinishedConnectorsAreDone = (c : Publishing) → IsConnectorEnd c → c.finished
 
 -- ---- its first state
 
--- nothing was said yet, over a store that holds this
+-- nothing was said yet, over a store that holds this; the first session is to start after this moment, if there is one
 abbrev pub first_work : Incoming ToConnector (Option Past) → Outgoing ToLedger (Unit {0})
-    → Outgoing ToBroker (Unit {0}) → Option Saved → Bool → ℕ → List ℕ → Publishing
-first_work inbox polls packets held honest window restarts = record {
+    → Outgoing ToBroker (Unit {0}) → Option Saved → Bool → Option ℕ → ℕ → List ℕ → Publishing
+first_work inbox polls packets held honest start window restarts = record {
   inbox = inbox;
   polls = polls;
   packets = packets;
+  start = start;
   first = None;
   held = held;
   honest = honest;
@@ -342,3 +375,12 @@ first_work inbox polls packets held honest window restarts = record {
   published = 0;
   finished = false;
 }
+
+-- over an honest store, where the run began at its start, a connector's packets and confirms so far are a connector run
+-- after the start that is held, on the history that the ledger's last reply names, or on the empty one before the first; the
+-- replies are what the ledger may send
+abbrev pub PacketsMakeRuns : Type 0
+PacketsMakeRuns = (c : Publishing) → IsConnectorEnd c → CanSend FollowsToConnector 0 (of_sender 0 c.inbox.received)
+    → c.honest ≡ true → IsAtStart (origin_of c)
+    → IsConnectorRun (history_of (last_named (of_sender 0 c.inbox.received))) (held_start c.held) (packets_in c.packets.sent)
+    (confirms_in (of_sender 1 c.inbox.received))

@@ -1,6 +1,6 @@
 -- What the parts of a connector's turn do. Private contracts and proofs alone cite this file.
-use Rattle.std.specs.Prelude.{◌≡◌, ◌==◌, ◌⊎◌, ℕ, ◌+◌, Bool, true, false, Option, Some, None, cond, unwrap_or, if◌then◌else◌}
-use Rattle.cdc_ends.specs.ConnectorEnds.{HasFollowed, IsFirstTurn, IsOfSame, IsPublishing, IsUnasked, Publishing, RisesBy, SessionStands, ended_by, is_publish, poll_for, start_of}
+use Rattle.std.specs.Prelude.{◌≡◌, ◌==◌, ◌⊎◌, ℕ, ◌+◌, Bool, true, false, Option, Some, None, Ok, cond, unwrap_or, if◌then◌else◌}
+use Rattle.cdc_ends.specs.ConnectorEnds.{HasFollowed, IsFirstTurn, IsOfSame, IsPublishing, IsUnasked, Publishing, RisesBy, SessionStands, ended_by, is_publish, origin_of, poll_for}
 use Rattle.cdc_laws.specs.Connectors.{held_number}
 use Rattle.cdc_links.specs.Links.{Takes, with_sent as with_message}
 use Rattle.cdc_message.specs.declared.packets.Answer.{Answer}
@@ -31,18 +31,20 @@ pub record GoesOn (old new : Publishing) : Type 0 where
   pub polls : new.polls.link ≡ old.polls.link
   pub packets : new.packets.link ≡ old.packets.link
   pub honest : new.honest ≡ old.honest
-  pub start : old.honest ≡ true → start_of new.first new.held ≡ start_of old.first old.held
+  pub origin : old.honest ≡ true → origin_of new ≡ origin_of old
   pub window : new.window ≡ old.window
   pub restarts : new.restarts ≡ old.restarts
 
--- the next session has started after what the store gave, under a number that is held now
+-- the next session has started after what the store gave, or where that was nothing after the moment that it was told,
+-- under a number that is held now; no later one is told a moment
 pub record IsBegun (old new : Publishing) : Type 0 where
   pub loaded : Option Saved
   pub saved : Saved
   pub given : old.honest ≡ true → loaded ≡ old.held
-  pub begins : begun loaded ≡ Some saved
+  pub begins : begun loaded old.start ≡ Ok saved
   pub stands : SessionStands new.session (Some (new_course saved old.window))
   pub after : new ≡ record old {
+    start = None;
     first = Some (unwrap_or old.first saved.timestamp);
     held = Some saved;
     session = new.session;

@@ -39,9 +39,10 @@ impl Drop for BrokerEnd {
 }
 
 impl Model for BrokerEnd {
-    ghost use Rattle.std.specs.Prelude.{◌≡◌, None};
+    ghost use Rattle.std.specs.Prelude.{◌≡◌, IfSome, None};
     ghost use Rattle.cdc_ends.specs.BrokerDesks.{desk_of};
     ghost use Rattle.cdc_ends.specs.BrokerEnds.{BrokerEndState, IsBrokerEnd};
+    ghost use Rattle.cdc_ends.specs.BrokerTurns.{IsTurnFault};
 
     ghost Value = { BrokerEndState };
 
@@ -51,7 +52,8 @@ impl Model for BrokerEnd {
       fault = end.fault;
     } };
 
-    ghost invariant = { λ end. end.fault ≡ None → IsBrokerEnd (desk_of end.desk) };
+    ghost invariant = { λ end.
+        (end.fault ≡ None → IsBrokerEnd (desk_of end.desk)) × IfSome end.fault IsTurnFault };
 }
 
 impl BrokerEnd {
@@ -107,7 +109,7 @@ impl BrokerEnd {
         ensures links { IfOk result (λ _. HasSameLinks self.old.desk self.new.desk) }
         ensures rest { IfOk result (λ _. self.new ≡ record self.old { desk = self.new.desk }) }
         ensures fault { IfErr result (λ fault. self.new.fault ≡ Some fault) }
-        ensures kind { self.old.fault ≡ None → IfErr result IsTurnFault }
+        ensures kind { IfErr result IsTurnFault }
         ensures again { (fault : RunFault) → self.old.fault ≡ Some fault
             → (result ≡ Err fault) × (self.new ≡ self.old) }
     {

@@ -1,7 +1,7 @@
 //! A client's end: it sends requests, one at a time, and keeps a copy of each reply.
 
 ghost use Rattle.std.specs.Prelude.{◌≡◌, ◌<◌, Err, IfErr, IfOk, IfSome, None, Some, [], false, is_some};
-ghost use Rattle.cdc_ends.specs.Clients.{ArePartsOf, IsClient, IsReplied, finished_talk, first_words, has_finished};
+ghost use Rattle.cdc_ends.specs.Clients.{ArePartsOf, IsClient, IsReplied, IsTurnFault, finished_talk, first_words, has_finished};
 
 use crate::conversations::{ClientParts, Conversation};
 use crate::faults::RunFault;
@@ -33,14 +33,15 @@ impl Drop for ClientEnd {
 }
 
 impl Model for ClientEnd {
-    ghost use Rattle.std.specs.Prelude.{◌≡◌, None};
-    ghost use Rattle.cdc_ends.specs.Clients.{ClientState, IsClient};
+    ghost use Rattle.std.specs.Prelude.{◌≡◌, IfSome, None};
+    ghost use Rattle.cdc_ends.specs.Clients.{ClientState, IsClient, IsTurnFault};
 
     ghost Value = { ClientState };
 
     ghost view = { λ end. record { system = end.system; talk = end.talk; fault = end.fault } };
 
-    ghost invariant = { λ end. end.fault ≡ None → IsClient end.talk };
+    ghost invariant = { λ end.
+        (end.fault ≡ None → IsClient end.talk) × IfSome end.fault IsTurnFault };
 }
 
 impl ClientEnd {
@@ -70,8 +71,9 @@ impl ClientEnd {
         }
     }
 
-    /// Sends a batch, and waits for the reply to it, of which a copy is kept. The first fault stays: it is answered
-    /// from then on.
+    /// Sends a batch, and waits for the reply to it, of which a copy is kept. `PeerGone`: a link refused to send or to
+    /// receive, or the reply wasn't one to this batch. `OutOfMemory`: there was no memory for a copy. The first fault
+    /// stays: it is answered from then on.
     pub fn submit<R: Wait>(
         &mut self,
         rt: &R,
@@ -82,6 +84,7 @@ impl ClientEnd {
         ensures reply { IfOk result (λ reply. IsReplied self.old batch reply self.new) }
         ensures talks { self.new.talk.finished ≡ self.old.talk.finished }
         ensures fault { IfErr result (λ fault. self.new.fault ≡ Some fault) }
+        ensures kind { IfErr result IsTurnFault }
         ensures again { (fault : RunFault) → self.old.fault ≡ Some fault
             → (result ≡ Err fault) × (self.new ≡ self.old) }
     {
@@ -104,6 +107,7 @@ impl ClientEnd {
         ensures done { IfOk result (λ _.
             self.new ≡ record self.old { talk = finished_talk self.old.talk }) }
         ensures fault { IfErr result (λ fault. self.new.fault ≡ Some fault) }
+        ensures kind { IfErr result IsTurnFault }
         ensures again { (fault : RunFault) → self.old.fault ≡ Some fault
             → (result ≡ Err fault) × (self.new ≡ self.old) }
     {

@@ -1,15 +1,17 @@
 //! A connector's end: it asks the ledger for events, and publishes them to the broker, session after session.
 
 ghost use Rattle.std.specs.Prelude.{◌≡◌, Err, IfErr, IfOk, IfSome, None, Some, [], is_some, true};
-ghost use Rattle.cdc_ends.specs.ConnectorEnds.{ArePartsOf, FinishedConnectorsAreDone, IsConnectorEnd, IsTurn, first_work, has_finished, turn_if};
+ghost use Rattle.cdc_ends.specs.ConnectorEnds.{ArePartsOf, FinishedConnectorsAreDone, IsConnectorEnd, IsTurn, IsTurnFault, PacketsMakeRuns, first_work, has_finished, turn_if};
 ghost use Rattle.cdc_types.specs.Windows.{IsWindow};
 
 use crate::faults::RunFault;
 use crate::publishing::{ConnectorParts, Publishing};
 use crate::turns::Turn;
+use cdc_laws::connector_laws;
 use cdc_links::{LinkIn, LinkOut};
 use cdc_progress::ProgressStore;
-use cdc_traffic::{ToBroker, ToConnector, ToLedger};
+use cdc_traffic::{ToBroker, ToConnector, ToLedger, traffic_laws};
+use cdc_types::Moment;
 use std::alloc::Global;
 use std::marker::Model;
 use std::sync::Wait;
@@ -35,19 +37,20 @@ impl<S: ProgressStore + Drop> Drop for ConnectorEnd<S> {
 }
 
 impl<S: ProgressStore> Model for ConnectorEnd<S> {
-    ghost use Rattle.std.specs.Prelude.{◌≡◌, None};
-    ghost use Rattle.cdc_ends.specs.ConnectorEnds.{ConnectorEndState, IsConnectorEnd};
+    ghost use Rattle.std.specs.Prelude.{◌≡◌, IfSome, None};
+    ghost use Rattle.cdc_ends.specs.ConnectorEnds.{ConnectorEndState, IsConnectorEnd, IsTurnFault};
 
     ghost Value = { ConnectorEndState };
 
     ghost view = { λ end. record { system = end.system; work = end.work; fault = end.fault } };
 
-    ghost invariant = { λ end. end.fault ≡ None → IsConnectorEnd end.work };
+    ghost invariant = { λ end.
+        (end.fault ≡ None → IsConnectorEnd end.work) × IfSome end.fault IsTurnFault };
 }
 
 impl<S: ProgressStore> ConnectorEnd<S> {
-    /// The end of a connector that has said nothing yet, over its store. A session waits for `window` events at a
-    /// time. The connector restarts after its publish packets of the numbers in `restart_after`, which are counted from
+    /// The end of a connector that has said nothing yet, over its store. Its first session is told to start after the
+    /// moment `start`, if there is one; no later session is told so. A session waits for `window` events at a time. The connector restarts after its publish packets of the numbers in `restart_after`, which are counted from
     /// 1 over the whole run: it drops its session and starts the next.
     pub fn new(
         system: u64,
@@ -55,6 +58,7 @@ impl<S: ProgressStore> ConnectorEnd<S> {
         polls: LinkOut<ToLedger>,
         packets: LinkOut<ToBroker>,
         store: S,
+        start: Option<Moment>,
         window: usize,
         restart_after: Vec<u64>,
     ) -> ConnectorEnd<S>
@@ -67,26 +71,31 @@ impl<S: ProgressStore> ConnectorEnd<S> {
         requires window { IsWindow window }
         ensures { result ≡ record {
           system = system;
-          work = first_work inbox polls packets (S.held store) (S.is_honest store) window
+          work = first_work inbox polls packets (S.held store) (S.is_honest store) start window
               restart_after.items;
           fault = None;
         } }
     {
         ConnectorEnd {
             system,
-            work: Publishing::new(inbox, polls, packets, store, window, restart_after),
+            work: Publishing::new(inbox, polls, packets, store, start, window, restart_after),
             fault: None,
         }
     }
 
     /// One turn: the first starts a session, each later one receives a message, and all that follows is sent. Once the
-    /// connector has finished, a turn changes nothing. The first fault stays: it is answered from then on.
+    /// connector has finished, a turn changes nothing. `PeerGone`: a link refused to send or to receive, or a confirm came
+    /// that answers no packet. `OutOfMemory`: there was no memory for a session or for a packet, or in the store. `Store`:
+    /// the store refused to load, or to save. `SessionsExhausted`: there is no further number for a session.
+    /// `StartNotAllowed`: the first session was told where to start, and progress is saved. The first fault stays: it is
+    /// answered from then on.
     pub fn turn<R: Wait>(&mut self, rt: &R, alloc: Global) -> Result<Turn, RunFault>
         ensures turns { IfOk result (λ _. IsTurn self.old.work self.new.work) }
         ensures kept { IfOk result (λ _. IsConnectorEnd self.new.work) }
         ensures answer { IfOk result (λ turn. turn ≡ turn_if self.new.work.finished) }
         ensures rest { IfOk result (λ _. self.new ≡ record self.old { work = self.new.work }) }
         ensures fault { IfErr result (λ fault. self.new.fault ≡ Some fault) }
+        ensures kind { IfErr result IsTurnFault }
         ensures again { (fault : RunFault) → self.old.fault ≡ Some fault
             → (result ≡ Err fault) × (self.new ≡ self.old) }
     {
@@ -143,8 +152,13 @@ impl<S: ProgressStore + Drop> ConnectorEnd<S> {
     }
 }
 
-/// Does nothing: the clause holds of whatever a connector's end keeps. Once it has finished, its last session is done,
-/// and each of its packets has its confirm.
+/// Does nothing: each clause holds of whatever a connector's end keeps. Once it has finished, its last session is done,
+/// and each of its packets has its confirm. At each moment its packets and confirms so far are sessions one after
+/// another, over what the ledger had to tell when it replied last.
 pub fn connector_end_laws()
     ensures finished { FinishedConnectorsAreDone }
-{}
+    ensures runs { PacketsMakeRuns }
+{
+    traffic_laws();
+    connector_laws();
+}

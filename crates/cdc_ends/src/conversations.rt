@@ -1,7 +1,7 @@
 //! A client's conversation with the ledger.
 
-ghost use Rattle.std.specs.Prelude.{◌≡◌, ◌↔◌, IfOk, IsTrue, false};
-ghost use Rattle.cdc_ends.specs.Clients.{ArePartsOf, IsAnswered, IsClient, IsHeard, finished_talk, first_words};
+ghost use Rattle.std.specs.Prelude.{◌≡◌, ◌↔◌, IfErr, IfOk, IsTrue, false};
+ghost use Rattle.cdc_ends.specs.Clients.{ArePartsOf, IsAnswered, IsClient, IsHeard, IsTurnFault, finished_talk, first_words};
 ghost use Rattle.cdc_links.specs.Links.{with_sent};
 ghost use Rattle.cdc_traffic.specs.Following.{FollowsToLedger};
 
@@ -71,7 +71,8 @@ impl Naming<()> for Nothing {
 // Sends the ledger a message.
 fn say<R: Wait>(requests: &mut LinkOut<ToLedger>, rt: &R, message: ToLedger) -> Result<(), RunFault>
     requires { FollowsToLedger requests.old.number requests.old.sent (message, tt) }
-    ensures { IfOk result (λ _. requests.new ≡ with_sent requests.old (message, tt)) }
+    ensures sent { IfOk result (λ _. requests.new ≡ with_sent requests.old (message, tt)) }
+    ensures kind { IfErr result IsTurnFault }
 {
     match requests.send::<Nothing, R>(rt, message) {
         Ok(()) => Ok(()),
@@ -81,7 +82,8 @@ fn say<R: Wait>(requests: &mut LinkOut<ToLedger>, rt: &R, message: ToLedger) -> 
 
 // Receives the ledger's next reply.
 fn hear<R: Wait>(answers: &mut LinkIn<Reply>, rt: &R) -> Result<Reply, RunFault>
-    ensures { IfOk result (λ reply. IsHeard answers.old reply answers.new) }
+    ensures heard { IfOk result (λ reply. IsHeard answers.old reply answers.new) }
+    ensures kind { IfErr result IsTurnFault }
 {
     match answers.receive(rt) {
         Ok(reply) => Ok(reply),
@@ -126,6 +128,7 @@ impl Conversation {
         requires talks { self.old.finished ≡ false }
         ensures answered { IfOk result (λ reply. IsAnswered self.old batch reply self.new) }
         ensures talks { self.new.finished ≡ self.old.finished }
+        ensures kind { IfErr result IsTurnFault }
     {
         let copy = batch.try_copy(alloc)?;
         self.replies.reserve(1)?;
@@ -149,7 +152,8 @@ impl Conversation {
     /// Says that the client is done, where it hasn't yet.
     pub(crate) fn end<R: Wait>(&mut self, rt: &R) -> Result<(), RunFault>
         requires { IsClient self.old }
-        ensures { IfOk result (λ _. self.new ≡ finished_talk self.old) }
+        ensures ended { IfOk result (λ _. self.new ≡ finished_talk self.old) }
+        ensures kind { IfErr result IsTurnFault }
     {
         if self.finished {
             return Ok(());

@@ -26,6 +26,9 @@ pub enum RunFault {
     /// The ends aren't those of one system, or one of them isn't finished.
     #[error("not_one_system")]
     NotOneSystem,
+    /// The first session was told where to start, and progress was saved already.
+    #[error("start_not_allowed")]
+    StartNotAllowed,
 }
 
 impl RunFault {
@@ -39,6 +42,7 @@ impl RunFault {
             RunFault::Store(_) => 3,
             RunFault::SessionsExhausted => 4,
             RunFault::NotOneSystem => 5,
+            RunFault::StartNotAllowed => 6,
         }
     }
 
@@ -52,6 +56,7 @@ impl RunFault {
             RunFault::Store(_) => "store",
             RunFault::SessionsExhausted => "sessions_exhausted",
             RunFault::NotOneSystem => "not_one_system",
+            RunFault::StartNotAllowed => "start_not_allowed",
         }
     }
 }
@@ -92,6 +97,7 @@ impl From<StartError> for RunFault {
             StartError::Store(why) => RunFault::Store(why),
             StartError::SessionsExhausted => RunFault::SessionsExhausted,
             StartError::OutOfMemory => RunFault::OutOfMemory,
+            StartError::StartNotAllowed => RunFault::StartNotAllowed,
         }
     }
 }

@@ -33,14 +33,15 @@ impl Drop for LedgerEnd {
 }
 
 impl Model for LedgerEnd {
-    ghost use Rattle.std.specs.Prelude.{◌≡◌, None};
-    ghost use Rattle.cdc_ends.specs.LedgerEnds.{IsDesk, LedgerEndState};
+    ghost use Rattle.std.specs.Prelude.{◌≡◌, IfSome, None};
+    ghost use Rattle.cdc_ends.specs.LedgerEnds.{IsDesk, IsTurnFault, LedgerEndState};
 
     ghost Value = { LedgerEndState };
 
     ghost view = { λ end. record { system = end.system; desk = end.desk; fault = end.fault } };
 
-    ghost invariant = { λ end. end.fault ≡ None → IsDesk end.desk };
+    ghost invariant = { λ end.
+        (end.fault ≡ None → IsDesk end.desk) × IfSome end.fault IsTurnFault };
 }
 
 impl LedgerEnd {
@@ -83,7 +84,7 @@ impl LedgerEnd {
         ensures turned { IfOk result (λ turn. HasTurned self.old turn self.new) }
         ensures kept { IfOk result (λ _. IsDesk self.new.desk) }
         ensures fault { IfErr result (λ fault. self.new.fault ≡ Some fault) }
-        ensures kind { self.old.fault ≡ None → IfErr result IsTurnFault }
+        ensures kind { IfErr result IsTurnFault }
         ensures again { (fault : RunFault) → self.old.fault ≡ Some fault
             → (result ≡ Err fault) × (self.new ≡ self.old) }
     {

@@ -1,9 +1,10 @@
 //! What a connector works with: its session and its store, what it asks the ledger for, and what it publishes.
 
-ghost use Rattle.std.specs.Prelude.{◌≡◌, ◌≤◌, ◌==◌, ◌&&◌, ◌↔◌, ◌+◌, IfOk, IfSome, IsTrue, Some, None, [], false, true, not, unwrap_or};
+ghost use Rattle.std.specs.Prelude.{◌≡◌, ◌≤◌, ◌==◌, ◌&&◌, ◌↔◌, ◌+◌, IfErr, IfOk, IfSome, IsTrue, Some, None, [], false, true, not, unwrap_or};
 ghost use Rattle.std.specs.List.{list_any};
-ghost use Rattle.cdc_ends.specs.ConnectorEnds.{ArePartsOf, IsConnectorEnd, IsPublishing, IsTurn, SessionStands, first_work, turn_if};
+ghost use Rattle.cdc_ends.specs.ConnectorEnds.{ArePartsOf, IsConnectorEnd, IsPublishing, IsTurn, IsTurnFault, SessionStands, first_work, turn_if};
 ghost use Rattle.cdc_ends.specs.ConnectorMoves.{AreSent, IsAdvanced, IsAnswerTaken, IsBegun, IsConfirmTaken, IsFollowed, IsHeard, IsPacketSent, IsReplyTaken, IsSending, IsSentNext, asked_if, finished_if, publish_count, wanted_by};
+ghost use Rattle.cdc_ends.specs.Faults.{IsSaveFault, IsStartFault};
 ghost use Rattle.cdc_links.specs.Links.{Takes, with_sent};
 ghost use Rattle.cdc_message.specs.declared.packets.Answer.TheVariants.{Confirmed, Broken};
 ghost use Rattle.cdc_publisher.specs.Courses.{Course, is_done, next_packet};
@@ -18,11 +19,12 @@ use cdc_message::{Answer, Confirm, Packet};
 use cdc_progress::ProgressStore;
 use cdc_publisher::Session;
 use cdc_traffic::{Poll, PollReply, ToBroker, ToConnector, ToLedger};
+use cdc_types::Moment;
 use std::alloc::Global;
 use std::marker::Model;
 use std::sync::Wait;
 
-/// A connector's ends of its links, its store, its session, if one runs, with how many polls that has sent and the one
+/// A connector's ends of its links, its store, the moment that its first session is told to start after, its session, if one runs, with how many polls that has sent and the one
 /// that is open; how many packets are without an answer; after which publish packets it restarts, and how many it has
 /// sent; and whether it has finished.
 pub(crate) struct Publishing<S: ProgressStore> {
@@ -30,6 +32,7 @@ pub(crate) struct Publishing<S: ProgressStore> {
     polls: LinkOut<ToLedger>,
     packets: LinkOut<ToBroker>,
     store: S,
+    start: Option<Moment>,
     first: Option<u64>,
     session: Option<Session>,
     asked: u64,
@@ -49,6 +52,7 @@ impl<S: ProgressStore + Drop> Drop for Publishing<S> {
             polls: _,
             packets: _,
             store: _,
+            start: _,
             first: _,
             session: _,
             asked: _,
@@ -71,6 +75,7 @@ impl<S: ProgressStore> Model for Publishing<S> {
       inbox = c.inbox;
       polls = c.polls;
       packets = c.packets;
+      start = c.start;
       first = c.first;
       held = S.held c.store;
       honest = S.is_honest c.store;
@@ -108,7 +113,8 @@ impl Naming<()> for Nothing {
 // Sends the ledger a message.
 fn say<R: Wait>(polls: &mut LinkOut<ToLedger>, rt: &R, message: ToLedger) -> Result<(), RunFault>
     requires { FollowsToLedger polls.old.number polls.old.sent (message, tt) }
-    ensures { IfOk result (λ _. polls.new ≡ with_sent polls.old (message, tt)) }
+    ensures sent { IfOk result (λ _. polls.new ≡ with_sent polls.old (message, tt)) }
+    ensures kind { IfErr result IsTurnFault }
 {
     match polls.send::<Nothing, R>(rt, message) {
         Ok(()) => Ok(()),
@@ -123,7 +129,8 @@ fn publish<R: Wait>(
     message: ToBroker,
 ) -> Result<(), RunFault>
     requires { FollowsToBroker packets.old.number packets.old.sent (message, tt) }
-    ensures { IfOk result (λ _. packets.new ≡ with_sent packets.old (message, tt)) }
+    ensures sent { IfOk result (λ _. packets.new ≡ with_sent packets.old (message, tt)) }
+    ensures kind { IfErr result IsTurnFault }
 {
     match packets.send::<Nothing, R>(rt, message) {
         Ok(()) => Ok(()),
@@ -133,7 +140,8 @@ fn publish<R: Wait>(
 
 // Receives the next message, of the ledger or of the broker.
 fn receive<R: Wait>(inbox: &mut LinkIn<ToConnector>, rt: &R) -> Result<ToConnector, RunFault>
-    ensures { IfOk result (λ message. Takes FollowsToConnector inbox.old message inbox.new) }
+    ensures taken { IfOk result (λ message. Takes FollowsToConnector inbox.old message inbox.new) }
+    ensures kind { IfErr result IsTurnFault }
 {
     match inbox.receive(rt) {
         Ok(message) => Ok(message),
@@ -205,10 +213,11 @@ impl<S: ProgressStore> Publishing<S> {
         polls: LinkOut<ToLedger>,
         packets: LinkOut<ToBroker>,
         store: S,
+        start: Option<Moment>,
         window: usize,
         restart_after: Vec<u64>,
     ) -> Publishing<S>
-        ensures { result ≡ first_work inbox polls packets (S.held store) (S.is_honest store)
+        ensures { result ≡ first_work inbox polls packets (S.held store) (S.is_honest store) start
             window restart_after.items }
     {
         Publishing {
@@ -216,6 +225,7 @@ impl<S: ProgressStore> Publishing<S> {
             polls,
             packets,
             store,
+            start,
             first: None,
             session: None,
             asked: 0,
@@ -245,6 +255,7 @@ impl<S: ProgressStore> Publishing<S> {
             polls,
             packets,
             store,
+            start: _,
             first: _,
             session: _,
             asked: _,
@@ -273,9 +284,11 @@ impl<S: ProgressStore> Publishing<S> {
     /// Starts the next session in the place of the one that runs, if one does.
     fn begin(&mut self, alloc: Global) -> Result<(), RunFault>
         requires { IsWindow self.old.window }
-        ensures { IfOk result (λ _. IsBegun self.old self.new) }
+        ensures after { IfOk result (λ _. IsBegun self.old self.new) }
+        ensures kind { IfErr result IsStartFault }
     {
-        let session = Session::start(alloc, &mut self.store, self.window)?;
+        let session = Session::start(alloc, &mut self.store, self.window, self.start)?;
+        self.start = None;
         self.first = Some(first_base(self.first, &session));
         self.session = Some(session);
         self.asked = 0;
@@ -287,8 +300,9 @@ impl<S: ProgressStore> Publishing<S> {
     fn send_packet<R: Wait>(&mut self, rt: &R, alloc: Global) -> Result<bool, RunFault>
         requires sending { IsSending self.old }
         requires room { self.old.unanswered ≤ self.old.window }
-        ensures { (course : Course) → IsPublishing self.old (Some course)
+        ensures after { (course : Course) → IsPublishing self.old (Some course)
             → IfOk result (λ sent. IsPacketSent self.old course (next_packet course) sent self.new) }
+        ensures kind { IfErr result IsTurnFault }
     {
         let Some(session) = &mut self.session else {
             return Ok(false);
@@ -309,7 +323,8 @@ impl<S: ProgressStore> Publishing<S> {
     fn send_next<R: Wait>(&mut self, rt: &R, alloc: Global) -> Result<bool, RunFault>
         requires sending { IsSending self.old }
         requires room { self.old.unanswered ≤ self.old.window }
-        ensures { IfOk result (λ sent. IsSentNext self.old sent self.new) }
+        ensures after { IfOk result (λ sent. IsSentNext self.old sent self.new) }
+        ensures kind { IfErr result IsTurnFault }
     {
         let before = self.published;
         if !self.send_packet(rt, alloc)? {
@@ -324,7 +339,8 @@ impl<S: ProgressStore> Publishing<S> {
     /// Sends packets as long as there is one, and room for it.
     fn send_packets<R: Wait>(&mut self, rt: &R, alloc: Global) -> Result<(), RunFault>
         requires { IsSending self.old }
-        ensures { IfOk result (λ _. AreSent self.old self.new) }
+        ensures after { IfOk result (λ _. AreSent self.old self.new) }
+        ensures kind { IfErr result IsTurnFault }
     {
         while self.unanswered <= self.window {
             if !self.send_next(rt, alloc)? {
@@ -337,8 +353,9 @@ impl<S: ProgressStore> Publishing<S> {
     /// Asks for what the session wants, where no poll is open.
     fn ask<R: Wait>(&mut self, rt: &R) -> Result<(), RunFault>
         requires { IsSending self.old }
-        ensures { (course : Course) → IsPublishing self.old (Some course)
+        ensures after { (course : Course) → IsPublishing self.old (Some course)
             → IfOk result (λ _. self.new ≡ asked_if self.old.poll course self.old) }
+        ensures kind { IfErr result IsTurnFault }
     {
         if self.poll.is_some() {
             return Ok(());
@@ -367,9 +384,10 @@ impl<S: ProgressStore> Publishing<S> {
     /// Says that the connector has finished, where its session is done and every packet has its answer.
     fn finish<R: Wait>(&mut self, rt: &R) -> Result<(), RunFault>
         requires { IsSending self.old }
-        ensures { (course : Course) → IsPublishing self.old (Some course)
+        ensures after { (course : Course) → IsPublishing self.old (Some course)
             → IfOk result (λ _. self.new
             ≡ finished_if (is_done course && (self.old.unanswered == 0)) self.old) }
+        ensures kind { IfErr result IsTurnFault }
     {
         let Some(session) = &self.session else {
             return Ok(());
@@ -386,7 +404,8 @@ impl<S: ProgressStore> Publishing<S> {
     /// Sends all that follows: packets, then what the session asks for, and at last that the connector has finished.
     fn follow<R: Wait>(&mut self, rt: &R, alloc: Global) -> Result<(), RunFault>
         requires { IsSending self.old }
-        ensures { IfOk result (λ _. IsFollowed self.old self.new) }
+        ensures after { IfOk result (λ _. IsFollowed self.old self.new) }
+        ensures kind { IfErr result IsTurnFault }
     {
         self.send_packets(rt, alloc)?;
         self.ask(rt)?;
@@ -411,8 +430,9 @@ impl<S: ProgressStore> Publishing<S> {
 
     /// The session takes the confirm of a tag, and saves where that moves how far it has come.
     fn confirm(&mut self, session: u64, tag: u64) -> Result<(), RunFault>
-        ensures { (course : Course) → SessionStands self.old.session (Some course)
+        ensures after { (course : Course) → SessionStands self.old.session (Some course)
             → IfOk result (λ _. IsAnswerTaken self.old course session (Confirmed tag) self.new) }
+        ensures kind { IfErr result IsSaveFault }
     {
         let Some(running) = &mut self.session else {
             return Ok(());
@@ -428,8 +448,9 @@ impl<S: ProgressStore> Publishing<S> {
     /// A packet of a session was lost: where it is the one that runs, the next one starts.
     fn break_off(&mut self, alloc: Global, session: u64) -> Result<(), RunFault>
         requires { IsWindow self.old.window }
-        ensures { (course : Course) → SessionStands self.old.session (Some course)
+        ensures after { (course : Course) → SessionStands self.old.session (Some course)
             → IfOk result (λ _. IsAnswerTaken self.old course session Broken self.new) }
+        ensures kind { IfErr result IsStartFault }
     {
         if is_own(&self.session, session) {
             self.begin(alloc)?;
@@ -440,8 +461,9 @@ impl<S: ProgressStore> Publishing<S> {
     /// Takes a confirm. One that answers no packet is none that was asked for.
     fn take_confirm(&mut self, alloc: Global, confirm: Confirm) -> Result<(), RunFault>
         requires { IsWindow self.old.window }
-        ensures { (course : Course) → SessionStands self.old.session (Some course)
+        ensures after { (course : Course) → SessionStands self.old.session (Some course)
             → IfOk result (λ _. IsConfirmTaken self.old course confirm self.new) }
+        ensures kind { IfErr result IsTurnFault }
     {
         let Some(unanswered) = self.unanswered.checked_sub(1) else {
             return Err(RunFault::PeerGone);
@@ -457,8 +479,9 @@ impl<S: ProgressStore> Publishing<S> {
     /// Receives a message and takes it. Says whether anything may follow from it: nothing from a reply to another poll.
     fn hear<R: Wait>(&mut self, rt: &R, alloc: Global) -> Result<bool, RunFault>
         requires { IsSending self.old }
-        ensures { (course : Course) → IsPublishing self.old (Some course)
+        ensures after { (course : Course) → IsPublishing self.old (Some course)
             → IfOk result (λ moved. IsHeard self.old course moved self.new) }
+        ensures kind { IfErr result IsTurnFault }
     {
         match receive(&mut self.inbox, rt)? {
             ToConnector::PollReply(reply) => Ok(self.take_reply(&reply)),
@@ -473,7 +496,8 @@ impl<S: ProgressStore> Publishing<S> {
     fn advance<R: Wait>(&mut self, rt: &R, alloc: Global) -> Result<bool, RunFault>
         requires rest { IsConnectorEnd self.old }
         requires working { self.old.finished ≡ false }
-        ensures { IfOk result (λ moved. IsAdvanced self.old moved self.new) }
+        ensures after { IfOk result (λ moved. IsAdvanced self.old moved self.new) }
+        ensures kind { IfErr result IsTurnFault }
     {
         if self.session.is_some() {
             return self.hear(rt, alloc);
@@ -488,6 +512,7 @@ impl<S: ProgressStore> Publishing<S> {
         ensures kept { IfOk result (λ _. IsConnectorEnd self.new) }
         ensures turns { IfOk result (λ _. IsTurn self.old self.new) }
         ensures answer { IfOk result (λ turn. turn ≡ turn_if self.new.finished) }
+        ensures kind { IfErr result IsTurnFault }
     {
         if self.finished {
             return Ok(Turn::Finished);

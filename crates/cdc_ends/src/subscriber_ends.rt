@@ -1,7 +1,7 @@
 //! A subscriber's end: it takes what its queue hands out, and acknowledges each delivery.
 
 ghost use Rattle.std.specs.Prelude.{◌≡◌, ◌↔◌, ◌<◌, Err, IfErr, IfOk, IsTrue, None, Some, true, []};
-ghost use Rattle.cdc_ends.specs.SubscriberEnds.{AskedClose, DeliveriesAreHeard, HasTurned, IsSubscriberEnd, IsTurnFault, UnaskedStayOpen, new_intake, parts_of};
+ghost use Rattle.cdc_ends.specs.SubscriberEnds.{AskedClose, ComesSoFar, DeliveriesAreHeard, HasTurned, IsSubscriberEnd, IsTurnFault, UnaskedStayOpen, new_intake, parts_of};
 
 use crate::faults::RunFault;
 use crate::intakes::Intake;
@@ -34,14 +34,15 @@ impl Drop for SubscriberEnd {
 }
 
 impl Model for SubscriberEnd {
-    ghost use Rattle.std.specs.Prelude.{◌≡◌, None};
-    ghost use Rattle.cdc_ends.specs.SubscriberEnds.{IsSubscriberEnd, SubscriberState};
+    ghost use Rattle.std.specs.Prelude.{◌≡◌, IfSome, None};
+    ghost use Rattle.cdc_ends.specs.SubscriberEnds.{IsSubscriberEnd, IsTurnFault, SubscriberState};
 
     ghost Value = { SubscriberState };
 
     ghost view = { λ end. record { system = end.system; intake = end.intake; fault = end.fault } };
 
-    ghost invariant = { λ end. end.fault ≡ None → IsSubscriberEnd end.intake };
+    ghost invariant = { λ end.
+        (end.fault ≡ None → IsSubscriberEnd end.intake) × IfSome end.fault IsTurnFault };
 }
 
 impl SubscriberEnd {
@@ -81,7 +82,10 @@ impl SubscriberEnd {
     pub fn turn<R: Wait>(&mut self, rt: &R, alloc: Global) -> Result<Turn, RunFault>
         ensures turned { IfOk result (λ turn. HasTurned self.old turn self.new) }
         ensures fault { IfErr result (λ fault. self.new.fault ≡ Some fault) }
-        ensures kind { self.old.fault ≡ None → IfErr result IsTurnFault }
+        ensures kind { IfErr result IsTurnFault }
+        ensures so_far { self.old.fault ≡ None
+            → IfErr result (λ _. ComesSoFar self.old.intake self.new.intake) }
+        ensures system { self.new.system ≡ self.old.system }
         ensures again { (fault : RunFault) → self.old.fault ≡ Some fault
             → (result ≡ Err fault) × (self.new ≡ self.old) }
     {

@@ -4,8 +4,9 @@ use crate::hearing::hears_of_a_loss;
 use cdc_ends::{ConnectorEnd, RunFault, Turn};
 use cdc_links::{LinkIn, link};
 use cdc_message::Packet;
-use cdc_progress::MemoryStore;
+use cdc_progress::{MemoryStore, Progress};
 use cdc_traffic::{ToBroker, ToConnector, ToLedger};
+use cdc_types::Moment;
 use std::alloc::Global;
 use std::process::Abort;
 use std::sync::Wait;
@@ -32,9 +33,26 @@ fn a_connector_without_a_broker(rt: HostRuntime) {
     let polls = asking.pop().expect(&rt, "two senders");
     let packets = sending.pop().expect(&rt, "one sender");
     drop(broker);
-    let mut connector = ConnectorEnd::new(1, inbox, polls, packets, MemoryStore::new(), 1, plan);
+    let mut connector = ConnectorEnd::new(1, inbox, polls, packets, MemoryStore::new(), None, 1, plan);
     let gone = Err(RunFault::PeerGone);
     turn_so(&rt, rt.alloc(), &mut connector, &[gone, gone]);
+    assert!(rt; hears_of_a_loss(&rt, &mut ledger));
+}
+
+#[test]
+fn a_connector_that_may_not_start_where_it_is_told(rt: HostRuntime) {
+    let plan = Vec::new(rt.alloc());
+    let (mut asking, mut ledger) = link::<ToLedger>(rt.alloc(), 4, 2).expect(&rt, "memory");
+    let (mut sending, _broker) = link::<ToBroker>(rt.alloc(), 4, 1).expect(&rt, "memory");
+    let (_answers, inbox) = link::<ToConnector>(rt.alloc(), 5, 2).expect(&rt, "memory");
+    let _client = asking.pop().expect(&rt, "two senders");
+    let polls = asking.pop().expect(&rt, "two senders");
+    let packets = sending.pop().expect(&rt, "one sender");
+    let store = MemoryStore::with_faults(Some(Progress::new(3, 2000, 0)), 0, false);
+    let start = Moment::new(2000);
+    let mut connector = ConnectorEnd::new(1, inbox, polls, packets, store, start, 1, plan);
+    let refused = Err(RunFault::StartNotAllowed);
+    turn_so(&rt, rt.alloc(), &mut connector, &[refused, refused]);
     assert!(rt; hears_of_a_loss(&rt, &mut ledger));
 }
 
@@ -62,7 +80,7 @@ fn a_connector_begins(rt: HostRuntime) {
     let (_answers, inbox) = link::<ToConnector>(rt.alloc(), 5, 2).expect(&rt, "memory");
     let polls = asking.pop().expect(&rt, "one sender");
     let packets = sending.pop().expect(&rt, "one sender");
-    let mut connector = ConnectorEnd::new(1, inbox, polls, packets, MemoryStore::new(), 1, plan);
+    let mut connector = ConnectorEnd::new(1, inbox, polls, packets, MemoryStore::new(), None, 1, plan);
     turn_so(&rt, rt.alloc(), &mut connector, &[Ok(Turn::More)]);
     assert!(rt; is_polled(&rt, &mut ledger));
     assert!(rt; is_connected(&rt, &mut broker));

@@ -1,8 +1,9 @@
--- The replies and the ledger of a run that has one client.
-use Rattle.std.proofs.Common.{◌≡◌, ◌==◌, ℕ, Bool, true, List, [], ◌∷◌, ◌++◌, refl, sym, ap, ◌∙◌, map, eq-eqb, arith}
+-- The replies and the ledger of a run in which one client alone hands in batches.
+use Rattle.std.proofs.Common.{◌≡◌, ◌==◌, ◌⊎◌, ℕ, zero, suc, ◌+◌, ◌-◌, ◌<◌, ◌≤◌, Bool, true, false, List, [], ◌∷◌, ◌++◌, refl, sym, ap, ◌∙◌, subst, map, length, eq-eqb, arith, inl, inr}
 use Rattle.std.specs.Prelude.{All, Result, cond, filter, if◌then◌else◌}
-use Rattle.std.proofs.lemmas.List.{map-append}
-use Rattle.std.proofs.lemmas.List.Elements.{All-head, All-tail}
+use Rattle.std.proofs.lemmas.Bool.{cases_lt, eqb-false, eqb-true}
+use Rattle.std.proofs.lemmas.List.{length-append, map-append}
+use Rattle.std.proofs.lemmas.List.Elements.{All-cons, All-head, All-nil, All-tail}
 use Rattle.std.proofs.lemmas.Simd.{map-map}
 use Rattle.cdc_ends.specs.Orders.{batches_by, batches_in, past_of, reply_after, said_from, said_to}
 use Rattle.cdc_ledger.specs.declared.errors.BatchError.{BatchError}
@@ -16,8 +17,9 @@ use Rattle.cdc_traffic.specs.declared.requests.Reply.{Reply}
 use Rattle.cdc_types.specs.declared.batches.Batch.{Batch}
 use Rattle.cdc_types.specs.declared.batches.BatchResults.{BatchResults}
 use Rattle.cdc_types.specs.Features.{features}
-use Rattle.cdc_run.specs.Determined.{LoneClientsAreServedAlone, answers_from}
-use Rattle.cdc_run.specs.Settling.{IsReplied}
+use Rattle.cdc_run.specs.Books.{AreReplied}
+use Rattle.cdc_run.specs.Determined.{HaveNone, LoneClientsAreServedAlone, answers_from}
+use Rattle.cdc_run.specs.Settling.{IsOfClients, IsReplied}
 
 -- all batches are this client's
 abbrev AllOwn : ℕ → List (ℕ × Batch) → Type 0
@@ -59,18 +61,118 @@ said_in_turn client before (p ∷ order) own =
     (said_in_turn client (before ++ p ∷ []) order (All-tail (λ (q : ℕ × Batch). q.0 ≡ client) p order own)
     ∙ ap (λ (h : History). answers_from h (batches_in order)) (history_push before p))
 
+-- ---- whose batches there are
+
+-- a batch that isn't a client's own adds nothing to what is
+none_behind : (client : ℕ) (p : ℕ × Batch) (order : List (ℕ × Batch)) (b : Bool) → (p.0 == client) ≡ b
+    → batches_by client (p ∷ order) ≡ [] → batches_by client order ≡ []
+none_behind client p order true is none =
+    let kept : List (ℕ × Batch) = filter (λ (q : ℕ × Batch). q.0 == client) order in
+    let some : p.1 ∷ map (λ (q : ℕ × Batch). q.1) kept ≡ [] =
+    subst (λ (x : Bool). map (λ (q : ℕ × Batch). q.1) (cond x (p ∷ kept) kept) ≡ []) is none in
+    cc
+none_behind client p order false is none =
+    let kept : List (ℕ × Batch) = filter (λ (q : ℕ × Batch). q.0 == client) order in
+    subst (λ (x : Bool). map (λ (q : ℕ × Batch). q.1) (cond x (p ∷ kept) kept) ≡ []) is none
+
+-- one that comes first is some client's
+none_first : (p : ℕ × Batch) (order : List (ℕ × Batch)) → batches_by p.0 (p ∷ order) ≡ [] → ⊥
+none_first p order none =
+    let kept : List (ℕ × Batch) = filter (λ (q : ℕ × Batch). q.0 == p.0) order in
+    let some : p.1 ∷ map (λ (q : ℕ × Batch). q.1) kept ≡ [] =
+    subst (λ (x : Bool). map (λ (q : ℕ × Batch). q.1) (cond x (p ∷ kept) kept) ≡ []) (eq-eqb p.0 p.0 refl) none in
+    cc
+
+-- so the first batch is this client's, where no other has any
+first_own : (client : ℕ) (p : ℕ × Batch) (order : List (ℕ × Batch)) (b : Bool) → (p.0 == client) ≡ b
+    → ((p.0 ≡ client → ⊥) → batches_by p.0 (p ∷ order) ≡ []) → p.0 ≡ client
+first_own client p order true is none = eqb-true p.0 client is
+first_own client p order false is none = absurd (none_first p order (none (eqb-false p.0 client is)))
+
+-- and so are all
+all_own : (client n : ℕ) (order : List (ℕ × Batch)) → IsOfClients n order
+    → ((k : ℕ) → 0 < k → k ≤ n → (k ≡ client → ⊥) → batches_by k order ≡ []) → AllOwn client order
+all_own client n [] of none = All-nil (λ (q : ℕ × Batch). q.0 ≡ client)
+all_own client n (p ∷ order) of none =
+    let here = All-head (λ (q : ℕ × Batch). (0 < q.0) × (q.0 ≤ n)) p order of in
+    All-cons (λ (q : ℕ × Batch). q.0 ≡ client) p order
+    (first_own client p order (p.0 == client) refl (none p.0 here.0 here.1))
+    (all_own client n order (All-tail (λ (q : ℕ × Batch). (0 < q.0) × (q.0 ≤ n)) p order of)
+    (λ k first last other. none_behind k p order (p.0 == k) refl (none k first last other)))
+
+-- clients that were replied nothing have no batch
+none_replied : (order : List (ℕ × Batch)) (number : ℕ) (lists : List (List Reply)) → AreReplied number order lists
+    → HaveNone lists → (d : ℕ) → d < length lists → batches_by (number + d) order ≡ []
+none_replied order number [] are none d below = absurd (omega arith)
+none_replied order number (l ∷ lists) are none zero below =
+    let same : number + 0 ≡ number = omega arith in
+    ap (λ (k : ℕ). batches_by k order) same
+    ∙ are.0.batches
+    ∙ ap (map (λ (r : Reply). r.batch)) (All-head (λ (l' : List Reply). l' ≡ []) l lists none)
+none_replied order number (l ∷ lists) are none (suc d) below =
+    let fewer : d < length lists = omega arith in
+    let same : number + suc d ≡ number + 1 + d = omega arith in
+    ap (λ (k : ℕ). batches_by k order) same
+    ∙ none_replied order (number + 1) lists are.1 (All-tail (λ (l' : List Reply). l' ≡ []) l lists none) d fewer
+
+-- the clients before one, that one, and those after it
+parts : (order : List (ℕ × Batch)) (number : ℕ) (before : List (List Reply)) (own : List Reply)
+    (after : List (List Reply)) (client : ℕ) → client ≡ number + length before
+    → AreReplied number order (before ++ own ∷ after)
+    → AreReplied number order before × (IsReplied order client own × AreReplied (client + 1) order after)
+parts order number [] own after client is are =
+    let same : number ≡ client = omega arith in
+    (tt, subst (λ (k : ℕ). IsReplied order k own × AreReplied (k + 1) order after) same are)
+parts order number (l ∷ before) own after client is are =
+    let here : client ≡ number + 1 + length before = omega arith in
+    let rest = parts order (number + 1) before own after client here are.1 in
+    ((are.0, rest.0), rest.1)
+
+module _ (order : List (ℕ × Batch)) (before after : List (List Reply)) (none_before : HaveNone before)
+    (none_after : HaveNone after) (early : AreReplied 1 order before)
+    (late : AreReplied (length before + 1 + 1) order after) where
+  -- no other client has a batch
+  others_late : (k : ℕ) → k ≤ length before + 1 + length after → (k ≡ length before + 1 → ⊥) → length before < k
+      → (length before + 1 < k) ⊎ (k ≤ length before + 1) → batches_by k order ≡ []
+  others_late k last other behind (inl later) =
+      let d : ℕ = k - (length before + 1 + 1) in
+      let below : d < length after = omega (arith, last, later) in
+      let same : k ≡ length before + 1 + 1 + d = omega (arith, later) in
+      ap (λ (n : ℕ). batches_by n order) same ∙ none_replied order (length before + 1 + 1) after late none_after d below
+  others_late k last other behind (inr here) = absurd (other (omega (arith, here, behind)))
+
+  others : (k : ℕ) → 0 < k → k ≤ length before + 1 + length after → (k ≡ length before + 1 → ⊥)
+      → (length before < k) ⊎ (k ≤ length before) → batches_by k order ≡ []
+  others k first last other (inl behind) =
+      others_late k last other behind (cases_lt (length before + 1) k)
+  others k first last other (inr here) =
+      let d : ℕ = k - 1 in
+      let below : d < length before = omega (arith, first, here) in
+      let same : k ≡ 1 + d = omega (arith, first) in
+      ap (λ (n : ℕ). batches_by n order) same ∙ none_replied order 1 before early none_before d below
+
 pub lone_clients : LoneClientsAreServedAlone
-lone_clients order ledger replies are =
-    let replied : IsReplied order 1 replies = are.each.0 in
-    let own : AllOwn 1 order = λ k d below. let of = are.of_clients k d below in omega arith in
-    let said : List (Reply × Past) = said_to 1 order in
+lone_clients order ledger before replies after none_before none_after are =
+    let client : ℕ = length before + 1 in
+    let here : client ≡ 1 + length before = omega arith in
+    let each = parts order 1 before replies after client here are.each in
+    let replied : IsReplied order client replies = each.1.0 in
+    let many : length (before ++ replies ∷ after) ≡ length before + 1 + length after =
+    length-append before (replies ∷ after) ∙ omega arith in
+    let own : AllOwn client order =
+    all_own client (length before + 1 + length after) order
+    (subst (λ (n : ℕ). IsOfClients n order) many are.of_clients)
+    (λ k first last other.
+    others order before after none_before none_after each.0 each.1.1 k first last other
+    (cases_lt (length before) k)) in
+    let said : List (Reply × Past) = said_to client order in
     let batches : batches_in order ≡ map (λ (r : Reply). r.batch) replies =
-    sym (own_batches 1 order own) ∙ replied.batches in
+    sym (own_batches client order own) ∙ replied.batches in
     record {
       ledger_is = are.ledger_is
           ∙ ap (λ (bs : List Batch). history_of (record { batches = bs; closed = true })) batches;
       answers = ap (map (λ (r : Reply). r.answer)) replied.answers
           ∙ map-map (λ (r : Reply). r.answer) (λ (m : Reply × Past). m.0) said
-          ∙ said_in_turn 1 [] order own
+          ∙ said_in_turn client [] order own
           ∙ ap (answers_from empty_history) batches;
     }

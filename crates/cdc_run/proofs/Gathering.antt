@@ -3,7 +3,7 @@ use Rattle.std.proofs.Common.{◌≡◌, List, [], ◌∷◌, ◌++◌, refl, sy
 use Rattle.std.specs.Prelude.{Option, Some, None, Result, Ok, Err}
 use Rattle.std.proofs.lemmas.List.{map-append}
 use Rattle.cdc_ends.specs.declared.faults.RunFault.{RunFault}
-use Rattle.cdc_ends.specs.declared.faults.RunFault.TheVariants.{PeerGone, OutOfMemory, Store, SessionsExhausted, NotOneSystem}
+use Rattle.cdc_ends.specs.declared.faults.RunFault.TheVariants.{PeerGone, OutOfMemory, Store, SessionsExhausted, NotOneSystem, StartNotAllowed}
 use Rattle.cdc_run.specs.Outcomes.{AreGathered, fault_among, fault_of, first_of}
 use Rattle.cdc_run.specs.declared.outcomes.Gathered.{Gathered}
 
@@ -15,6 +15,7 @@ first_none (Some OutOfMemory) = refl
 first_none (Some (Store why)) = refl
 first_none (Some SessionsExhausted) = refl
 first_none (Some NotOneSystem) = refl
+first_none (Some StartNotAllowed) = refl
 
 -- where a later one is there, some fault counts
 first_some : (one : Option RunFault) (later : RunFault) → first_of one (Some later) ≡ None → ⊥
@@ -24,6 +25,7 @@ first_some (Some OutOfMemory) later none = cc
 first_some (Some (Store why)) later none = cc
 first_some (Some SessionsExhausted) later none = cc
 first_some (Some NotOneSystem) later none = cc
+first_some (Some StartNotAllowed) later none = cc
 
 -- a peer that is gone gives way to whatever counts of the rest
 gone_before : (two : RunFault) (three : Option RunFault)
@@ -34,6 +36,7 @@ gone_before OutOfMemory three = refl
 gone_before (Store why) three = refl
 gone_before SessionsExhausted three = refl
 gone_before NotOneSystem three = refl
+gone_before StartNotAllowed three = refl
 
 -- it doesn't matter which two are compared first
 pub first_grouped : (one two three : Option RunFault)
@@ -45,6 +48,7 @@ first_grouped (Some OutOfMemory) two three = refl
 first_grouped (Some (Store why)) two three = refl
 first_grouped (Some SessionsExhausted) two three = refl
 first_grouped (Some NotOneSystem) two three = refl
+first_grouped (Some StartNotAllowed) two three = refl
 
 -- one outcome more
 fault_push : {A : Type 0} (outcomes : List (Result A RunFault)) (outcome : Result A RunFault)

@@ -3,9 +3,9 @@ use Rattle.std.proofs.Common.{◌≡◌, ℕ, ◌+◌, Bool, true, false, List, 
 use Rattle.std.specs.Prelude.{fold, length, min}
 use Rattle.cdc_ends.specs.SubscriberEnds.{is_asked}
 use Rattle.cdc_laws.specs.Faithful.{IsFaithful}
-use Rattle.cdc_laws.specs.Line.{feed_of, line, told}
+use Rattle.cdc_laws.specs.Line.{feed_after, line_after, told}
 use Rattle.cdc_laws.proofs.Faithful.{ends-told, hears-told}
-use Rattle.cdc_laws.proofs.Feeds.{events_told, queue-line}
+use Rattle.cdc_laws.proofs.Feeds.{events_told, queue-line_after}
 use Rattle.cdc_laws.proofs.Places.{none_there}
 use Rattle.cdc_ledger.specs.History.{History}
 use Rattle.cdc_match.specs.Arguments.{Arguments}
@@ -35,15 +35,15 @@ kept es ended closed = record {
 }
 
 -- one that is faithful, has ended and isn't closed keeps what its whole feed makes, and so does one that takes the line
-keeps_line : (h : History) (binding : Arguments) (heard : Heard) → IsFaithful h binding heard
-    → has_ended heard ≡ true → heard.closed ≡ false → kept_of heard ≡ kept_of_line h binding
-keeps_line h binding heard faithful ended open_yet =
-    let es : List Event = feed_of h binding in
+keeps_line : (h : History) (start : ℕ) (binding : Arguments) (heard : Heard) → IsFaithful h start binding heard
+    → has_ended heard ≡ true → heard.closed ≡ false → kept_of heard ≡ kept_of_line h start binding
+keeps_line h start binding heard faithful ended open_yet =
+    let es : List Event = feed_after h start binding in
     let whole = faithful.whole ended in
     let rise : TimestampsRise es = subst TimestampsRise whole.1 faithful.rising in
     let took : applied_of heard ≡ es = sym (rises-of_firsts heard.items faithful.rising) ∙ whole.1 in
-    let line_is : queue (line h) binding ≡ told es true = queue-line h binding ∙ ap (told es) whole.0 in
-    let hears : fold next nothing (queue (line h) binding) ≡ record { items = told es true; closed = false } =
+    let line_is : queue (line_after h start) binding ≡ told es true = queue-line_after h start binding ∙ ap (told es) whole.0 in
+    let hears : fold next nothing (queue (line_after h start) binding) ≡ record { items = told es true; closed = false } =
     ap (fold next nothing) line_is ∙ hears-told es in
     let all : rises (events_of (told es true)) ≡ es = ap rises (events_told es rise true) ∙ rises-rising es rise in
     ap (λ (l : List Event). kept l (has_ended heard) heard.closed) took
@@ -52,9 +52,9 @@ keeps_line h binding heard faithful ended open_yet =
     ∙ sym (ap kept_of hears)
 
 pub unasked_keep : UnaskedKeepTheLine
-unasked_keep h binding close_after subscriber unasked is =
+unasked_keep h start binding close_after subscriber unasked is =
     let stays = is.come.unasked unasked in
-    is.keeps ∙ keeps_line h binding is.heard is.come.faithful stays.ended stays.not_closed
+    is.keeps ∙ keeps_line h start binding is.heard is.come.faithful stays.ended stays.not_closed
 
 -- ---- all subscribers
 
@@ -64,12 +64,12 @@ none_asked number None least = refl
 none_asked number (Some n) least = absurd (none_there n least.0)
 
 pub all_keep : AllKeepTheLine
-all_keep number h [] [] [] closes are = refl
-all_keep number h [] [] (subscriber ∷ subscribers) closes are = absurd are
-all_keep number h [] (close ∷ rest) subscribers closes are = absurd are
-all_keep number h (binding ∷ bindings) [] subscribers closes are = absurd are
-all_keep number h (binding ∷ bindings) (close ∷ rest) [] closes are = absurd are
-all_keep number h (binding ∷ bindings) (close ∷ rest) (subscriber ∷ subscribers) closes are =
+all_keep number h start [] [] [] closes are = refl
+all_keep number h start [] [] (subscriber ∷ subscribers) closes are = absurd are
+all_keep number h start [] (close ∷ rest) subscribers closes are = absurd are
+all_keep number h start (binding ∷ bindings) [] subscribers closes are = absurd are
+all_keep number h start (binding ∷ bindings) (close ∷ rest) [] closes are = absurd are
+all_keep number h start (binding ∷ bindings) (close ∷ rest) (subscriber ∷ subscribers) closes are =
     ap₂ (λ (k : Kept) (ks : List Kept). k ∷ ks)
-    (unasked_keep h binding close subscriber (none_asked number close closes.0) are.0)
-    (all_keep (number + 1) h bindings rest subscribers closes.1 are.1)
+    (unasked_keep h start binding close subscriber (none_asked number close closes.0) are.0)
+    (all_keep (number + 1) h start bindings rest subscribers closes.1 are.1)

@@ -10,6 +10,7 @@ mod Fresh
 mod Gathering
 mod Kept
 mod Leaving
+mod Counting
 mod Listed
 mod Paired
 mod Passed

@@ -8,10 +8,12 @@ use Rattle.std.proofs.lemmas.Simd.{map-map}
 use Rattle.cdc_broker.specs.Broker.{BrokerState, nobody, queue_of}
 use Rattle.cdc_broker.specs.Queues.{QueueState, empty_queue}
 use Rattle.cdc_ends.specs.BrokerEnds.{ArrivedWasReceived, as_confirm, as_sent, dealings_of, deliveries_in, packets_in as packets_come, stop_if as stops}
-use Rattle.cdc_ends.specs.ConnectorEnds.{FinishedConnectorsAreDone, IsDone, confirm_in, confirms_in, packet_in, packets_in}
+use Rattle.cdc_ends.specs.ConnectorEnds.{FinishedConnectorsAreDone, IsDone, confirm_in, confirms_in, origin_of, packet_in, packets_in}
+use Rattle.cdc_ends.specs.LedgerEnds.{past_of_inbox}
 use Rattle.cdc_ends.specs.SubscriberEnds.{heard_by, stop_if, taken_by}
 use Rattle.cdc_laws.specs.Arrivals.{AreAmong}
 use Rattle.cdc_laws.specs.Brokers.{HasHandedOut}
+use Rattle.cdc_laws.specs.Connectors.{held_start}
 use Rattle.cdc_ledger.specs.History.{History}
 use Rattle.cdc_links.specs.Links.{of_sender}
 use Rattle.cdc_links.proofs.Entries.{of_sender-append}
@@ -23,6 +25,7 @@ use Rattle.cdc_traffic.specs.declared.messages.ToBroker.TheVariants as to_broker
 use Rattle.cdc_traffic.specs.declared.messages.ToConnector.{ToConnector}
 use Rattle.cdc_traffic.specs.declared.messages.ToSubscriber.{ToSubscriber}
 use Rattle.cdc_traffic.specs.declared.messages.ToSubscriber.TheVariants.{Delivery as Hands, Stop}
+use Rattle.cdc_traffic.specs.Pasts.{history_of}
 use Rattle.cdc_traffic.specs.declared.pasts.Past.{Past}
 use Rattle.cdc_run.specs.Passing.{EndsCome, EndsPass, passage_of}
 use Rattle.cdc_run.specs.Subscribing.{HasCome, SubscribersCome}
@@ -98,7 +101,7 @@ ends_pass done arrived d c b are =
           whole = sym (of_sender-append 0 c.inbox.received are.left_of_replies) ∙ are.replies;
         };
         goes_on = are.desk.booked.named;
-        keeps = is.keeps are.honest are.start;
+        keeps = is.keeps are.honest are.origin;
         arrives = are.broker.desk.arrived;
         packets = packets;
         answers = answers;
@@ -107,8 +110,9 @@ ends_pass done arrived d c b are =
       },
     )
 
-pub ends_come : EndsPass → SubscribersCome → EndsCome
-ends_come pass law d c b place consumer s are found stopped =
+pub ends_come : FinishedConnectorsAreDone → EndsPass → SubscribersCome → EndsCome
+ends_come done pass law d c b place consumer s are found stopped =
+    let start : held_start c.held ≡ (origin_of c).start = (done c are.connector are.over).start in
     let passed = pass d c b are in
     let q : QueueState = queue_of b.broker (place + 1) in
     let out : List Delivery = deliveries_in consumer.link.sent in
@@ -141,9 +145,11 @@ ends_come pass law d c b place consumer s are found stopped =
     record {
       heard = heard_by s.close_after taken;
       come =
-          subst (λ (h : History). HasCome h q.binding s.close_after (heard_by s.close_after taken))
+          subst (λ (h : History). HasCome h (origin_of c).start q.binding s.close_after (heard_by s.close_after taken))
           (sym are.desk.booked.history)
+          (subst (λ (n : ℕ). HasCome (history_of (past_of_inbox d.inbox)) n q.binding s.close_after
+          (heard_by s.close_after taken)) start
           (law (passage_of d c b passed.0) q taken s.close_after passed.1
-          (queue_there b.broker place (omega arith)) of_queue whole.handed);
+          (queue_there b.broker place (omega arith)) of_queue whole.handed));
       keeps = stopped.is.keeps;
     }

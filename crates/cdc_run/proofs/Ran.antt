@@ -5,15 +5,16 @@ use Rattle.std.specs.List.{AllZip}
 use Rattle.std.proofs.lemmas.List.Elements.{All-cons}
 use Rattle.cdc_broker.specs.Queues.{QueueState, empty_queue}
 use Rattle.cdc_ends.specs.Clients.{ClientState, first_words}
+use Rattle.cdc_ends.specs.ConnectorEnds.{first_origin}
 use Rattle.cdc_ends.specs.LedgerEnds.{order_of}
 use Rattle.cdc_ends.specs.SubscriberEnds.{SubscriberState}
-use Rattle.cdc_laws.specs.Connectors.{held_timestamp}
+use Rattle.cdc_laws.specs.Connectors.{held_start, held_timestamp}
 use Rattle.cdc_links.specs.Links.{LinkId, fresh_end}
 use Rattle.cdc_match.specs.declared.binding.Binding.{Binding}
 use Rattle.cdc_progress.specs.Records.{Saved}
 use Rattle.cdc_run.specs.Made.{AreMade, fresh_inbox, made_clients, made_subscribers}
 use Rattle.cdc_run.specs.Reports.{AreSubscribed, HasRun, IsReportOf}
-use Rattle.cdc_run.specs.Seats.{BrokerSeat, ConnectorSeat, SubscriberSeat, broker_seat, connector_seat, start_if}
+use Rattle.cdc_run.specs.Seats.{BrokerSeat, ConnectorSeat, SubscriberSeat, at_start, broker_seat, connector_seat, origin_if}
 use Rattle.cdc_run.specs.Tasks.{AreLeft, ClientLeaves, SubscriberLeaves, places_of, with_scripts}
 use Rattle.cdc_run.specs.declared.configs.Config.{Config}
 use Rattle.cdc_run.specs.declared.ends.Ends.{Ends}
@@ -68,6 +69,13 @@ closes_stay system acks number (link ∷ links) (close ∷ closes) (new ∷ news
     ap₂ (λ (x : Option ℕ) (xs : List (Option ℕ)). x ∷ xs) (ap (λ (seat : SubscriberSeat). seat.close_after) all.0.seat)
     (closes_stay system acks (number + 1) links closes news fewer all.1)
 
+-- over a store that holds nothing, or a timestamp that is its start, a run begins at its start
+begins_at_start : (at : Option ℕ) (held : Option Saved) → held_timestamp held ≡ held_start held
+    → record { after = (first_origin at held).after; start = (first_origin at held).start }
+    ≡ at_start (first_origin at held).start
+begins_at_start at None same = refl
+begins_at_start at (Some saved) same = ap (λ (t : ℕ). record { after = t; start = saved.start }) same
+
 -- the bindings of new queues
 bindings_of_empty : (bindings : List Binding)
     → map (λ (q : QueueState). q.binding) (map empty_queue bindings) ≡ bindings
@@ -96,12 +104,14 @@ module _ {S : Type 0} (config : Config) (faults : Faults) (held : Option Saved) 
     }
 
     -- and its subscribers have come to what they may rely on
-    pub have_subscribed : honest ≡ true → held_timestamp held ≡ 0
-        → AreSubscribed report.ledger config.bindings.items made.closes report.subscribers.items
-    have_subscribed is_honest zero =
-        let start : (connector_seat new.connector).start ≡ Some 0 =
-        ap (λ (seat : ConnectorSeat). seat.start) (are.connector.seat ∙ ap connector_seat made.connector)
-        ∙ ap₂ start_if is_honest zero in
+    pub have_subscribed : honest ≡ true → held_timestamp held ≡ held_start held
+        → AreSubscribed report.ledger (first_origin config.start held).start config.bindings.items made.closes
+        report.subscribers.items
+    have_subscribed is_honest same =
+        let start : ℕ = (first_origin config.start held).start in
+        let seat : (connector_seat new.connector).origin ≡ Some (at_start start) =
+        ap (λ (seat : ConnectorSeat). seat.origin) (are.connector.seat ∙ ap connector_seat made.connector)
+        ∙ ap₂ origin_if is_honest (begins_at_start config.start held same) in
         let bindings : (broker_seat new.broker).bindings ≡ config.bindings.items =
         ap (λ (seat : BrokerSeat). seat.bindings) (are.broker.seat ∙ ap broker_seat made.broker)
         ∙ bindings_of_empty config.bindings.items in
@@ -109,7 +119,7 @@ module _ {S : Type 0} (config : Config) (faults : Faults) (held : Option Saved) 
         closes_stay config.system made.wiring.to_broker 1 made.wiring.to_subscribers made.closes new.subscribers.items
         (made.closes_count ∙ sym made.subscribers_count)
         (made_subscribers_left config faults held honest ends made new scripts are) in
-        subst (λ (l : List Binding). AreSubscribed report.ledger l made.closes report.subscribers.items) bindings
+        subst (λ (l : List Binding). AreSubscribed report.ledger start l made.closes report.subscribers.items) bindings
         (subst (λ (l : List (Option ℕ)).
-        AreSubscribed report.ledger (broker_seat new.broker).bindings l report.subscribers.items) closes
-        (reported.subscribers start))
+        AreSubscribed report.ledger start (broker_seat new.broker).bindings l report.subscribers.items) closes
+        (reported.subscribers start seat))

@@ -5,73 +5,81 @@ use Rattle.std.proofs.lemmas.Bool.{and_parts}
 use Rattle.cdc_broker.specs.Broker.{nobody, queue_of}
 use Rattle.cdc_broker.specs.Queues.{QueueState, empty_queue}
 use Rattle.cdc_ends.specs.BrokerEnds.{Desk as BrokerDesk}
-use Rattle.cdc_ends.specs.ConnectorEnds.{has_finished, start_of}
+use Rattle.cdc_ends.specs.ConnectorEnds.{IsAtStart, Origin, has_finished, origin_of}
 use Rattle.cdc_ends.specs.LedgerEnds.{Desk as LedgerDesk, IsDesk}
 use Rattle.cdc_ends.specs.SubscriberEnds.{SubscriberState}
 use Rattle.cdc_run.specs.ClientMail.{HasFinishedWith as LedgerHasFinishedWith}
 use Rattle.cdc_run.specs.Reports.{AreFinished, AreSubscribed}
-use Rattle.cdc_run.specs.Seats.{connector_seat, start_if}
+use Rattle.cdc_run.specs.Seats.{at_start, connector_seat, origin_if}
 use Rattle.cdc_run.specs.Streams.{AllCome, AreLeftBy, Middle}
 use Rattle.cdc_run.specs.SubscriberMail.{HasFinishedWith as BrokerHasFinishedWith, intakes_of}
 use Rattle.cdc_run.specs.Subscribing.{HasCome}
 use Rattle.cdc_run.specs.declared.ends.Ends.{Ends}
 use Rattle.cdc_run.proofs.Seated.{AreBetween}
 
--- a store of which the start is known is honest
-started : (honest : Bool) (start moment : ℕ) → start_if honest start ≡ Some moment
-    → (honest ≡ true) × (start ≡ moment)
-started true start moment same = (refl, cc)
-started false start moment same = cc
+-- a store over which it is known where the run began is honest
+began : (honest : Bool) (origin known : Origin) → origin_if honest origin ≡ Some known
+    → (honest ≡ true) × (origin ≡ known)
+began true origin known same = (refl, cc)
+began false origin known same = cc
 
--- the connector, with the ends of its links, where the start of its store is known to be 0
-pub left_by : {S : Type 0} (ends : Ends S) (m : Middle) → AreBetween ends m → IsDesk ends.ledger.desk
-    → has_finished ends.connector ≡ true → (connector_seat ends.connector).start ≡ Some 0
-    → AreLeftBy ends.ledger.desk ends.connector.work m
-left_by ends m are desk over start =
+-- where a run began at its start
+pub start_known : {S : Type 0} (ends : Ends S) (start : ℕ)
+    → (connector_seat ends.connector).origin ≡ Some (at_start start) → (origin_of ends.connector.work).start ≡ start
+start_known ends start known =
     let work = ends.connector.work in
-    let known = started work.honest (start_of work.first work.held) 0 start in
+    ap (λ (o : Origin). o.start) (began work.honest (origin_of work) (at_start start) known).1
+
+-- the connector, with the ends of its links, where the run is known to have begun at its start
+pub left_by : {S : Type 0} (ends : Ends S) (m : Middle) → AreBetween ends m → IsDesk ends.ledger.desk
+    → has_finished ends.connector ≡ true → (start : ℕ)
+    → (connector_seat ends.connector).origin ≡ Some (at_start start)
+    → AreLeftBy ends.ledger.desk ends.connector.work m
+left_by ends m are desk over start seat =
+    let work = ends.connector.work in
+    let known = began work.honest (origin_of work) (at_start start) seat in
     record {
       desk = desk;
       connector = are.connector;
       over = (and_parts (is_none ends.connector.fault) work.finished over).1;
       honest = known.0;
-      start = known.1;
+      origin = subst IsAtStart (sym known.1) refl;
       inbox = sym are.inbox;
       replies = sym are.replies;
       packets = sym are.packets;
     }
 
 -- subscribers that have come to what they may rely on, with the queue of each
-pub subscribed : (d : LedgerDesk) (b : BrokerDesk) (place : ℕ) (subscribers : List SubscriberState)
-    (queues : List QueueState) → AllCome d b place (intakes_of subscribers) → length subscribers ≡ length queues
+pub subscribed : (d : LedgerDesk) (start : ℕ) (b : BrokerDesk) (place : ℕ) (subscribers : List SubscriberState)
+    (queues : List QueueState) → AllCome d start b place (intakes_of subscribers) → length subscribers ≡ length queues
     → ((k : ℕ) (q : QueueState) → slice_get queues k ≡ Some q → queue_of b.broker (place + k + 1) ≡ q)
-    → AreSubscribed d.ledger (map (λ q. q.binding) queues) (map (λ s. s.intake.close_after) subscribers)
+    → AreSubscribed d.ledger start (map (λ q. q.binding) queues) (map (λ s. s.intake.close_after) subscribers)
     (map (λ s. s.subscriber) (intakes_of subscribers))
-subscribed d b place [] [] come many there = tt
-subscribed d b place [] (q ∷ queues) come many there = absurd (omega arith)
-subscribed d b place (s ∷ subscribers) [] come many there = absurd (omega arith)
-subscribed d b place (s ∷ subscribers) (q ∷ queues) come many there =
+subscribed d start b place [] [] come many there = tt
+subscribed d start b place [] (q ∷ queues) come many there = absurd (omega arith)
+subscribed d start b place (s ∷ subscribers) [] come many there = absurd (omega arith)
+subscribed d start b place (s ∷ subscribers) (q ∷ queues) come many there =
     let here : place + 0 + 1 ≡ place + 1 = omega arith in
     let its : queue_of b.broker (place + 1) ≡ q =
     subst (λ (n : ℕ). queue_of b.broker n ≡ q) here (there 0 q refl) in
     let rest : length subscribers ≡ length queues = omega arith in (
       record {
         heard = come.0.heard;
-        come = subst (λ (x : QueueState). HasCome d.ledger x.binding s.intake.close_after come.0.heard) its come.0.come;
+        come = subst (λ (x : QueueState). HasCome d.ledger start x.binding s.intake.close_after come.0.heard) its come.0.come;
         keeps = come.0.keeps;
       },
-      subscribed d b (place + 1) subscribers queues come.1 rest (λ k next found.
+      subscribed d start b (place + 1) subscribers queues come.1 rest (λ k next found.
           let same : place + suc k + 1 ≡ place + 1 + k + 1 = omega arith in
           subst (λ (n : ℕ). queue_of b.broker n ≡ next) same (there (suc k) next found)),
     )
 
 -- all of them
-pub all_subscribed : (d : LedgerDesk) (b : BrokerDesk) (subscribers : List SubscriberState)
-    → AllCome d b 0 (intakes_of subscribers) → length subscribers ≡ length b.broker.queues
-    → AreSubscribed d.ledger (map (λ q. q.binding) b.broker.queues) (map (λ s. s.intake.close_after) subscribers)
+pub all_subscribed : (d : LedgerDesk) (start : ℕ) (b : BrokerDesk) (subscribers : List SubscriberState)
+    → AllCome d start b 0 (intakes_of subscribers) → length subscribers ≡ length b.broker.queues
+    → AreSubscribed d.ledger start (map (λ q. q.binding) b.broker.queues) (map (λ s. s.intake.close_after) subscribers)
     (map (λ s. s.subscriber) (intakes_of subscribers))
-all_subscribed d b subscribers come many =
-    subscribed d b 0 subscribers b.broker.queues come many (λ k q found.
+all_subscribed d start b subscribers come many =
+    subscribed d start b 0 subscribers b.broker.queues come many (λ k q found.
     let same : k ≡ 0 + k + 1 - 1 = omega arith in
     ap (λ (o : Option QueueState). unwrap_or o (empty_queue nobody))
     (subst (λ (n : ℕ). slice_get b.broker.queues n ≡ Some q) same found))

@@ -83,21 +83,21 @@ ledger_made system n m w wired =
     ∙ ap (λ o. ledger_of system inbox (map (λ link. fresh_end link 0) links) o) wired.poll_replies
 
 abbrev connector_of : ℕ → Incoming ToConnector (Option Past) → Outgoing ToLedger (Unit {0})
-    → Outgoing ToBroker (Unit {0}) → Option Saved → Bool → ℕ → List ℕ → ConnectorEndState
-connector_of system inbox polls packets held honest window restarts =
-    record { system = system; work = first_work inbox polls packets held honest window restarts; fault = None }
+    → Outgoing ToBroker (Unit {0}) → Option Saved → Bool → Option ℕ → ℕ → List ℕ → ConnectorEndState
+connector_of system inbox polls packets held honest start window restarts =
+    record { system = system; work = first_work inbox polls packets held honest start window restarts; fault = None }
 
-connector_made : (system n m : ℕ) (w : Wires) (held : Option Saved) (honest : Bool) (window : ℕ) (restarts : List ℕ)
-    → AreWired n m w
-    → connector_of system w.to_connector w.polls w.packets held honest window restarts
-    ≡ made_connector system (wiring_of w) held honest window restarts
-connector_made system n m w held honest window restarts wired =
+connector_made : (system n m : ℕ) (w : Wires) (held : Option Saved) (honest : Bool) (start : Option ℕ)
+    (window : ℕ) (restarts : List ℕ) → AreWired n m w
+    → connector_of system w.to_connector w.polls w.packets held honest start window restarts
+    ≡ made_connector system (wiring_of w) held honest start window restarts
+connector_made system n m w held honest start window restarts wired =
     let inbox : Incoming ToConnector (Option Past) = fresh_inbox w.to_connector.link 2 in
     let polls : Outgoing ToLedger (Unit {0}) = fresh_end w.to_ledger.link 0 in
-    ap (λ i. connector_of system i w.polls w.packets held honest window restarts)
+    ap (λ i. connector_of system i w.polls w.packets held honest start window restarts)
     (is_fresh 2 w.to_connector wired.to_connector)
-    ∙ ap (λ o. connector_of system inbox o w.packets held honest window restarts) wired.polls
-    ∙ ap (λ o. connector_of system inbox polls o held honest window restarts) wired.packets
+    ∙ ap (λ o. connector_of system inbox o w.packets held honest start window restarts) wired.polls
+    ∙ ap (λ o. connector_of system inbox polls o held honest start window restarts) wired.packets
 
 abbrev broker_of : ℕ → Incoming ToBroker (Unit {0}) → Outgoing ToConnector (Option Past)
     → List (Outgoing ToSubscriber (Unit {0})) → List Binding → BrokerPlan → ℕ → BrokerEndState
@@ -129,7 +129,7 @@ pub are_made : {S : Type 0} (config : Config) (faults : Faults) (held : Option S
     (w : Wires) → AreWired config.clients (length config.bindings.items) w
     → ends.ledger ≡ ledger_of config.system w.to_ledger w.replies.items w.poll_replies
     → ends.clients.items ≡ made_clients config.system w.to_ledger.link 1 (map (λ i. i.link) w.answers.items)
-    → ends.connector ≡ connector_of config.system w.to_connector w.polls w.packets held honest config.window
+    → ends.connector ≡ connector_of config.system w.to_connector w.polls w.packets held honest config.start config.window
     faults.restart_after.items
     → ends.broker ≡ broker_of config.system w.to_broker w.confirms w.deliveries.items config.bindings.items
     (plan_of faults) config.prefetch
@@ -154,7 +154,7 @@ are_made config faults held honest ends w wired ledger clients connector broker 
       clients = clients;
       connector =
           connector
-          ∙ connector_made config.system n m w held honest config.window faults.restart_after.items wired;
+          ∙ connector_made config.system n m w held honest config.start config.window faults.restart_after.items wired;
       broker = broker ∙ broker_made config faults n m w wired;
       subscribers = subscribers.subscribers_are;
     }

@@ -5,7 +5,7 @@ use Rattle.std.proofs.lemmas.Bool.{and_parts}
 use Rattle.std.specs.List.{AllZip}
 use Rattle.std.proofs.lemmas.List.Elements.{All-head, All-tail}
 use Rattle.cdc_ends.specs.BrokerEnds.{Desk as BrokerDesk, IsBrokerEnd}
-use Rattle.cdc_ends.specs.ConnectorEnds.{Publishing}
+use Rattle.cdc_ends.specs.ConnectorEnds.{Publishing, origin_of}
 use Rattle.cdc_ends.specs.LedgerEnds.{Desk as LedgerDesk}
 use Rattle.cdc_ends.specs.SubscriberEnds.{SubscriberState}
 use Rattle.cdc_ends.specs.declared.consumers.Consumer.{Consumer}
@@ -56,7 +56,7 @@ through d c b m acks left left_of_packets are broker finished account lawful pac
       connector = are.connector;
       over = are.over;
       honest = are.honest;
-      start = are.start;
+      origin = are.origin;
       broker = broker;
       finished = finished;
       lawful =
@@ -82,7 +82,7 @@ pub all_come : EndsCome → (d : LedgerDesk) (c : Publishing) (b : BrokerDesk) �
     → AreSubscribersOf system number subscribers
     → AllZip IsAccounted (map (λ s. s.inbox) (intakes_of subscribers)) (map (λ x. x.link) consumers)
     → ((k : ℕ) (x : Consumer) → slice_get consumers k ≡ Some x → slice_get b.consumers (place + k) ≡ Some x)
-    → AllCome d b place (intakes_of subscribers)
+    → AllCome d (origin_of c).start b place (intakes_of subscribers)
 all_come law d c b are place system number [] consumers of_system accounts there = tt
 all_come law d c b are place system number (s ∷ subscribers) [] of_system accounts there = absurd accounts
 all_come law d c b are place system number (s ∷ subscribers) (x ∷ consumers) of_system accounts there =

@@ -13,19 +13,19 @@ use Rattle.cdc_ends.specs.SubscriberEnds.{AskedClose, ClosesAfter, DeliveriesAre
 use Rattle.cdc_laws.specs.Arrivals.{taken_after, taken_of}
 use Rattle.cdc_laws.specs.Brokers.{HasHandedOut}
 use Rattle.cdc_laws.specs.ConnectorRuns.{Shown}
-use Rattle.cdc_laws.specs.Connectors.{IsLive, KeepsTo, held_number, shown_of}
+use Rattle.cdc_laws.specs.Connectors.{IsLive, KeepsTo, held_number, held_start, shown_of}
 use Rattle.cdc_laws.specs.Deliveries.{deliveries, items_in}
 use Rattle.cdc_laws.specs.Faithful.{IsFaithful, applied}
 use Rattle.cdc_laws.specs.Hearing.{HasTaken, HearsOf, IsTrafficOf, Traffic}
-use Rattle.cdc_laws.specs.Line.{feed_of, line, told}
+use Rattle.cdc_laws.specs.Line.{feed_after, line_after, told}
 use Rattle.cdc_laws.specs.RunLaws.{SubscribersOfRunsAreFaithful}
 use Rattle.cdc_laws.specs.StepLaws.{ConnectorsMakeRuns}
 use Rattle.cdc_laws.proofs.Deliveries.{items_in-deliveries, length-deliveries}
-use Rattle.cdc_laws.proofs.Feeds.{queue-line, rises-told}
+use Rattle.cdc_laws.proofs.Feeds.{queue-line_after, rises-told}
 use Rattle.cdc_laws.proofs.Hearing.{IsReplay-of_queue, IsReplay-of_run}
 use Rattle.cdc_laws.proofs.Places.{Contains-cons_cases, none_there, slice_get-behind}
 use Rattle.cdc_laws.proofs.Replays.{Contains-map, Contains-unmap}
-use Rattle.cdc_laws.proofs.Rising.{feed_rises}
+use Rattle.cdc_laws.proofs.Rising.{feed_after_rises}
 use Rattle.cdc_laws.proofs.Sessions.{IsPublished, IsPublished-sent, one_session}
 use Rattle.cdc_laws.proofs.Taking.{item_taken, taken_after-false, taken_after-true}
 use Rattle.cdc_ledger.specs.History.{History}
@@ -124,7 +124,8 @@ all_arrived arrived packet there =
 
 -- a session that is the latest of those that have sent something, and has sent its end mark, shows it behind its events
 module _ (h : History) (p : Passage) (keeps : KeepsTo h p.connector)
-    (live : IsLive h p.connector.confirms keeps.sessions (held_number p.connector.held) p.course) where
+    (live : IsLive h (held_start p.connector.held) p.connector.confirms keeps.sessions
+    (held_number p.connector.held) p.course) where
   abbrev last_tag : ℕ
   last_tag = length p.course.offered + 1
 
@@ -143,7 +144,7 @@ module _ (h : History) (p : Passage) (keeps : KeepsTo h p.connector)
             let among : Contains keeps.sessions latest =
             subst (λ ss. Contains ss latest) (sym stands.1.1) (0, omega arith, refl) in
             let same : published.session ≡ latest =
-            one_session h p.connector.confirms keeps.sessions published.session latest keeps.each published.among among
+            one_session h (held_start p.connector.held) p.connector.confirms keeps.sessions published.session latest keeps.each published.among among
             published.its in
             let items : List Item = map OfEvent p.course.offered in
             let shown : slice_get (take (tags_sent p.course) (told p.course.offered true)) published.place ≡ Some item =
@@ -210,6 +211,9 @@ module _ (on : StandsOn) (p : Passage) (q : QueueState) (taken : List Delivery) 
   abbrev h : History
   h = history_of p.past
 
+  abbrev start : ℕ
+  start = held_start p.connector.held
+
   abbrev heard : Heard
   heard = heard_by close_after taken
 
@@ -241,7 +245,7 @@ module _ (on : StandsOn) (p : Passage) (q : QueueState) (taken : List Delivery) 
       is.goes_on in
       is.keeps h (on.readings p.received is.front.rest p.past lawful goes_on)
 
-  is_traffic : IsTrafficOf h p.broker traffic
+  is_traffic : IsTrafficOf h start p.broker traffic
   is_traffic = record {
     run = on.runs h p.connector keeps;
     packets = is.packets;
@@ -258,27 +262,27 @@ module _ (on : StandsOn) (p : Passage) (q : QueueState) (taken : List Delivery) 
     hears = on.heard close_after taken;
   }
 
-  is_faithful : IsFaithful h q.binding heard
-  is_faithful = on.faithful h p.broker traffic q heard sound is_traffic among hears
+  is_faithful : IsFaithful h start q.binding heard
+  is_faithful = on.faithful h start p.broker traffic q heard sound is_traffic among hears
 
   -- what it has applied, told in the subscriber's own words
   same_applied : applied heard ≡ applied_of heard
   same_applied =
       let items : List Item = items_of (taken_of p.arrived) in
-      let took : IsReplay items (line h) = IsReplay-of_run h p.broker traffic sound is_traffic in
+      let took : IsReplay items (line_after h start) = IsReplay-of_run h start p.broker traffic sound is_traffic in
       let its : IsReplay heard.items (queue items q.binding) =
       subst (IsReplay heard.items) (its_items p.broker items q is.arrives.queues among)
       (IsReplay-of_queue q heard hears) in
-      let of_line : IsReplay heard.items (queue (line h) q.binding) =
-      IsReplay-trans heard.items (queue items q.binding) (queue (line h) q.binding) its
-      (IsReplay-filter (takes_item q.binding) items (line h) took) in
-      rises-told (feed_of h q.binding) (feed_rises h q.binding sound) h.closed heard.items
-      (subst (IsReplay heard.items) (queue-line h q.binding) of_line)
+      let of_line : IsReplay heard.items (queue (line_after h start) q.binding) =
+      IsReplay-trans heard.items (queue items q.binding) (queue (line_after h start) q.binding) its
+      (IsReplay-filter (takes_item q.binding) items (line_after h start) took) in
+      rises-told (feed_after h start q.binding) (feed_after_rises h start q.binding sound) h.closed heard.items
+      (subst (IsReplay heard.items) (queue-line_after h start q.binding) of_line)
 
   -- the end mark has come to its queue
   end_in_queue : Contains q.items EndMark
   end_in_queue =
-      let live : IsLive h p.connector.confirms keeps.sessions (held_number p.connector.held) p.course =
+      let live : IsLive h start p.connector.confirms keeps.sessions (held_number p.connector.held) p.course =
       keeps.live p.course is.runs in
       let parts = and_parts p.course.complete (is_confirmed p.course (length p.course.offered + 1)) is.done in
       let confirmed = live.confirmed (length p.course.offered + 1) parts.1 in
@@ -309,7 +313,7 @@ module _ (on : StandsOn) (p : Passage) (q : QueueState) (taken : List Delivery) 
     as_many : length (applied heard) ≡ length (applied_of heard)
     as_many = ap (λ (l : List Event). length l) same_applied
 
-    comes_enough : n ≤ length (feed_of h q.binding) → ClosesWith n heard
+    comes_enough : n ≤ length (feed_after h start q.binding) → ClosesWith n heard
     comes_enough many =
         elim (cases_Bool heard.closed) [
           | inl shut ↦
@@ -317,29 +321,29 @@ module _ (on : StandsOn) (p : Passage) (q : QueueState) (taken : List Delivery) 
               record { shut = shut; not_ended = at.1; count = as_many ∙ at.0 }
           | inr not_closed ↦
               let told = is_faithful.whole (ends_open not_closed).ended in
-              let all : length (applied heard) ≡ length (feed_of h q.binding) =
+              let all : length (applied heard) ≡ length (feed_after h start q.binding) =
               ap (λ (l : List Event). length l) told.1 in
               let few = closes.open_yet not_closed in
               absurd (omega (arith, as_many))
         ]
 
-    comes_few : length (feed_of h q.binding) < n → EndsOpen heard
+    comes_few : length (feed_after h start q.binding) < n → EndsOpen heard
     comes_few few =
         elim (cases_Bool heard.closed) [
           | inl shut ↦
               let at = closes.shut shut in
-              let front : applied heard ++ is_faithful.prefix.rest ≡ feed_of h q.binding = is_faithful.prefix.whole in
+              let front : applied heard ++ is_faithful.prefix.rest ≡ feed_after h start q.binding = is_faithful.prefix.whole in
               let sum : length (applied heard ++ is_faithful.prefix.rest)
               ≡ length (applied heard) + length is_faithful.prefix.rest =
               length-append (applied heard) is_faithful.prefix.rest in
-              let same : length (applied heard ++ is_faithful.prefix.rest) ≡ length (feed_of h q.binding) =
+              let same : length (applied heard ++ is_faithful.prefix.rest) ≡ length (feed_after h start q.binding) =
               ap (λ (l : List Event). length l) front in
               let count : length (applied_of heard) ≡ n = at.0 in
               absurd (omega (arith, as_many))
           | inr not_closed ↦ ends_open not_closed
         ]
 
-  comes : HasCome h q.binding close_after heard
+  comes : HasCome h start q.binding close_after heard
   comes = record {
     faithful = is_faithful;
     unasked = λ none. ends_open (on.unasked close_after taken none);

@@ -1,7 +1,7 @@
 -- What of a run is the same in whatever order its threads came.
-use Rattle.std.specs.Prelude.{◌≡◌, ℕ, true, false, Option, Result, List, [], ◌∷◌, fold, map}
+use Rattle.std.specs.Prelude.{◌≡◌, ℕ, true, false, Option, Result, List, [], ◌∷◌, ◌++◌, All, fold, map}
 use Rattle.cdc_ends.specs.SubscriberEnds.{is_asked}
-use Rattle.cdc_laws.specs.Line.{line}
+use Rattle.cdc_laws.specs.Line.{line_after}
 use Rattle.cdc_ledger.specs.declared.errors.BatchError.{BatchError}
 use Rattle.cdc_ledger.specs.History.{History, empty_history}
 use Rattle.cdc_ledger.specs.Submit.{history_or, submit}
@@ -29,25 +29,31 @@ pub record IsServedAlone (ledger : History) (replies : List Reply) : Type 0 wher
   pub ledger_is : ledger ≡ history_of (record { batches = map (λ r. r.batch) replies; closed = true })
   pub answers : map (λ r. r.answer) replies ≡ answers_from empty_history (map (λ r. r.batch) replies)
 
--- what a subscriber keeps that takes its queue of all that the ledger has to tell, each item once and in order
-abbrev pub kept_of_line : History → Arguments → Kept
-kept_of_line h binding = kept_of (fold next nothing (queue (line h) binding))
+-- what a subscriber keeps that takes its queue of all that the ledger has to tell after this start, each item once and in
+-- order
+abbrev pub kept_of_line : History → ℕ → Arguments → Kept
+kept_of_line h start binding = kept_of (fold next nothing (queue (line_after h start) binding))
+
+-- clients that were replied nothing
+abbrev pub HaveNone : List (List Reply) → Type 0
+HaveNone replies = All (λ own. own ≡ []) replies
 
 -- ---- laws
 
--- so it is where a run has one client
+-- so it is where the clients before one and after it were replied nothing, whichever its number
 abbrev pub LoneClientsAreServedAlone : Type 0
-LoneClientsAreServedAlone = (order : List (ℕ × Batch)) (ledger : History) (replies : List Reply)
-    → AreBooks order ledger (replies ∷ []) → IsServedAlone ledger replies
+LoneClientsAreServedAlone = (order : List (ℕ × Batch)) (ledger : History) (before : List (List Reply))
+    (replies : List Reply) (after : List (List Reply)) → HaveNone before → HaveNone after
+    → AreBooks order ledger (before ++ replies ∷ after) → IsServedAlone ledger replies
 
 -- a subscriber that wasn't asked to close keeps just that
 abbrev pub UnaskedKeepTheLine : Type 0
-UnaskedKeepTheLine = (h : History) (binding : Arguments) (close_after : Option ℕ) (subscriber : Kept)
-    → is_asked close_after ≡ false → IsSubscribed h binding close_after subscriber
-    → subscriber ≡ kept_of_line h binding
+UnaskedKeepTheLine = (h : History) (start : ℕ) (binding : Arguments) (close_after : Option ℕ) (subscriber : Kept)
+    → is_asked close_after ≡ false → IsSubscribed h start binding close_after subscriber
+    → subscriber ≡ kept_of_line h start binding
 
 -- so do all subscribers from a number on, where none of them was asked to
 abbrev pub AllKeepTheLine : Type 0
-AllKeepTheLine = (number : ℕ) (h : History) (bindings : List Arguments) (closes : List (Option ℕ))
-    (subscribers : List Kept) → AreCloses number [] closes → AreSubscribed h bindings closes subscribers
-    → subscribers ≡ map (kept_of_line h) bindings
+AllKeepTheLine = (number : ℕ) (h : History) (start : ℕ) (bindings : List Arguments) (closes : List (Option ℕ))
+    (subscribers : List Kept) → AreCloses number [] closes → AreSubscribed h start bindings closes subscribers
+    → subscribers ≡ map (kept_of_line h start) bindings

@@ -5,6 +5,7 @@ pub mod Configs
 pub mod Determined
 pub mod Jobs
 pub mod Made
+pub mod Meeting
 pub mod Outcomes
 pub mod Passing
 pub mod Plans

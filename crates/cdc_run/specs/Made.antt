@@ -47,12 +47,13 @@ made_clients system requests number (answers ∷ rest) = record {
   fault = None;
 } ∷ made_clients system requests (number + 1) rest
 
--- a connector that has said nothing, over a store that holds this
-abbrev pub made_connector : ℕ → Wiring → Option Saved → Bool → ℕ → List ℕ → ConnectorEndState
-made_connector system w held honest window restarts = record {
+-- a connector that has said nothing, over a store that holds this; its first session is to start after this moment, if
+-- there is one
+abbrev pub made_connector : ℕ → Wiring → Option Saved → Bool → Option ℕ → ℕ → List ℕ → ConnectorEndState
+made_connector system w held honest start window restarts = record {
   system = system;
   work = first_work (fresh_inbox w.to_connector 2) (fresh_end w.to_ledger 0) (fresh_end w.to_broker 0) held honest
-      window restarts;
+      start window restarts;
   fault = None;
 }
 
@@ -105,7 +106,7 @@ pub record AreMade {S : Type 0} (config : Config) (faults : Faults) (held : Opti
   pub ledger : ends.ledger ≡ made_ledger config.system wiring
   pub clients : ends.clients.items ≡ made_clients config.system wiring.to_ledger 1 wiring.to_clients
   pub connector : ends.connector
-      ≡ made_connector config.system wiring held honest config.window faults.restart_after.items
+      ≡ made_connector config.system wiring held honest config.start config.window faults.restart_after.items
   pub broker : ends.broker ≡ made_broker config faults wiring
   pub subscribers : ends.subscribers.items
       ≡ made_subscribers config.system wiring.to_broker 1 wiring.to_subscribers closes

@@ -1,7 +1,7 @@
 -- What several ends of a run have come to, and which fault counts.
 use Rattle.std.specs.Prelude.{◌≡◌, Bool, true, false, Option, Some, None, Result, Ok, Err, List, [], ◌∷◌, map, if◌then◌else◌}
 use Rattle.cdc_ends.specs.declared.faults.RunFault.{RunFault}
-use Rattle.cdc_ends.specs.declared.faults.RunFault.TheVariants.{PeerGone, OutOfMemory, Store, SessionsExhausted, NotOneSystem}
+use Rattle.cdc_ends.specs.declared.faults.RunFault.TheVariants.{PeerGone, OutOfMemory, Store, SessionsExhausted, NotOneSystem, StartNotAllowed}
 use Rattle.cdc_run.specs.declared.outcomes.Gathered.{Gathered}
 
 -- the fault is that a peer is gone, as it is where that one met a fault of its own
@@ -11,6 +11,7 @@ is_peer_gone OutOfMemory = false
 is_peer_gone (Store why) = false
 is_peer_gone SessionsExhausted = false
 is_peer_gone NotOneSystem = false
+is_peer_gone StartNotAllowed = false
 
 -- the later one, if there is one, or else this one
 abbrev pub later_or : RunFault → Option RunFault → Option RunFault

@@ -3,7 +3,7 @@
 use Rattle.std.specs.Prelude.{◌≡◌, ℕ, ◌+◌, true, Option, Some, List, ◌++◌, slice_get}
 use Rattle.cdc_broker.specs.Broker.{queue_of}
 use Rattle.cdc_ends.specs.BrokerEnds.{Desk as BrokerDesk, IsBrokerEnd, dealings_of}
-use Rattle.cdc_ends.specs.ConnectorEnds.{IsConnectorEnd, Publishing, connector_of, start_of}
+use Rattle.cdc_ends.specs.ConnectorEnds.{IsAtStart, IsConnectorEnd, Publishing, connector_of, origin_of}
 use Rattle.cdc_ends.specs.LedgerEnds.{Desk as LedgerDesk, IsDesk, past_of_inbox}
 use Rattle.cdc_ends.specs.SubscriberEnds.{Intake, IsSubscriberEnd}
 use Rattle.cdc_ends.specs.declared.consumers.Consumer.{Consumer}
@@ -18,14 +18,13 @@ use Rattle.cdc_run.specs.Accounts.{IsAccounted}
 use Rattle.cdc_run.specs.Subscribing.{HasCome, HasPassed, Passage}
 
 -- a ledger's end, a connector and a broker that have finished, wired together, with what was left in the links to the
--- connector and to the broker; and the connector's store is honest, and held nothing or the timestamp 0 as the run
--- began
+-- connector and to the broker; and the connector's store is honest, and the run began at its start
 pub record AreThrough (d : LedgerDesk) (c : Publishing) (b : BrokerDesk) : Type 0 where
   pub desk : IsDesk d
   pub connector : IsConnectorEnd c
   pub over : c.finished ≡ true
   pub honest : c.honest ≡ true
-  pub start : start_of c.first c.held ≡ 0
+  pub origin : IsAtStart (origin_of c)
   pub broker : IsBrokerEnd b
   pub finished : b.finished ≡ true
   pub lawful : CanSend FollowsToConnector 0 d.connector.sent
@@ -54,10 +53,11 @@ pub record HasStopped (consumer : Consumer) (s : Intake) : Type 0 where
   pub finished : s.finished ≡ true
   pub account : IsAccounted s.inbox consumer.link
 
--- against the ledger of a desk, the subscriber of this queue has come so far, and its state is what is kept of that
-pub record ComesOf (d : LedgerDesk) (b : BrokerDesk) (place : ℕ) (s : Intake) : Type 0 where
+-- against the ledger of a desk after this start, the subscriber of this queue has come so far, and its state is what is
+-- kept of that
+pub record ComesOf (d : LedgerDesk) (start : ℕ) (b : BrokerDesk) (place : ℕ) (s : Intake) : Type 0 where
   pub heard : Heard
-  pub come : HasCome d.ledger (queue_of b.broker (place + 1)).binding s.close_after heard
+  pub come : HasCome d.ledger start (queue_of b.broker (place + 1)).binding s.close_after heard
   pub keeps : s.subscriber ≡ kept_of heard
 
 -- ---- laws
@@ -70,4 +70,5 @@ EndsPass = (d : LedgerDesk) (c : Publishing) (b : BrokerDesk) → AreThrough d c
 -- and each subscriber has come to what it may rely on
 abbrev pub EndsCome : Type 0
 EndsCome = (d : LedgerDesk) (c : Publishing) (b : BrokerDesk) (place : ℕ) (consumer : Consumer) (s : Intake)
-    → AreThrough d c b → slice_get b.consumers place ≡ Some consumer → HasStopped consumer s → ComesOf d b place s
+    → AreThrough d c b → slice_get b.consumers place ≡ Some consumer → HasStopped consumer s
+    → ComesOf d (origin_of c).start b place s

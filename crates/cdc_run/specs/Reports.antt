@@ -13,7 +13,7 @@ use Rattle.cdc_types.specs.declared.batches.Batch.{Batch}
 use Rattle.cdc_run.specs.Accounts.{IsRefused}
 use Rattle.cdc_run.specs.Books.{AreBooks}
 use Rattle.cdc_run.specs.ClientMail.{AreClientsOf}
-use Rattle.cdc_run.specs.Seats.{broker_seat, connector_seat}
+use Rattle.cdc_run.specs.Seats.{at_start, broker_seat, connector_seat}
 use Rattle.cdc_run.specs.SubscriberMail.{AreSubscribersOf}
 use Rattle.cdc_run.specs.Subscribing.{HasCome}
 use Rattle.cdc_run.specs.declared.ends.Ends.{Ends}
@@ -23,21 +23,21 @@ use Rattle.cdc_run.specs.declared.reports.Report.{Report}
 abbrev pub replies_of : Report → List (List Reply)
 replies_of report = map (λ v. v.items) report.replies.items
 
--- against this ledger a subscriber has come to what it may rely on, and this is what it keeps
-pub record IsSubscribed (h : History) (binding : Binding) (close_after : Option ℕ) (subscriber : Kept) : Type 0 where
+-- against this ledger a subscriber has come to what it may rely on after this start, and this is what it keeps
+pub record IsSubscribed (h : History) (start : ℕ) (binding : Binding) (close_after : Option ℕ) (subscriber : Kept) : Type 0 where
   pub heard : Heard
-  pub come : HasCome h binding close_after heard
+  pub come : HasCome h start binding close_after heard
   pub keeps : subscriber ≡ kept_of heard
 
 -- so has each subscriber; there is one for each binding
-abbrev pub AreSubscribed : History → List Binding → List (Option ℕ) → List Kept → Type 0
-AreSubscribed h [] [] [] = Unit {0}
-AreSubscribed h [] [] (subscriber ∷ subscribers) = ⊥
-AreSubscribed h [] (close ∷ closes) subscribers = ⊥
-AreSubscribed h (binding ∷ bindings) [] subscribers = ⊥
-AreSubscribed h (binding ∷ bindings) (close ∷ closes) [] = ⊥
-AreSubscribed h (binding ∷ bindings) (close ∷ closes) (subscriber ∷ subscribers) =
-    IsSubscribed h binding close subscriber × AreSubscribed h bindings closes subscribers
+abbrev pub AreSubscribed : History → ℕ → List Binding → List (Option ℕ) → List Kept → Type 0
+AreSubscribed h start [] [] [] = Unit {0}
+AreSubscribed h start [] [] (subscriber ∷ subscribers) = ⊥
+AreSubscribed h start [] (close ∷ closes) subscribers = ⊥
+AreSubscribed h start (binding ∷ bindings) [] subscribers = ⊥
+AreSubscribed h start (binding ∷ bindings) (close ∷ closes) [] = ⊥
+AreSubscribed h start (binding ∷ bindings) (close ∷ closes) (subscriber ∷ subscribers) =
+    IsSubscribed h start binding close subscriber × AreSubscribed h start bindings closes subscribers
 
 -- ends of one system, all of its places, each of which has finished and has met no fault
 pub record AreFinished {S : Type 0} (ends : Ends S) : Type 0 where
@@ -52,14 +52,14 @@ pub record AreFinished {S : Type 0} (ends : Ends S) : Type 0 where
   pub subscribers : AreSubscribersOf ends.ledger.system 1 ends.subscribers.items
 
 -- what ends that have finished come to. All batches, in the order in which the ledger's end has received them, give the
--- ledger and the replies; and where the connector's store is honest and held nothing or the timestamp 0 as the run
--- began, each subscriber has come to what it may rely on
+-- ledger and the replies; and where the connector's store is honest, and the run began at this start, each
+-- subscriber has come to what it may rely on after it
 pub record IsReportOf {S : Type 0} (ends : Ends S) (report : Report) : Type 0 where
   pub finished : AreFinished ends
   pub replies : replies_of report ≡ map (λ c. c.talk.replies) ends.clients.items
   pub books : AreBooks (order_of ends.ledger.desk.inbox.received) report.ledger (replies_of report)
-  pub subscribers : (connector_seat ends.connector).start ≡ Some 0
-      → AreSubscribed report.ledger (broker_seat ends.broker).bindings
+  pub subscribers : (start : ℕ) → (connector_seat ends.connector).origin ≡ Some (at_start start)
+      → AreSubscribed report.ledger start (broker_seat ends.broker).bindings
       (map (λ s. s.intake.close_after) ends.subscribers.items) report.subscribers.items
 
 -- nothing is reported: the ends aren't of one system that has finished, or there was no memory to put them together

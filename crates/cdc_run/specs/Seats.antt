@@ -2,7 +2,7 @@
 use Rattle.std.specs.Prelude.{ℕ, Bool, Option, Some, None, List, map, if◌then◌else◌}
 use Rattle.cdc_ends.specs.BrokerEnds.{BrokerEndState}
 use Rattle.cdc_ends.specs.Clients.{ClientState}
-use Rattle.cdc_ends.specs.ConnectorEnds.{ConnectorEndState, start_of}
+use Rattle.cdc_ends.specs.ConnectorEnds.{ConnectorEndState, Origin, origin_of}
 use Rattle.cdc_ends.specs.LedgerEnds.{LedgerEndState, links_of}
 use Rattle.cdc_ends.specs.SubscriberEnds.{SubscriberState}
 use Rattle.cdc_links.specs.Links.{LinkId}
@@ -46,20 +46,20 @@ client_seat end = record {
   answers = end.talk.answers.link;
 }
 
--- the connector's: its system, its inbox, over which links it polls and publishes, whether its store is honest, the
--- timestamp that an honest one held as the run began, its window, and its plan of restarts
+-- the connector's: its system, its inbox, over which links it polls and publishes, whether its store is honest, where
+-- the run began over an honest one, its window, and its plan of restarts
 pub record ConnectorSeat : Type 0 where
   pub system : ℕ
   pub inbox : LinkId ToConnector
   pub polls : LinkId ToLedger
   pub packets : LinkId ToBroker
   pub honest : Bool
-  pub start : Option ℕ
+  pub origin : Option Origin
   pub window : ℕ
   pub restarts : List ℕ
 
-abbrev pub start_if : Bool → ℕ → Option ℕ
-start_if honest start = if honest then Some start else None
+abbrev pub origin_if : Bool → Origin → Option Origin
+origin_if honest origin = if honest then Some origin else None
 
 abbrev pub connector_seat : ConnectorEndState → ConnectorSeat
 connector_seat end = record {
@@ -68,10 +68,14 @@ connector_seat end = record {
   polls = end.work.polls.link;
   packets = end.work.packets.link;
   honest = end.work.honest;
-  start = start_if end.work.honest (start_of end.work.first end.work.held);
+  origin = origin_if end.work.honest (origin_of end.work);
   window = end.work.window;
   restarts = end.work.restarts;
 }
+
+-- where the first session of a run begins right after its start
+abbrev pub at_start : ℕ → Origin
+at_start start = record { after = start; start = start }
 
 -- the broker's: its system, its inbox, over which links it confirms and hands out, and the bindings of its queues
 pub record BrokerSeat : Type 0 where

@@ -2,7 +2,7 @@
 use Rattle.std.specs.Prelude.{◌≡◌, ℕ, ◌+◌, true, Option, List, [], ◌∷◌, All, length, map}
 use Rattle.std.specs.List.{AllZip}
 use Rattle.cdc_ends.specs.BrokerEnds.{Desk as BrokerDesk}
-use Rattle.cdc_ends.specs.ConnectorEnds.{IsConnectorEnd, Publishing, start_of}
+use Rattle.cdc_ends.specs.ConnectorEnds.{IsAtStart, IsConnectorEnd, Publishing, origin_of}
 use Rattle.cdc_ends.specs.LedgerEnds.{Desk as LedgerDesk, IsDesk}
 use Rattle.cdc_ends.specs.SubscriberEnds.{Intake, SubscriberState}
 use Rattle.cdc_links.specs.Links.{Incoming, Outgoing}
@@ -31,18 +31,18 @@ pub record AreJoined (m : Middle) (b : BrokerDesk) (subscribers : List Subscribe
       → AllZip IsOnlySender (map (λ s. s.inbox) (intakes_of subscribers)) (map (λ c. c.link) b.consumers)
 
 -- they are what a ledger's end and a connector that has finished had of them; and the connector's store is honest, and
--- held nothing or the timestamp 0 as the run began
+-- the run began at its start
 pub record AreLeftBy (d : LedgerDesk) (c : Publishing) (m : Middle) : Type 0 where
   pub desk : IsDesk d
   pub connector : IsConnectorEnd c
   pub over : c.finished ≡ true
   pub honest : c.honest ≡ true
-  pub start : start_of c.first c.held ≡ 0
+  pub origin : IsAtStart (origin_of c)
   pub inbox : c.inbox ≡ m.inbox
   pub replies : d.connector ≡ m.replies
   pub packets : c.packets ≡ m.packets
 
--- the subscribers from this place on have come to what they may rely on
-abbrev pub AllCome : LedgerDesk → BrokerDesk → ℕ → List Intake → Type 0
-AllCome d b place [] = Unit {0}
-AllCome d b place (s ∷ subscribers) = ComesOf d b place s × AllCome d b (place + 1) subscribers
+-- the subscribers from this place on have come to what they may rely on after this start
+abbrev pub AllCome : LedgerDesk → ℕ → BrokerDesk → ℕ → List Intake → Type 0
+AllCome d start b place [] = Unit {0}
+AllCome d start b place (s ∷ subscribers) = ComesOf d start b place s × AllCome d start b (place + 1) subscribers

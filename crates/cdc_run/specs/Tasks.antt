@@ -1,12 +1,13 @@
 -- What each end of a run leaves once it has worked: it has finished, and stands where it stood.
-use Rattle.std.specs.Prelude.{◌≡◌, ℕ, ◌+◌, true, List, [], ◌∷◌, ◌++◌, ◌&&◌, is_none, map}
+use Rattle.std.specs.Prelude.{◌≡◌, ℕ, ◌+◌, true, Some, List, [], ◌∷◌, ◌++◌, ◌&&◌, is_none, map}
 use Rattle.std.specs.List.{AllZip}
 use Rattle.cdc_ends.specs.BrokerEnds.{BrokerEndState}
-use Rattle.cdc_ends.specs.BrokerTurns.{has_finished as broker_has_finished}
-use Rattle.cdc_ends.specs.Clients.{ClientState, has_finished as client_has_finished}
-use Rattle.cdc_ends.specs.ConnectorEnds.{ConnectorEndState, has_finished as connector_has_finished}
-use Rattle.cdc_ends.specs.LedgerEnds.{LedgerEndState, has_finished as ledger_has_finished}
-use Rattle.cdc_ends.specs.SubscriberEnds.{SubscriberState}
+use Rattle.cdc_ends.specs.BrokerTurns.{IsTurnFault as IsBrokerFault, has_finished as broker_has_finished}
+use Rattle.cdc_ends.specs.Clients.{ClientState, IsTurnFault as IsClientFault, has_finished as client_has_finished}
+use Rattle.cdc_ends.specs.ConnectorEnds.{ConnectorEndState, IsTurnFault as IsConnectorFault, has_finished as connector_has_finished}
+use Rattle.cdc_ends.specs.LedgerEnds.{IsTurnFault as IsLedgerFault, LedgerEndState, has_finished as ledger_has_finished}
+use Rattle.cdc_ends.specs.SubscriberEnds.{IsTurnFault as IsSubscriberFault, SubscriberState}
+use Rattle.cdc_ends.specs.declared.faults.RunFault.{RunFault}
 use Rattle.cdc_run.specs.Scripted.{ScriptedState}
 use Rattle.cdc_run.specs.Seats.{broker_seat, client_seat, connector_seat, ledger_seat, subscriber_seat}
 use Rattle.cdc_run.specs.declared.ends.Ends.{Ends}
@@ -82,6 +83,34 @@ pub record BrokerLeaves (old new : BrokerEndState) : Type 0 where
 pub record SubscriberLeaves (old new : SubscriberState) : Type 0 where
   pub seat : subscriber_seat new ≡ subscriber_seat old
   pub done : (is_none new.fault && new.intake.finished) ≡ true
+
+-- ---- a fault
+
+-- an end that has met a fault keeps it, and it is one that such an end may meet
+abbrev pub LedgerMeets : LedgerEndState → RunFault → Type 0
+LedgerMeets end fault = (end.fault ≡ Some fault) × IsLedgerFault fault
+
+abbrev pub ClientMeets : ClientState → RunFault → Type 0
+ClientMeets end fault = (end.fault ≡ Some fault) × IsClientFault fault
+
+abbrev pub ConnectorMeets : ConnectorEndState → RunFault → Type 0
+ConnectorMeets end fault = (end.fault ≡ Some fault) × IsConnectorFault fault
+
+abbrev pub BrokerMeets : BrokerEndState → RunFault → Type 0
+BrokerMeets end fault = (end.fault ≡ Some fault) × IsBrokerFault fault
+
+abbrev pub SubscriberMeets : SubscriberState → RunFault → Type 0
+SubscriberMeets end fault = (end.fault ≡ Some fault) × IsSubscriberFault fault
+
+-- an end has worked until it met this fault
+abbrev pub Fails : {S : Type 0} → Task S → RunFault → Type 0
+Fails (task.Ledger old) fault = (left : LedgerEndState) × LedgerMeets left fault
+Fails (task.Client old) fault = (left : ClientState) × ClientMeets left fault
+Fails (task.Connector old) fault = (left : ConnectorEndState) × ConnectorMeets left fault
+Fails (task.Broker old) fault = (left : BrokerEndState) × BrokerMeets left fault
+Fails (task.Subscriber number old) fault = (left : SubscriberState) × SubscriberMeets left fault
+
+-- ---- all of them
 
 -- an end of one kind leaves one of that kind
 abbrev pub Leaves : {S : Type 0} → Task S → Left S → Type 0

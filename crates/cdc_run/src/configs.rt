@@ -4,7 +4,7 @@ ghost use Rattle.std.specs.Prelude.{◌↔◌, IsTrue};
 ghost use Rattle.cdc_run.specs.Configs.{Fits};
 
 use cdc_match::Binding;
-use cdc_types::Limits;
+use cdc_types::{Limits, Moment};
 
 /// What a run is asked for.
 #[derive(Drop)]
@@ -20,6 +20,9 @@ pub struct Config {
     pub window: usize,
     /// How many deliveries of a queue may be without an acknowledgement.
     pub prefetch: u64,
+    /// The moment, in nanoseconds, that the connector's first session is told to start after, if it is: lawful only where
+    /// no progress is saved.
+    pub start: Option<Moment>,
 }
 
 impl Config {

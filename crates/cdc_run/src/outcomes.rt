@@ -23,6 +23,7 @@ fn is_gone(fault: RunFault) -> bool
         RunFault::Store(_) => false,
         RunFault::SessionsExhausted => false,
         RunFault::NotOneSystem => false,
+        RunFault::StartNotAllowed => false,
     }
 }
 

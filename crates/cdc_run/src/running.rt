@@ -2,7 +2,7 @@
 
 ghost use Rattle.std.specs.Prelude.{IfErr, IfOk};
 ghost use Rattle.std.specs.List.{AllZip};
-ghost use Rattle.cdc_run.specs.Tasks.{Leaves};
+ghost use Rattle.cdc_run.specs.Tasks.{Fails, Leaves};
 ghost use Rattle.cdc_run.specs.Worked.{IsFaultOf};
 
 use crate::gates::Gate;
@@ -23,7 +23,7 @@ pub(crate) fn run_ends<S: ProgressStore + Send + Drop, R: Threads + Wait + Sync,
     ends: Vec<Task<S>>,
 ) -> Result<Vec<Left<S>>, RunFault>
     ensures left { IfOk result (λ left. AllZip Leaves ends.items left.items) }
-    ensures fault { IfErr result (IsFaultOf Leaves ends.items) }
+    ensures fault { IfErr result (IsFaultOf Leaves Fails ends.items) }
 {
     run_jobs(rt, alloc, gate, ends)
 }

@@ -1,9 +1,11 @@
 //! A run: every end on a thread of its own.
 
-ghost use Rattle.std.specs.Prelude.{◌≡◌, All, Option, IfOk, List, ℕ, false, map, true, vec_len};
-ghost use Rattle.cdc_laws.specs.Connectors.{held_timestamp};
+ghost use Rattle.std.specs.Prelude.{◌≡◌, All, Option, IfErr, IfOk, List, ℕ, false, map, true, vec_len};
+ghost use Rattle.cdc_ends.specs.ConnectorEnds.{first_origin};
+ghost use Rattle.cdc_laws.specs.Connectors.{held_start, held_timestamp};
 ghost use Rattle.cdc_run.specs.Configs.{Fits};
 ghost use Rattle.cdc_run.specs.Made.{AreCloses};
+ghost use Rattle.cdc_run.specs.Meeting.{IsRunFault};
 ghost use Rattle.cdc_run.specs.Reports.{AreSubscribed, HasRun};
 ghost use Rattle.cdc_run.specs.Tasks.{Placed, left_at, places_of, tasks_at};
 
@@ -92,7 +94,7 @@ fn ends_of<S: ProgressStore + Drop>(
 
 /// Runs a ledger, its clients, a connector, a broker and its subscribers, each on a thread of its own, until all have
 /// finished, and reports what they come to. Each client submits its script, in its order. The gate is asked before each
-/// turn. A fault is the first other than `PeerGone` in the order of the places, or `PeerGone` where there is no other.
+/// turn. Where the run is told to start after a moment, its first session is, and no later one. A fault is the first other than `PeerGone` in the order of the places, or `PeerGone` where there is no other.
 /// `OutOfMemory` is also that a thread can't be started.
 pub fn run<S: ProgressStore + Send + Drop, R: Threads + Wait + Sync, G: Gate + Sync>(
     rt: &R,
@@ -106,9 +108,11 @@ pub fn run<S: ProgressStore + Send + Drop, R: Threads + Wait + Sync, G: Gate + S
     requires fits { Fits config }
     requires scripts { vec_len scripts ≡ config.clients }
     ensures report { IfOk result (HasRun (map (λ s. s.items) scripts.items)) }
-    ensures subscribers { IfOk result (λ report. S.is_honest store ≡ true → held_timestamp (S.held store) ≡ 0
+    ensures fault { IfErr result (IsRunFault config.clients (vec_len config.bindings)) }
+    ensures subscribers { IfOk result (λ report. S.is_honest store ≡ true
+        → held_timestamp (S.held store) ≡ held_start (S.held store)
         → (closes : List (Option ℕ)) × AreCloses 1 faults.close.items closes
-        × AreSubscribed report.ledger config.bindings.items closes report.subscribers.items) }
+        × AreSubscribed report.ledger (first_origin config.start (S.held store)).start config.bindings.items closes report.subscribers.items) }
 {
     let ends = wire_up(alloc, config, faults, store)?;
     let tasks = tasks_of(alloc, ends, scripts)?;

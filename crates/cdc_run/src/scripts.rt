@@ -1,8 +1,9 @@
 //! A client's script: its batches, one after another, and then that it is done.
 
-ghost use Rattle.std.specs.Prelude.{◌≡◌, ◌++◌, IfOk, false, map, true};
-ghost use Rattle.cdc_ends.specs.Clients.{has_finished};
+ghost use Rattle.std.specs.Prelude.{◌≡◌, ◌++◌, IfErr, IfOk, false, map, true};
+ghost use Rattle.cdc_ends.specs.Clients.{ClientState, has_finished};
 ghost use Rattle.cdc_run.specs.Seats.{client_seat};
+ghost use Rattle.cdc_run.specs.Tasks.{ClientMeets};
 
 use crate::gates::Gate;
 use crate::places::Place;
@@ -25,6 +26,7 @@ pub(crate) fn run_script<R: Wait, G: Gate>(
     ensures done { IfOk result (λ left. has_finished left ≡ true) }
     ensures batches { IfOk result (λ left. map (λ r. r.batch) left.talk.replies
         ≡ map (λ r. r.batch) end.talk.replies ++ script.items) }
+    ensures met { IfErr result (λ fault. (left : ClientState) × ClientMeets left fault) }
 {
     let place = Place::Client(end.number());
     let mut turn: u64 = 0;

@@ -2,7 +2,7 @@
 
 ghost use Rattle.std.specs.Prelude.{◌≡◌, IfErr, IfOk, map};
 ghost use Rattle.cdc_ends.specs.BrokerEnds.{IsBrokerEnd};
-ghost use Rattle.cdc_ends.specs.ConnectorEnds.{Publishing};
+ghost use Rattle.cdc_ends.specs.ConnectorEnds.{Publishing, origin_of};
 ghost use Rattle.cdc_ends.specs.LedgerEnds.{Desk as LedgerDesk};
 ghost use Rattle.cdc_run.specs.Accounts.{IsRefused};
 ghost use Rattle.cdc_run.specs.Streams.{AllCome, AreJoined, AreLeftBy};
@@ -53,7 +53,7 @@ pub(crate) fn settle_streams(
         broker.desk subscribers.items }
     ensures come { IfOk result (λ _. (d : LedgerDesk) (c : Publishing)
         → AreLeftBy d c (record { inbox = inbox; replies = replies; packets = packets })
-        → AllCome d broker.desk 0 (intakes_of subscribers.items)) }
+        → AllCome d (origin_of c).start broker.desk 0 (intakes_of subscribers.items)) }
     ensures keeps { IfOk result (λ kept.
         kept.items ≡ map (λ s. s.subscriber) (intakes_of subscribers.items)) }
     ensures desk { IfOk result (λ _. IsBrokerEnd broker.desk) }

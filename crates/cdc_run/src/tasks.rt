@@ -12,11 +12,13 @@ use std::alloc::Global;
 use std::sync::Wait;
 
 impl<S: ProgressStore + Send + Drop> Job for Task<S> {
-    ghost use Rattle.cdc_run.specs.Tasks.{Leaves};
+    ghost use Rattle.cdc_run.specs.Tasks.{Fails, Leaves};
 
     type End = Left<S>;
 
     ghost ends_as = { Leaves };
+
+    ghost fails_as = { Fails };
 
     fn work<R: Wait, G: Gate>(self, rt: &R, alloc: Global, gate: &G) -> Result<Left<S>, RunFault> {
         match self {

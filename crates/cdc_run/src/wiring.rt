@@ -130,6 +130,7 @@ pub fn wire_up<S: ProgressStore + Drop>(
             polls,
             packets,
             store,
+            config.start,
             config.window,
             restart_after,
         ),

@@ -1,19 +1,24 @@
 -- What a run prints where one client hands in all batches.
-use Rattle.std.specs.Prelude.{◌≡◌, ℕ, true, List, [], All}
-use Rattle.cdc_laws.specs.Connectors.{held_timestamp}
+use Rattle.std.specs.Prelude.{◌≡◌, ◌<◌, ℕ, true, List, [], All, None}
+use Rattle.cdc_laws.specs.Connectors.{held_start, held_timestamp}
 use Rattle.cdc_script.specs.declared.scripts.Script.{Script}
 use Rattle.cdc_commands.specs.Printed.{printed_books}
 use Rattle.cdc_run_command.specs.Runs.{RunsTo, Setting, owners_of}
 
--- the first client hands in each batch of a script; it may have none
-abbrev pub HasOneClient : Script → Type 0
-HasOneClient script = All (λ client. client ≡ 1) (owners_of script.batches)
+-- one client, whichever its number, hands in each batch of a script; it may have none
+pub record HasOneClient (script : Script) : Type 0 where
+  pub client : ℕ
+  pub first : 0 < client
+  pub all : All (λ owner. owner ≡ client) (owners_of script.batches)
 
--- no subscriber is asked to close, and the store is honest and holds nothing or the timestamp 0
+-- no subscriber is asked to close, no session is told where to start, and the store is honest and holds nothing, or the
+-- timestamp 0 and the start 0
 pub record IsPlain (setting : Setting) : Type 0 where
   pub closes : setting.closes ≡ []
+  pub start : setting.start ≡ None
   pub honest : setting.honest ≡ true
   pub held : held_timestamp setting.held ≡ 0
+  pub held_from : held_start setting.held ≡ 0
 
 -- ---- laws
 

@@ -18,6 +18,7 @@ MayFailRun fault.OutOfMemory = Unit {0}
 MayFailRun fault.PeerGone = Unit {0}
 MayFailRun fault.SessionsExhausted = Unit {0}
 MayFailRun fault.NotOneSystem = Unit {0}
+MayFailRun fault.StartNotAllowed = Unit {0}
 
 -- these bytes are a script, and a run of it prints this
 pub record PrintsRun (setting : Setting) (bytes printed : List ℕ) : Type 0 where

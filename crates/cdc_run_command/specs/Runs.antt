@@ -1,6 +1,7 @@
 -- What a script comes to that is run on threads: each client hands in its own batches, whatever the others do.
 use Rattle.std.specs.Prelude.{◌≡◌, ◌==◌, ℕ, ◌+◌, zero, suc, true, Bool, List, [], ◌∷◌, ◌++◌, Option, filter, fold, length, map, max}
-use Rattle.cdc_laws.specs.Connectors.{held_timestamp}
+use Rattle.cdc_ends.specs.ConnectorEnds.{first_origin}
+use Rattle.cdc_laws.specs.Connectors.{held_start, held_timestamp}
 use Rattle.cdc_progress.specs.Records.{Saved}
 use Rattle.cdc_run.specs.Made.{AreCloses}
 use Rattle.cdc_run.specs.Reports.{AreSubscribed, HasRun, replies_of}
@@ -60,21 +61,23 @@ pub record PrintsReport (order : List ℕ) (report : Report) (printed : List ℕ
   pub merged : AreMerged order (replies_of report) replies
   pub prints : printed ≡ reply_lines 1 replies ++ kept_text 1 report.subscribers.items
 
--- what a run is given beside its script: when subscribers are to close, what its store holds, and whether that is
--- honest
+-- what a run is given beside its script: when subscribers are to close, the moment that its first session is told to start
+-- after, if it is, what its store holds, and whether that is honest
 pub record Setting : Type 0 where
   pub closes : List (ℕ × ℕ)
+  pub start : Option ℕ
   pub held : Option Saved
   pub honest : Bool
 
 -- a run of this script may come to this report: one order of all batches, each client's in its own order, gives the
--- ledger and the replies; and over an honest store that holds nothing or the timestamp 0 each subscriber has come to
--- what it may rely on
+-- ledger and the replies; and over an honest store that holds nothing, or a timestamp that is its start, each
+-- subscriber has come to what it may rely on after the start: the one that is held, or else the moment that was told, or 0
 pub record MayComeTo (setting : Setting) (script : Script) (report : Report) : Type 0 where
   pub run : HasRun (scripts_of script) report
-  pub subscribers : setting.honest ≡ true → held_timestamp setting.held ≡ 0
+  pub subscribers : setting.honest ≡ true → held_timestamp setting.held ≡ held_start setting.held
       → (closes : List (Option ℕ)) × (AreCloses 1 setting.closes closes
-      × AreSubscribed report.ledger script.bindings closes report.subscribers.items)
+      × AreSubscribed report.ledger (first_origin setting.start setting.held).start script.bindings closes
+      report.subscribers.items)
 
 -- a run of this script prints this, of some report that it may come to
 pub record RunsTo (setting : Setting) (script : Script) (printed : List ℕ) : Type 0 where

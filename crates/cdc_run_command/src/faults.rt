@@ -16,5 +16,6 @@ pub fn fault_of_run(fault: RunFault) -> ProgramFault
         RunFault::Store(error) => ProgramFault::from(error),
         RunFault::SessionsExhausted => ProgramFault::SessionsExhausted,
         RunFault::NotOneSystem => ProgramFault::NotOneSystem,
+        RunFault::StartNotAllowed => ProgramFault::StartNotAllowed,
     }
 }

@@ -1,6 +1,7 @@
 //! How a script is run on threads.
 
 use cdc_run::Faults;
+use cdc_types::Moment;
 
 /// How a script is run on threads.
 #[derive(Drop)]
@@ -11,4 +12,6 @@ pub struct RunPlan {
     pub prefetch: u64,
     /// What goes wrong in the run.
     pub faults: Faults,
+    /// The moment, in nanoseconds, that the connector's first session is told to start after, if it is.
+    pub start: Option<Moment>,
 }

@@ -42,6 +42,7 @@ pub fn run_of<T: Threads + Wait + Sync, S: ProgressStore + Send + Drop, G: Gate 
     requires { IsPlan plan }
     ensures output { IfOk result (λ output. RunCommandPrints (record {
       closes = plan.faults.close.items;
+      start = plan.start;
       held = S.held store;
       honest = S.is_honest store;
     }) (Some bytes.now) output.ending output.text.items) }
@@ -68,6 +69,7 @@ fn run_script<T: Threads + Wait + Sync, S: ProgressStore + Send + Drop, G: Gate 
     ensures output { (bytes : List ℕ) → script_of bytes ≡ Ok script
         → IfOk result (λ output. RunCommandPrints (record {
           closes = plan.faults.close.items;
+          start = plan.start;
           held = S.held store;
           honest = S.is_honest store;
         }) (Some bytes) output.ending output.text.items) }
@@ -92,6 +94,7 @@ fn run_clients<T: Threads + Wait + Sync, S: ProgressStore + Send + Drop, G: Gate
     requires script { IsRunnable script }
     ensures text { IfOk result (λ text. RunsTo (record {
       closes = plan.faults.close.items;
+      start = plan.start;
       held = S.held store;
       honest = S.is_honest store;
     }) script text.items) }
@@ -109,6 +112,7 @@ fn run_clients<T: Threads + Wait + Sync, S: ProgressStore + Send + Drop, G: Gate
         window,
         prefetch,
         faults,
+        start,
     } = plan;
     let config = Config {
         system: SYSTEM,
@@ -116,6 +120,7 @@ fn run_clients<T: Threads + Wait + Sync, S: ProgressStore + Send + Drop, G: Gate
         clients,
         window,
         prefetch,
+        start,
     };
     let report = match run(rt, alloc, config, scripts, faults, store, gate) {
         Ok(report) => report,
@@ -125,9 +130,10 @@ fn run_clients<T: Threads + Wait + Sync, S: ProgressStore + Send + Drop, G: Gate
 }
 
 /// Reads a script, runs it on threads, and prints what `run_of` says of its bytes. A command that gives up prints why,
-/// and nothing else; nothing is written after a write that failed. Where the first client hands in all batches of a
-/// script, no subscriber is asked to close, and the store is honest and holds nothing or the timestamp 0, the law
-/// `alone` says that what is printed of a run is what `books` prints.
+/// and nothing else; nothing is written after a write that failed. Where one client hands in all batches of a script,
+/// whichever its number, no subscriber is asked to close, no session is told where to start, and the store is honest and
+/// holds nothing, or the timestamp 0 and the start 0, the law `alone` says that what is printed of a run is what `books`
+/// prints.
 pub fn run_command<
     T: Threads + Wait + Sync,
     R: Read,
@@ -146,6 +152,7 @@ pub fn run_command<
     requires { IsPlan plan }
     ensures writes { Writes (RunCommandPrints (record {
       closes = plan.faults.close.items;
+      start = plan.start;
       held = S.held store;
       honest = S.is_honest store;
     }) (R.remaining reader.old)) (W.contents writer.old) (W.contents writer.new) result }
@@ -169,6 +176,7 @@ fn read_run<T: Threads + Wait + Sync, R: Read, S: ProgressStore + Send + Drop, G
     requires { IsPlan plan }
     ensures output { IfOk result (λ output. RunCommandPrints (record {
       closes = plan.faults.close.items;
+      start = plan.start;
       held = S.held store;
       honest = S.is_honest store;
     }) (R.remaining reader.old) output.ending output.text.items) }

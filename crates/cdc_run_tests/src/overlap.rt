@@ -184,6 +184,7 @@ fn config_of(bindings: Vec<Binding>) -> Config
         clients: 1,
         window: 1,
         prefetch: 8,
+        start: None,
     }
 }
 

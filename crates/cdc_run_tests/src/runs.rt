@@ -14,6 +14,7 @@ fn a_run_of_one_client_and_one_subscriber_fits(rt: HostRuntime) {
         clients: 1,
         window: 1,
         prefetch: 8,
+        start: None,
     };
     assert!(rt; config.fits());
 }

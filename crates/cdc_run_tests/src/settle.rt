@@ -28,6 +28,7 @@ fn config_of(rt: &impl Abort, alloc: Global, system: u64) -> Config
         clients: 1,
         window: 1,
         prefetch: 8,
+        start: None,
     }
 }
 

@@ -1,16 +1,20 @@
 -- The grammar at work: what small scripts say, or their first fault, beside what the rules say in words.
-use Rattle.std.specs.Prelude.{ℕ, ◌≡◌, Result, Ok, Err, [], ◌∷◌, ◌++◌, codes}
+use Rattle.std.specs.Prelude.{ℕ, ◌≡◌, List, Result, Ok, Err, [], ◌∷◌, ◌++◌, codes}
 use Rattle.std.proofs.Common.{refl}
 use Rattle.cdc_types.specs.declared.accounts.NewAccount.{NewAccount}
 use Rattle.cdc_types.specs.declared.batches.Batch.TheVariants as batch
 use Rattle.cdc_types.specs.declared.events.EventKind.TheVariants.{SinglePhase}
+use Rattle.cdc_types.specs.declared.steps.Step.TheVariants as step
 use Rattle.cdc_match.specs.declared.pairs.Mode.TheVariants as mode
 use Rattle.cdc_match.specs.declared.pairs.Pair.TheVariants as pair
 use Rattle.cdc_script.specs.declared.faults.FaultKind.{FaultKind}
 use Rattle.cdc_script.specs.declared.faults.FaultKind.TheVariants as kind
 use Rattle.cdc_script.specs.declared.faults.ScriptFault.{ScriptFault}
 use Rattle.cdc_script.specs.declared.scripts.Script.{Script}
+use Rattle.cdc_script.specs.declared.step_files.Act.{Act}
+use Rattle.cdc_script.specs.declared.step_files.Act.TheVariants as act
 use Rattle.cdc_script.specs.Scripts.{script_of}
+use Rattle.cdc_script.specs.StepFiles.{acts_of}
 
 -- an account of ledger 700
 abbrev account : ℕ → ℕ → NewAccount
@@ -65,3 +69,19 @@ refuses_bindings : (script_of (codes "subscriber\n") ≡ fault 1 kind.BadBinding
     × (script_of (codes "subscriber all \t id=1\n") ≡ fault 1 kind.BadText)
     × (script_of (codes "subscriber all id=\t\n") ≡ fault 1 kind.BadText)
 refuses_bindings = (refl, refl, refl, refl, refl)
+
+-- the fault of a step file's first line
+abbrev step_fault : FaultKind → Result (List Act) ScriptFault
+step_fault kind = Err (record { line = 1; kind = kind })
+
+-- a start alone, and one after a moment, the greatest that an event can have too
+reads_starts : acts_of (codes "start\nstart at 02000\nstart at 9223372036854775807\n")
+    ≡ Ok (act.Step step.Start ∷ act.Step (step.StartAt 2000) ∷ act.Step (step.StartAt 9223372036854775807) ∷ [])
+reads_starts = refl
+
+-- a start with another word, without its moment, with one that no event can have, whatever follows, and with two
+refuses_starts : (acts_of (codes "start x\n") ≡ step_fault kind.WrongCount)
+    × (acts_of (codes "start at\n") ≡ step_fault kind.WrongCount)
+    × (acts_of (codes "start at 9223372036854775808 x\n") ≡ step_fault kind.NumberOutOfRange)
+    × (acts_of (codes "start at 1 2\n") ≡ step_fault kind.WrongCount)
+refuses_starts = (refl, refl, refl, refl)

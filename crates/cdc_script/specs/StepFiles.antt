@@ -3,6 +3,7 @@ use Rattle.std.specs.Prelude.{ℕ, ◌+◌, ◌≤◌, nat_lt, List, [], ◌∷�
 use Rattle.std.specs.List.{cons_option}
 use Rattle.std.specs.Str.{bytes_eq}
 use Rattle.std.specs.Str.Lines.{lines}
+use Rattle.cdc_types.specs.declared.bounds.TheConstants.Limits.{TIMESTAMP}
 use Rattle.cdc_types.specs.declared.steps.Step.{Step}
 use Rattle.cdc_types.specs.declared.steps.Step.TheVariants as step
 use Rattle.cdc_types.specs.Lines.{first_line}
@@ -12,6 +13,7 @@ use Rattle.cdc_script.specs.declared.faults.ScriptFault.{ScriptFault}
 use Rattle.cdc_script.specs.declared.step_files.Act.{Act}
 use Rattle.cdc_script.specs.declared.step_files.Act.TheVariants as act
 use Rattle.cdc_script.specs.Scripts.{in_line, max_bytes, whole_fault}
+use Rattle.cdc_script.specs.Numbers.{number_of}
 use Rattle.cdc_script.specs.Statements.{checked, ended, lone_number, number_word}
 use Rattle.cdc_script.specs.Faults.{◌>>=◌}
 use Rattle.cdc_script.specs.Words.{spoken}
@@ -23,6 +25,17 @@ lone_step said rest = ended WrongCount (act.Step said) rest
 -- a step that one number follows
 abbrev pub numbered_step : (ℕ → Step) → List (List ℕ) → Result Act FaultKind
 numbered_step said rest = lone_number rest >>= λ number. Ok (act.Step (said number))
+
+-- a moment that an event can have, and nothing behind it
+abbrev pub moment_said : List (List ℕ) → Result Act FaultKind
+moment_said [] = Err WrongCount
+moment_said (word ∷ rest) =
+    checked word (number_of TIMESTAMP word >>= λ moment. ended WrongCount (act.Step (step.StartAt moment)) rest)
+
+-- a start of a session: alone, or after `at` and a moment
+abbrev pub start_said : List (List ℕ) → Result Act FaultKind
+start_said [] = Ok (act.Step step.Start)
+start_said (word ∷ rest) = checked word (if bytes_eq word (codes "at") then moment_said rest else Err WrongCount)
 
 -- an acknowledgement, which the numbers of a subscriber and of the acknowledgement follow
 abbrev pub ack_said : List (List ℕ) → Result Act FaultKind
@@ -36,7 +49,7 @@ abbrev pub act_said : List ℕ → List (List ℕ) → Result Act FaultKind
 act_said first rest = checked first (unwrap_or (first_line (
     (bytes_eq first (codes "batch"), ended WrongCount act.Batch rest) ∷
     (bytes_eq first (codes "close_ledger"), lone_step step.CloseLedger rest) ∷
-    (bytes_eq first (codes "start"), lone_step step.Start rest) ∷
+    (bytes_eq first (codes "start"), start_said rest) ∷
     (bytes_eq first (codes "crash"), lone_step step.Crash rest) ∷
     (bytes_eq first (codes "poll"), lone_step step.Poll rest) ∷
     (bytes_eq first (codes "publish"), lone_step step.Publish rest) ∷

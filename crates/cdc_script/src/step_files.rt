@@ -6,14 +6,14 @@ ghost use Rattle.std.specs.Str.Lines.{lines};
 ghost use Rattle.cdc_script.specs.Reading.{ConsumesAtMost, IsFault};
 ghost use Rattle.cdc_script.specs.Scripts.{max_bytes};
 ghost use Rattle.cdc_script.specs.StepFiles.{ack_said, act_said, acts_from, acts_of, line_names};
-ghost use Rattle.cdc_script.specs.StepFiles.{KeepsActs, NameAnAct};
+ghost use Rattle.cdc_script.specs.StepFiles.{KeepsActs, NameAnAct, moment_said, start_said};
 ghost use Rattle.cdc_script.specs.Words.{words as words_of};
 
 use crate::faults::{FaultKind, ReadError, ScriptError, ScriptFault};
-use crate::operands::{at_end, read_lone_number, read_word_number};
+use crate::operands::{at_end, read_lone_number, read_number, read_word_number};
 use crate::reading::{fault_at, read_text};
-use crate::words::{first_word, is_printable_word, is_word, next_line};
-use cdc_types::{Limits, Step};
+use crate::words::{first_word, is_printable_word, is_word, next_line, next_word};
+use cdc_types::{Limits, Moment, Step};
 use std::alloc::{AllocError, Global};
 use std::io::Read;
 
@@ -47,7 +47,7 @@ fn act_of_words(first: &[u8], rest: &[u8]) -> Result<Act, FaultKind>
     } else if is_word(first, "close_ledger") {
         at_end(rest, FaultKind::WrongCount, Act::Step(Step::CloseLedger))
     } else if is_word(first, "start") {
-        at_end(rest, FaultKind::WrongCount, Act::Step(Step::Start))
+        read_start(rest)
     } else if is_word(first, "crash") {
         at_end(rest, FaultKind::WrongCount, Act::Step(Step::Crash))
     } else if is_word(first, "poll") {
@@ -75,6 +75,35 @@ fn act_of_words(first: &[u8], rest: &[u8]) -> Result<Act, FaultKind>
     } else {
         Err(FaultKind::UnknownWord)
     }
+}
+
+/// A start of a session: alone, or after `at` and a moment.
+fn read_start(words: &[u8]) -> Result<Act, FaultKind>
+    ensures { result ≡ start_said (words_of words.now) }
+{
+    match next_word(words) {
+        None => Ok(Act::Step(Step::Start)),
+        Some((word, _)) if !is_printable_word(word) => Err(FaultKind::BadText),
+        Some((word, rest)) if is_word(word, "at") => read_moment(rest),
+        Some(_) => Err(FaultKind::WrongCount),
+    }
+}
+
+/// The moment after which a session starts, in nanoseconds, and nothing behind it.
+fn read_moment(words: &[u8]) -> Result<Act, FaultKind>
+    ensures { result ≡ moment_said (words_of words.now) }
+{
+    let (word, rest) = next_word(words).ok_or(FaultKind::WrongCount)?;
+    if !is_printable_word(word) {
+        return Err(FaultKind::BadText);
+    }
+    let number = read_number(word, u128::from(Limits::TIMESTAMP))?;
+    let moment = Moment::new(number as u64).ok_or(FaultKind::NumberOutOfRange)?;
+    at_end(
+        rest,
+        FaultKind::WrongCount,
+        Act::Step(Step::StartAt(moment)),
+    )
 }
 
 /// An acknowledgement: the number of a subscriber, and that of the acknowledgement.

@@ -31,10 +31,16 @@ pub(crate) enum Deed {
 /// What a step of the connector did, or one of what goes between it and the broker.
 #[derive(Clone, Copy)]
 pub(crate) enum ConnectorDeed {
-    /// A session started, after the event of this timestamp, 0 where that is none.
+    /// A session started, and is offered events with a later timestamp than this one.
     Started {
         session: u64,
         after: u64,
+    },
+    /// The first session started, after a moment that was asked for; so many events of the ledger aren't later.
+    StartedAt {
+        session: u64,
+        after: u64,
+        left_out: usize,
     },
     /// The session is gone.
     Crashed {
@@ -154,6 +160,19 @@ impl ConnectorDeed {
                     "",
                 )
             }
+            ConnectorDeed::StartedAt {
+                session,
+                after,
+                left_out,
+            } => Sentence::Three(
+                "session ",
+                session.into(),
+                " begins after ",
+                after.into(),
+                ", events left out so far: ",
+                left_out as u128,
+                "",
+            ),
             ConnectorDeed::Crashed { session } => {
                 Sentence::One("session ", session.into(), " is gone")
             }

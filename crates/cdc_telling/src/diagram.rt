@@ -62,9 +62,9 @@ fn arrow(deed: Deed) -> Sentence {
 /// The arrow or the note of a step of the connector.
 fn connector_arrow(deed: ConnectorDeed) -> Sentence {
     match deed {
-        ConnectorDeed::Started { .. } | ConnectorDeed::Crashed { .. } => {
-            Sentence::Plain("Note over C: ")
-        }
+        ConnectorDeed::Started { .. }
+        | ConnectorDeed::StartedAt { .. }
+        | ConnectorDeed::Crashed { .. } => Sentence::Plain("Note over C: "),
         ConnectorDeed::Published { .. } => Sentence::Plain("Note over C: sent: "),
         ConnectorDeed::Saved { .. } => Sentence::Plain("Note over C: saved: "),
         ConnectorDeed::Offered { .. } => Sentence::Plain("L->>C: "),

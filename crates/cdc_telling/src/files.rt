@@ -56,9 +56,13 @@ pub fn steps_sentence(kind: FaultKind) -> Sentence {
             "a line begins with batch, close_ledger, start, crash, poll, publish, arrive, answer, save, send, rewind, break, take, ack or close",
         ),
         FaultKind::WrongCount => Sentence::Plain(
-            "ack has two numbers, arrive, answer, send, rewind, break, take and close have one number, batch, close_ledger, start, crash, poll, publish and save have none",
+            "ack has two numbers, arrive, answer, send, rewind, break, take, close and start at have one number, batch, close_ledger, start, crash, poll, publish and save have none",
         ),
-        FaultKind::NumberOutOfRange => Sentence::Plain("a number has 64 bits at most"),
+        FaultKind::NumberOutOfRange => Sentence::One(
+            "a number has 64 bits at most, and the moment of start at is at most ",
+            Limits::TIMESTAMP as u128,
+            "",
+        ),
         FaultKind::TooLong => Sentence::One(
             "a step file has ",
             Limits::SCRIPT_BYTES as u128,

@@ -9,7 +9,7 @@ use crate::sessions::Session;
 use cdc_ledger::Ledger;
 use cdc_match::Binding;
 use cdc_subscriber::Taking;
-use cdc_types::{Batch, BatchResults, Step};
+use cdc_types::{Batch, BatchResults, Moment, Step};
 use cdc_world::Did;
 use std::alloc::{AllocError, Global};
 
@@ -20,10 +20,16 @@ pub(crate) struct Followed {
     pub batches: usize,
     /// For how many events a session waits at a time.
     window: usize,
-    /// How many sessions were started.
-    sessions: u64,
-    /// How many events are saved as confirmed.
+    /// How many sessions were started; the last of them is the one that is saved.
+    pub sessions: u64,
+    /// The moment after which the first session started, in nanoseconds; 0 where none was asked for.
+    start: u64,
+    /// How many events of the log aren't later than the start.
+    left_out: usize,
+    /// How many events are saved as confirmed, with those that are left out.
     saved: usize,
+    /// The moment that is saved, in nanoseconds.
+    pub saved_up_to: u64,
     /// The session that runs.
     pub session: Option<Session>,
     /// The packets that were ever sent.
@@ -66,7 +72,10 @@ impl Followed {
             batches: 0,
             window,
             sessions: 0,
+            start: 0,
+            left_out: 0,
             saved: 0,
+            saved_up_to: 0,
             session: None,
             packets: Vec::new(alloc),
             connection: 0,
@@ -136,7 +145,8 @@ impl Followed {
         match step {
             Step::Publish => self.follow_publish(ledger),
             Step::Arrive(k) => self.follow_arrival(*k, did, ledger),
-            Step::Start => Ok(self.follow_start(alloc, ledger)),
+            Step::Start => Ok(self.follow_start(alloc)),
+            Step::StartAt(moment) => Ok(self.follow_start_at(alloc, *moment, ledger)),
             Step::Crash => Ok(self.follow_crash()),
             Step::Poll => Ok(self.follow_poll(ledger)),
             Step::Answer(k) => Ok(self.follow_answer(*k, did)),
@@ -146,13 +156,61 @@ impl Followed {
     }
 
     /// A session started, after what is saved.
-    fn follow_start(&mut self, alloc: Global, ledger: &Ledger) -> Deed {
-        self.sessions = self.sessions.saturating_add(1);
-        self.session = Some(Session::new(alloc, self.sessions, self.saved, self.window));
+    fn follow_start(&mut self, alloc: Global) -> Deed {
+        self.begin(alloc);
         Deed::Connector(ConnectorDeed::Started {
             session: self.sessions,
-            after: timestamp_of(ledger, self.saved),
+            after: self.saved_up_to,
         })
+    }
+
+    /// The first session started, after a moment, which it saved.
+    fn follow_start_at(&mut self, alloc: Global, moment: Moment, ledger: &Ledger) -> Deed {
+        self.start = moment.nanoseconds();
+        self.leave_out(ledger);
+        self.saved = self.left_out;
+        self.saved_up_to = self.start;
+        self.begin(alloc);
+        Deed::Connector(ConnectorDeed::StartedAt {
+            session: self.sessions,
+            after: self.start,
+            left_out: self.left_out,
+        })
+    }
+
+    /// The next session begins after what is saved.
+    fn begin(&mut self, alloc: Global) {
+        self.sessions = self.sessions.saturating_add(1);
+        self.session = Some(Session::new(alloc, self.sessions, self.saved, self.window));
+    }
+
+    /// Counts the events of the log that aren't later than the start.
+    fn leave_out(&mut self, ledger: &Ledger) {
+        for place in self.left_out..ledger.log().len() {
+            match ledger.log().get(place) {
+                Some(event) if event.timestamp <= self.start => {
+                    self.left_out = place.saturating_add(1);
+                }
+                _ => return,
+            }
+        }
+    }
+
+    /// What is told of events that aren't later than the start that was asked for, where one was.
+    pub(crate) fn left_out_sentence(&mut self, ledger: &Ledger) -> Option<Sentence> {
+        if self.start == 0 {
+            return None;
+        }
+        self.leave_out(ledger);
+        Some(Sentence::Three(
+            "events up to the start, ",
+            self.start.into(),
+            ", are left out: ",
+            self.left_out as u128,
+            " of ",
+            ledger.log().len() as u128,
+            "",
+        ))
     }
 
     /// The session is gone.
@@ -163,11 +221,13 @@ impl Followed {
         })
     }
 
-    /// The session was offered the next events, as many as there are and as it has room for.
+    /// The session was offered the next events after the start, as many as there are and as it has room for.
     fn follow_poll(&mut self, ledger: &Ledger) -> Deed {
+        self.leave_out(ledger);
         let Some(session) = &mut self.session else {
             return Deed::Untold;
         };
+        session.pass_over(self.left_out);
         let before = session.offered;
         let count = ledger
             .log()
@@ -282,9 +342,10 @@ impl Followed {
             return Deed::Untold;
         };
         self.saved = session.confirmed();
+        self.saved_up_to = timestamp_of(ledger, self.saved).max(self.start);
         Deed::Connector(ConnectorDeed::Saved {
             session: session.number,
-            timestamp: timestamp_of(ledger, self.saved),
+            timestamp: self.saved_up_to,
         })
     }
 }

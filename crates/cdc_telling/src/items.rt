@@ -74,6 +74,14 @@ impl<'a> ItemLines<'a> {
         self.pass(batch);
     }
 
+    /// Adds a line that is of no item.
+    pub(crate) fn push_sentence(&mut self, sentence: Sentence) {
+        self.text.push(self.name);
+        self.text.push(": ");
+        self.text.push_sentence(sentence);
+        self.text.push("\n");
+    }
+
     /// Goes on to the next batch.
     fn pass(&mut self, batch: &Batch) {
         self.batches = self.batches.saturating_add(1);

@@ -57,13 +57,26 @@ fn count_reason(number: u64, count: usize, words: [&'static str; 3]) -> Option<S
     })
 }
 
+/// Why a session doesn't start after a moment where progress is saved: what is saved.
+pub(crate) fn start_reason(followed: &Followed) -> Sentence {
+    Sentence::Two(
+        "session ",
+        followed.sessions.into(),
+        " has saved progress up to ",
+        followed.saved_up_to.into(),
+        ", and a moment is taken only where none is saved",
+    )
+}
+
 /// Why a step of the connector isn't enabled.
 fn connector_reason(step: &Step, followed: &Followed) -> Sentence {
     let Some(session) = &followed.session else {
         return Sentence::Plain("no session runs");
     };
     match step {
-        Step::Start => Sentence::One("session ", session.number.into(), " runs already"),
+        Step::Start | Step::StartAt(_) => {
+            Sentence::One("session ", session.number.into(), " runs already")
+        }
         Step::Poll => poll_reason(session),
         Step::Publish => publish_reason(session),
         Step::Answer(k) => answer_reason(*k, followed),

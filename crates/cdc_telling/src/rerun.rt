@@ -6,7 +6,7 @@ use crate::deeds::Deed;
 use crate::diagram::Diagram;
 use crate::following::Followed;
 use crate::items::ItemLines;
-use crate::reasons::reason;
+use crate::reasons::{reason, start_reason};
 use crate::results::batch_sentence;
 use crate::sentences::Sentence;
 use crate::steps::step_words;
@@ -81,7 +81,10 @@ fn play_anew(
     requires { IsWindow window }
 {
     match World::new(alloc, bindings, window, MemoryStore::new()) {
-        Ok(mut world) => run.play(alloc, &mut world, acts, told),
+        Ok(mut world) => {
+            run.play(alloc, &mut world, acts, told);
+            run.tell_left_out(world.ledger(), told);
+        }
         Err(_) => told.why.give_up(),
     }
 }
@@ -100,6 +103,13 @@ impl SecondRun {
                 told.refused = Some(place);
                 return;
             }
+        }
+    }
+
+    /// Tells how many events are left out before a start, where there was one.
+    fn tell_left_out(&mut self, ledger: &Ledger, told: &mut Retold<'_>) {
+        if let Some(sentence) = self.followed.left_out_sentence(ledger) {
+            told.items.push_sentence(sentence);
         }
     }
 
@@ -186,6 +196,10 @@ fn push_refusal(step: &Step, refusal: StepError, followed: &Followed, why: &mut 
         }
         StepError::SessionsExhausted => {
             why.push("sessions_exhausted: no number is left for a session");
+        }
+        StepError::StartNotAllowed => {
+            why.push("start_not_allowed: ");
+            why.push_sentence(start_reason(followed));
         }
         _ => why.push(refusal.name()),
     }

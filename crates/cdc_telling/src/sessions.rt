@@ -75,6 +75,12 @@ impl Session {
         })
     }
 
+    /// It passes over the first so many events of the log, unless it has come past them. What it was offered is sent.
+    pub(crate) fn pass_over(&mut self, count: usize) {
+        self.offered = self.offered.max(count);
+        self.sent = self.sent.max(count);
+    }
+
     /// For how many more events than it was offered it could wait now.
     pub(crate) fn room(&self) -> usize {
         self.window.saturating_sub(self.unconfirmed.len())

@@ -9,6 +9,7 @@ pub(crate) fn step_words(step: &Step) -> Sentence {
         Step::Submit(_) => Sentence::Plain("batch"),
         Step::CloseLedger => Sentence::Plain("close_ledger"),
         Step::Start => Sentence::Plain("start"),
+        Step::StartAt(moment) => Sentence::One("start at ", moment.nanoseconds().into(), ""),
         Step::Crash => Sentence::Plain("crash"),
         Step::Poll => Sentence::Plain("poll"),
         Step::Publish => Sentence::Plain("publish"),

@@ -34,6 +34,7 @@ IsSimulationFault (fault.Store why) = ⊥
 IsSimulationFault fault.OutOfMemory = Unit {0}
 IsSimulationFault fault.PeerGone = ⊥
 IsSimulationFault fault.SessionsExhausted = ⊥
+IsSimulationFault fault.StartNotAllowed = ⊥
 IsSimulationFault fault.NotOneSystem = ⊥
 
 -- a step was done at a stage, and the simulation's world stands for the one after it

@@ -12,3 +12,4 @@ run_fault run.OutOfMemory = program.OutOfMemory
 run_fault (run.Store why) = store_fault why
 run_fault run.SessionsExhausted = program.SessionsExhausted
 run_fault run.NotOneSystem = program.NotOneSystem
+run_fault run.StartNotAllowed = program.StartNotAllowed

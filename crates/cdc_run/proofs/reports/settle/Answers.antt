@@ -7,10 +7,10 @@ use Rattle.cdc_subscriber.specs.Kept.{Kept}
 use Rattle.cdc_run.specs.ClientMail.{HasFinishedWith as LedgerHasFinishedWith}
 use Rattle.cdc_run.specs.Reports.{AreFinished, AreSubscribed}
 use Rattle.cdc_run.specs.Seats.{broker_seat}
-use Rattle.cdc_run.specs.Streams.{Middle}
-use Rattle.cdc_run.specs.SubscriberMail.{AreSubscribersOf, HasFinishedWith as BrokerHasFinishedWith}
+use Rattle.cdc_run.specs.Streams.{AllCome, Middle}
+use Rattle.cdc_run.specs.SubscriberMail.{AreSubscribersOf, HasFinishedWith as BrokerHasFinishedWith, intakes_of}
 use Rattle.cdc_run.proofs.Refused.{asked_more, handed_on}
-use Rattle.cdc_run.proofs.Reported.{all_subscribed, books_of, finished, left_by, streams_of}
+use Rattle.cdc_run.proofs.Reported.{all_subscribed, books_of, finished, left_by, start_known, streams_of}
 use Rattle.cdc_run.proofs.Seated.{AreBetween, joined, polls_to, wired}
 use Rattle.cdc_run.proofs.reports.settle.Goals as goal
 
@@ -74,14 +74,17 @@ returns-clause-report g c =
       finished = finished ends books.finished over same broker;
       replies = books.replies;
       books = books.books;
-      subscribers = λ start.
-          let come = streams.come ends.ledger.desk ends.connector.work (left_by ends m between books.desk over start) in
-          subst (λ (h : History). AreSubscribed h (broker_seat ends.broker).bindings
+      subscribers = λ start seat.
+          let come : AllCome ends.ledger.desk start ends.broker.desk 0 (intakes_of subscribers) =
+          subst (λ (n : ℕ). AllCome ends.ledger.desk n ends.broker.desk 0 (intakes_of subscribers))
+          (start_known ends start seat)
+          (streams.come ends.ledger.desk ends.connector.work (left_by ends m between books.desk over start seat)) in
+          subst (λ (h : History). AreSubscribed h start (broker_seat ends.broker).bindings
           (map (λ (s : SubscriberState). s.intake.close_after) subscribers)
           c.in_ok-subscribers.subscribers.items) (sym books.ledger)
-          (subst (λ (kept : List Kept). AreSubscribed ends.ledger.desk.ledger (broker_seat ends.broker).bindings
+          (subst (λ (kept : List Kept). AreSubscribed ends.ledger.desk.ledger start (broker_seat ends.broker).bindings
           (map (λ (s : SubscriberState). s.intake.close_after) subscribers) kept) (sym streams.keeps)
-          (all_subscribed ends.ledger.desk ends.broker.desk subscribers come
+          (all_subscribed ends.ledger.desk start ends.broker.desk subscribers come
           (broker.count ∙ sym streams.desk.desk.queues)));
     }
 

@@ -6,5 +6,6 @@ returns-clause-pass c = ends_pass c.connector_end_laws.ensures.finished c.broker
 
 pub returns-clause-come : goal.returns-clause-come
 returns-clause-come c =
-    ends_come (ends_pass c.connector_end_laws.ensures.finished c.broker_end_laws.ensures.arrived)
+    ends_come c.connector_end_laws.ensures.finished
+    (ends_pass c.connector_end_laws.ensures.finished c.broker_end_laws.ensures.arrived)
     c.settle_laws.ensures.come

@@ -5,4 +5,4 @@ use Rattle.cdc_ends.proofs.broker_ends.BrokerEnd.into_parts.Goals as goal
 pub returns-then-desk-clause-kept : goal.returns-then-desk-clause-kept
 returns-then-desk-clause-kept c =
     let none : c.self.inside.fault ≡ None = first_of (search rules, cc, grind arith) in
-    subst (λ (s : BrokerEndState). IsBrokerEnd s.desk) c.self.view_is (c.self.invariant none)
+    subst (λ (s : BrokerEndState). IsBrokerEnd s.desk) c.self.view_is (c.self.invariant.0 none)

@@ -8,7 +8,7 @@ use Rattle.cdc_ends.proofs.broker_ends.BrokerEnd.turn.Goals as goal
 
 pub returns-in-Ok-clause-kept : goal.returns-in-Ok-clause-kept
 returns-in-Ok-clause-kept g c =
-    turns_is (desk_of c.self.inside.desk) (desk_of c.turn.new.self) c.in-Ok.turn (c.self.invariant c.in-None.is)
+    turns_is (desk_of c.self.inside.desk) (desk_of c.turn.new.self) c.in-Ok.turn (c.self.invariant.0 c.in-None.is)
     c.in-Ok.ensures.after
 
 pub returns-in-Ok-clause-links : goal.returns-in-Ok-clause-links
@@ -18,6 +18,8 @@ returns-in-Ok-clause-links g c =
     c.in-Ok.ensures.after)
 
 pub invariant_of-self : goal.invariant_of-self
-invariant_of-self g c = λ none.
-    turns_is (desk_of c.self.inside.desk) (desk_of c.turn.new.self) c.in-Ok.turn (c.self.invariant none)
-    c.in-Ok.ensures.after
+invariant_of-self g c = (
+    λ none. turns_is (desk_of c.self.inside.desk) (desk_of c.turn.new.self) c.in-Ok.turn (c.self.invariant.0 none)
+        c.in-Ok.ensures.after,
+    c.self.invariant.1,
+  )

@@ -12,8 +12,8 @@ hear-requires g c =
     ap (λ (w : Publishing). is_some w.session) (sym c.self.view_is) ∙ sym c.is_some.ensures ∙ c.if-is_some.true in
     running c.args.self.now c.requires.rest c.requires.working up
 
-pub returns-then-is_some : goal.returns-then-is_some
-returns-then-is_some g c =
+pub returns-then-is_some-clause-after : goal.returns-then-is_some-clause-after
+returns-then-is_some-clause-after g c =
     let now = c.args.self.now in
     let up : is_some now.session ≡ true =
     ap (λ (w : Publishing). is_some w.session) (sym c.self.view_is) ∙ sym c.is_some.ensures ∙ c.if-is_some.true in
@@ -21,10 +21,10 @@ returns-then-is_some g c =
     if_ok_then c.hear.result (λ moved. IsHeard now sends.course moved c.hear.new.self)
     (λ moved. IsAdvanced now moved c.hear.new.self)
     (λ moved is. received_so now c.requires.rest c.requires.working up moved c.hear.new.self is)
-    (c.hear.ensures sends.course sends.publishing)
+    (c.hear.ensures.after sends.course sends.publishing)
 
-pub returns : goal.returns
-returns g c =
+pub returns-clause-after : goal.returns-clause-after
+returns-clause-after g c =
     let down : is_some c.args.self.now.session ≡ false =
     ap (λ (w : Publishing). is_some w.session) (sym c.self.view_is) ∙ sym c.is_some.ensures ∙ c.if-is_some.false in
-    first_so c.args.self.now c.requires.rest c.requires.working c.begin.new.self down c.in_ok-begin.ensures
+    first_so c.args.self.now c.requires.rest c.requires.working c.begin.new.self down c.in_ok-begin.ensures.after

@@ -16,7 +16,7 @@ take_reply-requires g c =
     let reply = c.in-PollReply.reply in
     let takes : Takes FollowsToConnector now.inbox (to_connector.PollReply reply) c.receive.new.inbox =
     took c.self.inside.inbox now.inbox c.receive.new.inbox c.in_ok-reply.field-0 (to_connector.PollReply reply)
-    (ap (λ (w : Publishing). w.inbox) c.self.view_is) c.in-PollReply.is c.in_ok-reply.ensures in
+    (ap (λ (w : Publishing). w.inbox) c.self.view_is) c.in-PollReply.is c.in_ok-reply.ensures.taken in
     λ asked.
     subst (λ (s : Option Kept). IsOffered (wanted_by s) reply.events)
     (ap (λ (w : Publishing). w.session) (sym c.self.view_is))
@@ -24,28 +24,28 @@ take_reply-requires g c =
     (reply_came now.inbox c.receive.new.inbox reply takes)
     (ap (λ (w : Publishing). w.poll) (sym c.self.view_is) ∙ asked))
 
-pub returns-in-PollReply : goal.returns-in-PollReply
-returns-in-PollReply g c = λ course is.
+pub returns-in-PollReply-clause-after : goal.returns-in-PollReply-clause-after
+returns-in-PollReply-clause-after g c = λ course is.
     let now = c.args.self.now in
     let reply = c.in-PollReply.reply in
     let inbox = c.receive.new.inbox in
     let takes : Takes FollowsToConnector now.inbox (to_connector.PollReply reply) inbox =
     took c.self.inside.inbox now.inbox inbox c.in_ok-reply.field-0 (to_connector.PollReply reply)
-    (ap (λ (w : Publishing). w.inbox) c.self.view_is) c.in-PollReply.is c.in_ok-reply.ensures in
+    (ap (λ (w : Publishing). w.inbox) c.self.view_is) c.in-PollReply.is c.in_ok-reply.ensures.taken in
     heard_reply now course is inbox reply takes c.take_reply.result c.take_reply.new.self
     (subst (λ (w : Publishing). IsReplyTaken w reply c.take_reply.result c.take_reply.new.self)
     (ap (λ (w : Publishing). record w { inbox = inbox }) c.self.view_is) c.take_reply.ensures)
 
-pub returns-in_ok-take_confirm-in-Confirm : goal.returns-in_ok-take_confirm-in-Confirm
-returns-in_ok-take_confirm-in-Confirm g c = λ course is.
+pub returns-in_ok-take_confirm-in-Confirm-clause-after : goal.returns-in_ok-take_confirm-in-Confirm-clause-after
+returns-in_ok-take_confirm-in-Confirm-clause-after g c = λ course is.
     let now = c.args.self.now in
     let confirm = c.in-Confirm.confirm in
     let inbox = c.receive.new.inbox in
     let takes : Takes FollowsToConnector now.inbox (to_connector.Confirm confirm) inbox =
     took c.self.inside.inbox now.inbox inbox c.in_ok-reply.field-0 (to_connector.Confirm confirm)
-    (ap (λ (w : Publishing). w.inbox) c.self.view_is) c.in-Confirm.is c.in_ok-reply.ensures in
+    (ap (λ (w : Publishing). w.inbox) c.self.view_is) c.in-Confirm.is c.in_ok-reply.ensures.taken in
     heard_confirm now course is inbox confirm takes c.take_confirm.new.self
     (subst (λ (w : Publishing). IsConfirmTaken w course confirm c.take_confirm.new.self)
     (ap (λ (w : Publishing). record w { inbox = inbox }) c.self.view_is)
-    (c.in_ok-take_confirm-in-Confirm.ensures course
+    (c.in_ok-take_confirm-in-Confirm.ensures.after course
     (subst (λ (w : Publishing). SessionStands w.session (Some course)) (sym c.self.view_is) is.stands)))

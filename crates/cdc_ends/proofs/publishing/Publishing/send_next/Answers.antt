@@ -3,39 +3,39 @@ use Rattle.cdc_ends.specs.ConnectorEnds.{Publishing}
 use Rattle.cdc_ends.proofs.ConnectorTurns.{IsSentBefore, due_so, sent_and_begun, sent_before, sent_none, sent_on}
 use Rattle.cdc_ends.proofs.publishing.Publishing.send_next.Goals as goal
 
-pub returns-then-not-branch : goal.returns-then-not-branch
-returns-then-not-branch g c =
+pub returns-then-not-branch-clause-after : goal.returns-then-not-branch-clause-after
+returns-then-not-branch-clause-after g c =
     let sending = c.requires.sending in
     let now = c.args.self.now in
     let mid = c.send_packet.new.self in
     sent_none now mid
     (subst (λ b. IsSentBefore now b mid) c.if-not-branch.true
     (sent_before now mid sending c.requires.room c.in_ok-send_packet.field-0
-    (c.in_ok-send_packet.ensures sending.course sending.publishing)))
+    (c.in_ok-send_packet.ensures.after sending.course sending.publishing)))
 
-pub returns-in_ok-begin : goal.returns-in_ok-begin
-returns-in_ok-begin g c =
+pub returns-in_ok-begin-clause-after : goal.returns-in_ok-begin-clause-after
+returns-in_ok-begin-clause-after g c =
     let sending = c.requires.sending in
     let now = c.args.self.now in
     let mid = c.send_packet.new.self in
     let before = subst (λ b. IsSentBefore now b mid) c.if-not-branch.false
     (sent_before now mid sending c.requires.room c.in_ok-send_packet.field-0
-    (c.in_ok-send_packet.ensures sending.course sending.publishing)) in
+    (c.in_ok-send_packet.ensures.after sending.course sending.publishing)) in
     sent_and_begun now mid before c.begin.new.self
     (due_so now mid c.deref.result.now c.self.inside.published c.self-2.inside.published c.is_due.result _
     (c.deref.ensures.value ∙ ap (λ (w : Publishing). w.restarts) c.self-2.view_is) before.goes_on.restarts
     (ap (λ (w : Publishing). w.published) c.self.view_is) (ap (λ (w : Publishing). w.published) c.self-2.view_is)
     c.is_due.ensures c.if-is_due.true)
-    c.in_ok-begin.ensures
+    c.in_ok-begin.ensures.after
 
-pub returns-else-is_due : goal.returns-else-is_due
-returns-else-is_due g c =
+pub returns-else-is_due-clause-after : goal.returns-else-is_due-clause-after
+returns-else-is_due-clause-after g c =
     let sending = c.requires.sending in
     let now = c.args.self.now in
     let mid = c.send_packet.new.self in
     let before = subst (λ b. IsSentBefore now b mid) c.if-not-branch.false
     (sent_before now mid sending c.requires.room c.in_ok-send_packet.field-0
-    (c.in_ok-send_packet.ensures sending.course sending.publishing)) in
+    (c.in_ok-send_packet.ensures.after sending.course sending.publishing)) in
     sent_on now mid before
     (due_so now mid c.deref.result.now c.self.inside.published c.self-2.inside.published c.is_due.result _
     (c.deref.ensures.value ∙ ap (λ (w : Publishing). w.restarts) c.self-2.view_is) before.goes_on.restarts

@@ -12,11 +12,11 @@ returns-clause-kept g c =
     let working : now.finished ≡ false = ap (λ (w : Publishing). w.finished) (sym c.self.view_is) ∙ c.if-self.false in
     elim c.if-branch.branch [
       | then-branch+in_ok-follow w ↦
-          subst IsConnectorEnd (sym w.self-is) (rests_then mid w.follow.new.self w.in_ok-follow.ensures)
+          subst IsConnectorEnd (sym w.self-is) (rests_then mid w.follow.new.self w.in_ok-follow.ensures.after)
       | else-branch w ↦
           subst IsConnectorEnd (sym w.self-is)
           (rests_still now mid working
-          (subst (λ b. IsAdvanced now b mid) w.if-branch.false c.in_ok-advance.ensures))
+          (subst (λ b. IsAdvanced now b mid) w.if-branch.false c.in_ok-advance.ensures.after))
     ]
 
 pub returns-clause-turns : goal.returns-clause-turns
@@ -28,9 +28,9 @@ returns-clause-turns g c =
       | then-branch+in_ok-follow w ↦
           subst (IsTurn now) (sym w.self-is)
           (turned now mid w.follow.new.self working
-          (subst (λ b. IsAdvanced now b mid) w.if-branch.true c.in_ok-advance.ensures) w.in_ok-follow.ensures)
+          (subst (λ b. IsAdvanced now b mid) w.if-branch.true c.in_ok-advance.ensures.after) w.in_ok-follow.ensures.after)
       | else-branch w ↦
           subst (IsTurn now) (sym w.self-is)
           (turned_still now mid working
-          (subst (λ b. IsAdvanced now b mid) w.if-branch.false c.in_ok-advance.ensures))
+          (subst (λ b. IsAdvanced now b mid) w.if-branch.false c.in_ok-advance.ensures.after))
     ]

@@ -1,0 +1,145 @@
+-- Which faults the ends of a run have met, by their places.
+use Rattle.std.proofs.Common.{◌≡◌, ◌⊎◌, ℕ, ◌+◌, List, [], ◌∷◌, ◌++◌, Option, Some, None, Result, Ok, Err, refl, sym, ap, ◌∙◌, subst, arith, length, map, inl, inr}
+use Rattle.std.specs.Prelude.{Bool}
+use Rattle.std.specs.List.{AllZip}
+use Rattle.cdc_ends.specs.ConnectorEnds.{IsTurnFault as IsConnectorFault}
+use Rattle.cdc_ends.specs.Clients.{ClientState, first_words}
+use Rattle.cdc_ends.specs.LedgerEnds.{IsTurnFault as IsLinkFault}
+use Rattle.cdc_ends.specs.SubscriberEnds.{SubscriberState}
+use Rattle.cdc_ends.specs.declared.faults.RunFault.{RunFault}
+use Rattle.cdc_ends.specs.declared.faults.RunFault.TheVariants.{OutOfMemory}
+use Rattle.cdc_links.specs.Links.{LinkId, fresh_end}
+use Rattle.cdc_progress.specs.Records.{Saved}
+use Rattle.cdc_run.specs.Jobs.{ComesTo}
+use Rattle.cdc_run.specs.Made.{AreMade, fresh_inbox, made_clients, made_subscribers}
+use Rattle.cdc_run.specs.Meeting.{HasFailed, IsRunFault, MayHaveMet, MayMeet, clients_from, fault_in, places_in, subscribers_from}
+use Rattle.cdc_run.specs.Outcomes.{fault_among, fault_of, first_of}
+use Rattle.cdc_run.specs.Tasks.{Fails, Leaves, numbered, places_of, tasks_at, with_scripts}
+use Rattle.cdc_run.specs.Worked.{IsFaultOf}
+use Rattle.cdc_run.specs.declared.configs.Config.{Config}
+use Rattle.cdc_run.specs.declared.ends.Ends.{Ends}
+use Rattle.cdc_run.specs.declared.placed.Left.{Left}
+use Rattle.cdc_run.specs.declared.placed.Task.{Task}
+use Rattle.cdc_run.specs.declared.placed.Task.TheVariants as task
+use Rattle.cdc_run.specs.declared.places.Place.{Place}
+use Rattle.cdc_run.specs.declared.places.Place.TheVariants as place
+use Rattle.cdc_run.specs.declared.plans.Faults.{Faults}
+use Rattle.cdc_traffic.specs.declared.messages.ToBroker.{ToBroker}
+use Rattle.cdc_traffic.specs.declared.messages.ToLedger.{ToLedger}
+use Rattle.cdc_traffic.specs.declared.messages.ToSubscriber.{ToSubscriber}
+use Rattle.cdc_traffic.specs.declared.requests.Reply.{Reply}
+use Rattle.cdc_types.specs.declared.batches.Batch.{Batch}
+
+-- a fault of a kind that has the want of memory
+of_kind : (K : RunFault → Type 0) (fault : RunFault) → K OutOfMemory → K fault ⊎ (fault ≡ OutOfMemory) → K fault
+of_kind K fault memory (inl kind) = kind
+of_kind K fault memory (inr none) = subst K (sym none) memory
+
+-- a fault that was met by some end
+met_kind : {A : Type 0} (Is : A → Type 0) (K : RunFault → Type 0) (fault : RunFault)
+    → ((left : A) × Is left × K fault) ⊎ (fault ≡ OutOfMemory) → K fault ⊎ (fault ≡ OutOfMemory)
+met_kind Is K fault (inl met) = inl met.2
+met_kind Is K fault (inr none) = inr none
+
+module _ (S : Type 0) where
+  -- where an end stands
+  abbrev place_of : Task S → Place
+  place_of (task.Ledger end) = place.Ledger
+  place_of (task.Client client) = place.Client client.end.talk.number
+  place_of (task.Connector end) = place.Connector
+  place_of (task.Broker end) = place.Broker
+  place_of (task.Subscriber number end) = place.Subscriber number
+
+  -- one end has met what it may meet
+  one_met : (t : Task S) (outcome : Result (Left S) RunFault) → ComesTo Leaves Fails t outcome
+      → MayHaveMet (place_of t) (fault_of outcome)
+  one_met t (Ok left) come = tt
+  one_met (task.Ledger end) (Err fault) come =
+      of_kind IsLinkFault fault (inr refl) (met_kind (λ left. left.fault ≡ Some fault) IsLinkFault fault come.fault)
+  one_met (task.Client client) (Err fault) come =
+      of_kind IsLinkFault fault (inr refl) (met_kind (λ left. left.fault ≡ Some fault) IsLinkFault fault come.fault)
+  one_met (task.Connector end) (Err fault) come =
+      of_kind IsConnectorFault fault (inr (inl refl))
+      (met_kind (λ left. left.fault ≡ Some fault) IsConnectorFault fault come.fault)
+  one_met (task.Broker end) (Err fault) come =
+      of_kind IsLinkFault fault (inr refl) (met_kind (λ left. left.fault ≡ Some fault) IsLinkFault fault come.fault)
+  one_met (task.Subscriber number end) (Err fault) come =
+      of_kind IsLinkFault fault (inr refl) (met_kind (λ left. left.fault ≡ Some fault) IsLinkFault fault come.fault)
+
+  -- so has each
+  all_met : (ts : List (Task S)) (outcomes : List (Result (Left S) RunFault)) → AllZip (ComesTo Leaves Fails) ts outcomes
+      → AllZip MayHaveMet (map place_of ts) (map fault_of outcomes)
+  all_met [] [] all = tt
+  all_met [] (outcome ∷ outcomes) all = absurd all
+  all_met (t ∷ ts) [] all = absurd all
+  all_met (t ∷ ts) (outcome ∷ outcomes) all = (one_met t outcome all.0, all_met ts outcomes all.1)
+
+  -- the fault that counts among outcomes is the one that counts of their faults
+  counts_in : (outcomes : List (Result (Left S) RunFault)) → fault_among outcomes ≡ fault_in (map fault_of outcomes)
+  counts_in [] = refl
+  counts_in (outcome ∷ outcomes) = ap (first_of (fault_of outcome)) (counts_in outcomes)
+
+  -- where new clients stand, and what comes behind them
+  clients_stand : (system : ℕ) (requests : LinkId ToLedger) (number : ℕ) (links : List (LinkId Reply))
+      (scripts : List (List Batch)) (rest : List (Task S)) → length scripts ≡ length links
+      → map place_of (map task.Client (with_scripts (made_clients system requests number links) scripts) ++ rest)
+      ≡ clients_from number (length links) ++ map place_of rest
+  clients_stand system requests number [] scripts rest many = refl
+  clients_stand system requests number (link ∷ links) [] rest many = absurd (omega arith)
+  clients_stand system requests number (link ∷ links) (script ∷ scripts) rest many =
+      let fewer : length scripts ≡ length links = omega arith in
+      ap (λ (l : List Place). place.Client number ∷ l)
+      (clients_stand system requests (number + 1) links scripts rest fewer)
+
+  -- and where subscribers do
+  subscribers_stand : (number : ℕ) (subscribers : List SubscriberState)
+      → map place_of (numbered number subscribers) ≡ subscribers_from number (length subscribers)
+  subscribers_stand number [] = refl
+  subscribers_stand number (s ∷ subscribers) =
+      ap (λ (l : List Place). place.Subscriber number ∷ l) (subscribers_stand (number + 1) subscribers)
+
+-- as many were made as there are links to them
+subscribers_count : (system : ℕ) (acks : LinkId ToBroker) (number : ℕ) (links : List (LinkId ToSubscriber))
+    (closes : List (Option ℕ)) → length closes ≡ length links
+    → length (made_subscribers system acks number links closes) ≡ length links
+subscribers_count system acks number [] closes many = refl
+subscribers_count system acks number (link ∷ links) [] many = absurd (omega arith)
+subscribers_count system acks number (link ∷ links) (close ∷ closes) many =
+    let fewer : length closes ≡ length links = omega arith in
+    ap (λ (n : ℕ). n + 1) (subscribers_count system acks (number + 1) links closes fewer)
+
+module _ {S : Type 0} (config : Config) (faults : Faults) (held : Option Saved) (honest : Bool) (ends : Ends S)
+    (made : AreMade config faults held honest ends) (scripts : List (List Batch)) where
+  -- where all ends of a run stand
+  all_stand : length scripts ≡ config.clients
+      → map (place_of S) (tasks_at (places_of ends) scripts) ≡ places_in config.clients (length config.bindings.items)
+  all_stand many =
+      let links : List (LinkId Reply) = made.wiring.to_clients in
+      let rest : List (Task S) =
+      task.Connector ends.connector ∷ task.Broker ends.broker ∷ numbered 1 ends.subscribers.items in
+      let behind : List Place = place.Connector ∷ place.Broker ∷ [] in
+      let subscribers : map (place_of S) (numbered 1 ends.subscribers.items)
+          ≡ subscribers_from 1 (length config.bindings.items) =
+      subscribers_stand S 1 ends.subscribers.items
+      ∙ ap (subscribers_from 1)
+      (ap (λ (l : List SubscriberState). length l) made.subscribers
+      ∙ subscribers_count config.system made.wiring.to_broker 1 made.wiring.to_subscribers made.closes
+      (made.closes_count ∙ sym made.subscribers_count)
+      ∙ made.subscribers_count) in
+      ap (λ (l : List Place). place.Ledger ∷ l)
+      (ap (λ (cs : List ClientState). map (place_of S) (map task.Client (with_scripts cs scripts) ++ rest)) made.clients
+      ∙ clients_stand S config.system made.wiring.to_ledger 1 links scripts rest (many ∙ sym made.clients_count)
+      ∙ ap (λ (n : ℕ). clients_from 1 n ++ map (place_of S) rest) made.clients_count
+      ∙ ap (λ (l : List Place). clients_from 1 config.clients ++ place.Connector ∷ place.Broker ∷ l) subscribers)
+
+  -- so the fault that counts is that of a run
+  pub has_failed : length scripts ≡ config.clients → (ts : List (Task S)) → ts ≡ tasks_at (places_of ends) scripts
+      → (fault : RunFault) → IsFaultOf Leaves Fails ts fault
+      → IsRunFault config.clients (length config.bindings.items) fault
+  has_failed many ts same fault (inl none) = inl none
+  has_failed many ts same fault (inr met) = inr (inl (record {
+    met = map fault_of met.0;
+    may = subst (λ (ps : List Place). AllZip MayHaveMet ps (map fault_of met.0))
+        (ap (map (place_of S)) same ∙ all_stand many) (all_met S ts met.0 met.1);
+    counts = sym (counts_in S met.0) ∙ met.2;
+  }))
