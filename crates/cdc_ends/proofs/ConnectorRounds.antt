@@ -1,5 +1,5 @@
 -- A whole turn of a connector.
-use Rattle.std.proofs.Common.{◌≡◌, ◌==◌, ℕ, ◌+◌, ◌≤◌, Bool, true, false, true≢false, List, [], inl, inr, refl, sym, ap, ap₂, ◌∙◌, subst, length, map, ◌++◌, arith}
+use Rattle.std.proofs.Common.{◌≡◌, ◌==◌, ℕ, ◌+◌, ◌<◌, ◌≤◌, Bool, true, false, true≢false, List, [], inl, inr, refl, sym, ap, ap₂, ◌∙◌, subst, length, map, ◌++◌, arith}
 use Rattle.std.specs.Prelude.{◌&&◌, Option, Some, None, is_some, if◌then◌else◌}
 use Rattle.std.proofs.lemmas.Bool.{and_parts, eqb-true}
 use Rattle.std.proofs.lemmas.Option.{none-some}
