@@ -5,7 +5,7 @@ use Rattle.std.proofs.lemmas.Grind.{flat_map-append}
 use Rattle.std.proofs.lemmas.List.{reverse-append}
 use Rattle.std.proofs.lemmas.List.Elements.{filter-append}
 use Rattle.std.proofs.lemmas.List.Folds.{find-append}
-use Rattle.std.specs.Prelude.{◌==◌, find, fold, filter, reverse, nat_le, nat_lt, Option, Some, None, IsSome, unwrap_or, if◌then◌else◌}
+use Rattle.std.specs.Prelude.{◌==◌, find, fold, reverse, nat_le, nat_lt, Option, Some, None, IsSome, unwrap_or, if◌then◌else◌}
 use Rattle.std.specs.Option.{option_or}
 use Rattle.std.specs.List.{AllByRecursion, flat_map}
 use Rattle.cdc_types.specs.declared.events.Event.{Event}
@@ -22,7 +22,7 @@ use Rattle.cdc_laws.proofs.Rising.{RiseFrom-filter, all_later, events_rise}
 use Rattle.cdc_log.specs.Log.{events_after}
 use Rattle.cdc_message.specs.Replays.{IsPrefix}
 use Rattle.cdc_subscriber.specs.declared.book.BookEntry.{BookEntry}
-use Rattle.cdc_subscriber.specs.Book.{accounts_of, book_of, first_appearances, is_among, last_shown, sides, unseen}
+use Rattle.cdc_subscriber.specs.Book.{accounts_of, is_among, last_shown, sides, unseen}
 
 -- ---- the events up to the last of the first ones are the first ones
 
