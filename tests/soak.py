@@ -77,8 +77,9 @@ class ScriptMaker:
         for _ in range(self.rng.choice([1, 1, 1, 1, 2, 2, 2, 3, 4, 5, 6, 7, 8])):
             self.lines.append(self.subscriber())
         self.batch('accounts', self.rng.randint(2, 6))
-        for _ in range(self.rng.choice([0, 1, 2, 2, 3, 3, 4, 5, 7] if self.clients == 1 else [1, 2, 3, 4, 5, 6, 7])):
-            if self.clients > 1 and self.chance(0.6):
+        alone = self.clients == 1
+        for _ in range(self.rng.choice([0, 1, 2, 2, 3, 3, 4, 5, 7]) if alone else self.clients + self.rng.randint(-1, 4)):
+            if not alone and self.chance(0.8):
                 self.lines.append(f'client {self.rng.randint(1, self.clients)}')
             kind = self.rng.choices(['transfers', 'pulse', 'accounts'], [8, 3, 1])[0]
             self.batch(kind, self.rng.choice([0, 1, 1, 2, 2, 3, 3, 4, 5, 6, 8, 12]))

@@ -1,5 +1,5 @@
 -- What holds of every script: it has a subscriber, and no more of them and no other clients than there may be.
-use Rattle.std.proofs.Common.{◌≡◌, ℕ, ◌+◌, ◌<◌, ◌≤◌, zero, suc, Bool, true, false, List, [], ◌∷◌, Some, None, Ok, Err, refl, sym, ap, subst, length, arith}
+use Rattle.std.proofs.Common.{◌≡◌, ℕ, ◌+◌, ◌<◌, ◌≤◌, zero, suc, Bool, true, false, List, [], ◌∷◌, Some, None, Ok, Err, refl, ap, subst, length, arith}
 use Rattle.std.specs.Prelude.{◌==◌, ◌||◌, codes, Option, Result, if◌then◌else◌, nat_le, nat_lt, slice_get, unwrap_or}
 use Rattle.std.specs.List.{cons_option, list_all, take_while}
 use Rattle.std.specs.Str.{bytes_eq}
@@ -15,7 +15,6 @@ use Rattle.cdc_script.specs.Statements.{account_line, after, binding_line, broke
 use Rattle.cdc_script.specs.Words.{is_printable, spoken}
 use Rattle.cdc_script.specs.declared.faults.FaultKind.{FaultKind}
 use Rattle.cdc_script.specs.declared.faults.FaultKind.TheVariants as kind
-use Rattle.cdc_script.specs.declared.faults.ScriptFault.{ScriptFault}
 use Rattle.cdc_script.specs.declared.fields.ItemKind.{ItemKind}
 use Rattle.cdc_script.specs.declared.fields.ItemKind.TheVariants as item
 use Rattle.cdc_script.specs.declared.scripts.ClientBatch.{ClientBatch}
@@ -231,16 +230,20 @@ one_more b batches is rest (suc k) b' found = rest k b' found
 lawful_batches : (context : Context) (client : ℕ) (statements : List Statement) → IsClient client
     → AreLawful context statements → AreOfClients (batches_of client statements)
 lawful_batches context client [] is law = λ k b found. cc
-lawful_batches context client (says.Subscriber binding ∷ rest) is law = lawful_batches _ client rest is law.1
-lawful_batches context client (says.Client n ∷ rest) is law = lawful_batches _ n rest law.0 law.1
+lawful_batches context client (says.Subscriber binding ∷ rest) is law =
+    lawful_batches (after context (says.Subscriber binding)) client rest is law.1
+lawful_batches context client (says.Client n ∷ rest) is law =
+    lawful_batches (after context (says.Client n)) n rest law.0 law.1
 lawful_batches context client (says.Accounts now ∷ rest) is law =
-    one_more _ (batches_of client rest) is (lawful_batches _ client rest is law.1)
+    one_more _ (batches_of client rest) is (lawful_batches (after context (says.Accounts now)) client rest is law.1)
 lawful_batches context client (says.Transfers now ∷ rest) is law =
-    one_more _ (batches_of client rest) is (lawful_batches _ client rest is law.1)
-lawful_batches context client (says.Account a ∷ rest) is law = lawful_batches _ client rest is law.1
-lawful_batches context client (says.Transfer t ∷ rest) is law = lawful_batches _ client rest is law.1
+    one_more _ (batches_of client rest) is (lawful_batches (after context (says.Transfers now)) client rest is law.1)
+lawful_batches context client (says.Account a ∷ rest) is law =
+    lawful_batches (after context (says.Account a)) client rest is law.1
+lawful_batches context client (says.Transfer t ∷ rest) is law =
+    lawful_batches (after context (says.Transfer t)) client rest is law.1
 lawful_batches context client (says.Pulse now ∷ rest) is law =
-    one_more _ (batches_of client rest) is (lawful_batches _ client rest is law.1)
+    one_more _ (batches_of client rest) is (lawful_batches (after context (says.Pulse now)) client rest is law.1)
 
 -- ---- the bindings of scripts
 
