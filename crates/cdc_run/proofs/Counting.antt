@@ -1,10 +1,11 @@
 -- Which faults the ends of a run have met, by their places.
-use Rattle.std.proofs.Common.{◌≡◌, ◌⊎◌, ℕ, ◌+◌, List, [], ◌∷◌, ◌++◌, Option, Some, None, Result, Ok, Err, refl, sym, ap, ◌∙◌, subst, arith, length, map, inl, inr}
+use Rattle.std.proofs.Common.{◌≡◌, ◌⊎◌, ℕ, suc, ◌+◌, List, [], ◌∷◌, ◌++◌, Option, Some, None, Result, Ok, Err, refl, sym, ap, ◌∙◌, subst, arith, length, map, inl, inr}
 use Rattle.std.specs.Prelude.{Bool}
 use Rattle.std.specs.List.{AllZip}
-use Rattle.cdc_ends.specs.ConnectorEnds.{IsTurnFault as IsConnectorFault}
-use Rattle.cdc_ends.specs.Clients.{ClientState, first_words}
-use Rattle.cdc_ends.specs.LedgerEnds.{IsTurnFault as IsLinkFault}
+use Rattle.cdc_ends.specs.BrokerEnds.{BrokerEndState}
+use Rattle.cdc_ends.specs.Clients.{ClientState}
+use Rattle.cdc_ends.specs.ConnectorEnds.{ConnectorEndState, IsTurnFault as IsConnectorFault}
+use Rattle.cdc_ends.specs.LedgerEnds.{IsTurnFault as IsLinkFault, LedgerEndState}
 use Rattle.cdc_ends.specs.SubscriberEnds.{SubscriberState}
 use Rattle.cdc_ends.specs.declared.faults.RunFault.{RunFault}
 use Rattle.cdc_ends.specs.declared.faults.RunFault.TheVariants.{OutOfMemory}
@@ -55,16 +56,20 @@ module _ (S : Type 0) where
       → MayHaveMet (place_of t) (fault_of outcome)
   one_met t (Ok left) come = tt
   one_met (task.Ledger end) (Err fault) come =
-      of_kind IsLinkFault fault (inr refl) (met_kind (λ left. left.fault ≡ Some fault) IsLinkFault fault come.fault)
+      of_kind IsLinkFault fault (inr refl)
+      (met_kind (λ (left : LedgerEndState). left.fault ≡ Some fault) IsLinkFault fault come.fault)
   one_met (task.Client client) (Err fault) come =
-      of_kind IsLinkFault fault (inr refl) (met_kind (λ left. left.fault ≡ Some fault) IsLinkFault fault come.fault)
+      of_kind IsLinkFault fault (inr refl)
+      (met_kind (λ (left : ClientState). left.fault ≡ Some fault) IsLinkFault fault come.fault)
   one_met (task.Connector end) (Err fault) come =
       of_kind IsConnectorFault fault (inr (inl refl))
-      (met_kind (λ left. left.fault ≡ Some fault) IsConnectorFault fault come.fault)
+      (met_kind (λ (left : ConnectorEndState). left.fault ≡ Some fault) IsConnectorFault fault come.fault)
   one_met (task.Broker end) (Err fault) come =
-      of_kind IsLinkFault fault (inr refl) (met_kind (λ left. left.fault ≡ Some fault) IsLinkFault fault come.fault)
+      of_kind IsLinkFault fault (inr refl)
+      (met_kind (λ (left : BrokerEndState). left.fault ≡ Some fault) IsLinkFault fault come.fault)
   one_met (task.Subscriber number end) (Err fault) come =
-      of_kind IsLinkFault fault (inr refl) (met_kind (λ left. left.fault ≡ Some fault) IsLinkFault fault come.fault)
+      of_kind IsLinkFault fault (inr refl)
+      (met_kind (λ (left : SubscriberState). left.fault ≡ Some fault) IsLinkFault fault come.fault)
 
   -- so has each
   all_met : (ts : List (Task S)) (outcomes : List (Result (Left S) RunFault)) → AllZip (ComesTo Leaves Fails) ts outcomes
@@ -106,7 +111,7 @@ subscribers_count system acks number [] closes many = refl
 subscribers_count system acks number (link ∷ links) [] many = absurd (omega arith)
 subscribers_count system acks number (link ∷ links) (close ∷ closes) many =
     let fewer : length closes ≡ length links = omega arith in
-    ap (λ (n : ℕ). n + 1) (subscribers_count system acks (number + 1) links closes fewer)
+    ap (λ (n : ℕ). suc n) (subscribers_count system acks (number + 1) links closes fewer)
 
 module _ {S : Type 0} (config : Config) (faults : Faults) (held : Option Saved) (honest : Bool) (ends : Ends S)
     (made : AreMade config faults held honest ends) (scripts : List (List Batch)) where
