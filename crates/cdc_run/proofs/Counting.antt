@@ -11,6 +11,7 @@ use Rattle.cdc_ends.specs.declared.faults.RunFault.{RunFault}
 use Rattle.cdc_ends.specs.declared.faults.RunFault.TheVariants.{OutOfMemory}
 use Rattle.cdc_links.specs.Links.{LinkId, fresh_end}
 use Rattle.cdc_progress.specs.Records.{Saved}
+use Rattle.cdc_run.specs.Accounts.{IsRefused}
 use Rattle.cdc_run.specs.Jobs.{ComesTo}
 use Rattle.cdc_run.specs.Made.{AreMade, fresh_inbox, made_clients, made_subscribers}
 use Rattle.cdc_run.specs.Meeting.{HasFailed, IsRunFault, MayHaveMet, MayMeet, clients_from, fault_in, places_in, subscribers_from}
@@ -38,8 +39,8 @@ of_kind K fault memory (inr none) = subst K (sym none) memory
 
 -- a fault that was met by some end
 met_kind : {A : Type 0} (Is : A → Type 0) (K : RunFault → Type 0) (fault : RunFault)
-    → ((left : A) × Is left × K fault) ⊎ (fault ≡ OutOfMemory) → K fault ⊎ (fault ≡ OutOfMemory)
-met_kind Is K fault (inl met) = inl met.2
+    → ((left : A) × (Is left × K fault)) ⊎ (fault ≡ OutOfMemory) → K fault ⊎ (fault ≡ OutOfMemory)
+met_kind Is K fault (inl met) = inl met.1.1
 met_kind Is K fault (inr none) = inr none
 
 module _ (S : Type 0) where
@@ -148,3 +149,8 @@ module _ {S : Type 0} (config : Config) (faults : Faults) (held : Option Saved) 
         (ap (map (place_of S)) same ∙ all_stand many) (all_met S ts met.0 met.1);
     counts = sym (counts_in S met.0) ∙ met.2;
   }))
+
+-- ends that weren't put together
+pub unsettled : (n m : ℕ) (AreFit : Type 0) (fault : RunFault) → IsRefused AreFit fault → IsRunFault n m fault
+unsettled n m AreFit fault (inl none) = inl none
+unsettled n m AreFit fault (inr other) = inr (inr other.0)

@@ -58,7 +58,7 @@ own_of-none {X} other client (e ∷ entries) differ own =
     ∙ own_of-none other client entries differ (All-tail (λ (n : ℕ). n ≡ client) e.0 owners own)
 
 -- so many lists of nothing
-nones : {X : Type 0} → ℕ → List (List X)
+abbrev nones : {X : Type 0} → ℕ → List (List X)
 nones zero = []
 nones (suc k) = [] ∷ nones k
 
