@@ -67,7 +67,7 @@ returns-in_err-left-clause-fault g c =
     let many : length scripts ≡ c.args.config.clients =
     length-map c.args.scripts.items (λ s. s.items) ∙ sym c.args.scripts.ok.0 ∙ c.requires.scripts in
     has_failed _ _ _ _ c.in_ok-ends.ends c.in_ok-ends.ensures.made scripts many c.in_ok-tasks.tasks.items
-    c.in_ok-tasks.ensures c.in_err-left.field-0 c.in_err-left.ensures.fault
+    c.in_ok-tasks.ensures c.in_err-left.field-0.0 c.in_err-left.ensures.fault
 
 -- or why they weren't put together
 pub returns-clause-fault : goal.returns-clause-fault
