@@ -8,7 +8,6 @@ mod Lanes
 mod Linked
 mod Places
 mod ConnectorHearing
-mod ConnectorHistories
 mod ConnectorMessages
 mod ConnectorRounds
 mod ConnectorSessions

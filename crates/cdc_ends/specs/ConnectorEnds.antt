@@ -7,10 +7,9 @@ use Rattle.cdc_ends.specs.declared.faults.RunFault.{RunFault}
 use Rattle.cdc_ends.specs.declared.faults.RunFault.TheVariants.{PeerGone, OutOfMemory}
 use Rattle.cdc_ends.specs.declared.turns.Turn.{Turn}
 use Rattle.cdc_ends.specs.declared.turns.Turn.TheVariants.{More, Finished}
-use Rattle.cdc_laws.specs.ConnectorRuns.{IsConnectorRun}
 use Rattle.cdc_laws.specs.Connectors.{ConnectorState, held_number, held_start}
 use Rattle.cdc_laws.specs.Readings.{KeepsToReadings}
-use Rattle.cdc_links.specs.Links.{CanSend, Incoming, Outgoing, Takes, of_sender}
+use Rattle.cdc_links.specs.Links.{Incoming, Outgoing, Takes, of_sender}
 use Rattle.cdc_message.specs.declared.items.Item.TheVariants.{Event as OfEvent}
 use Rattle.cdc_message.specs.declared.packets.Answer.{Answer}
 use Rattle.cdc_message.specs.declared.packets.Answer.TheVariants.{Connected, Confirmed, Ignored, Broken}
@@ -22,9 +21,8 @@ use Rattle.cdc_publisher.specs.Courses.{Course, is_done, next_packet, next_poll}
 use Rattle.cdc_publisher.specs.Kept.{Kept}
 use Rattle.cdc_publisher.specs.Polls.{IsWanted}
 use Rattle.cdc_publisher.specs.Stands.{StandsFor}
-use Rattle.cdc_traffic.specs.Following.{FollowsToConnector, IsTold, last_named}
+use Rattle.cdc_traffic.specs.Following.{FollowsToConnector, IsTold}
 use Rattle.cdc_traffic.specs.Laws.{readings_of}
-use Rattle.cdc_traffic.specs.Pasts.{history_of}
 use Rattle.cdc_traffic.specs.declared.messages.ToBroker.{ToBroker}
 use Rattle.cdc_traffic.specs.declared.messages.ToBroker.TheVariants as to_broker
 use Rattle.cdc_traffic.specs.declared.messages.ToConnector.{ToConnector}
@@ -375,12 +373,3 @@ first_work inbox polls packets held honest start window restarts = record {
   published = 0;
   finished = false;
 }
-
--- over an honest store, where the run began at its start, a connector's packets and confirms so far are a connector run
--- after the start that is held, on the history that the ledger's last reply names, or on the empty one before the first; the
--- replies are what the ledger may send
-abbrev pub PacketsMakeRuns : Type 0
-PacketsMakeRuns = (c : Publishing) → IsConnectorEnd c → CanSend FollowsToConnector 0 (of_sender 0 c.inbox.received)
-    → c.honest ≡ true → IsAtStart (origin_of c)
-    → IsConnectorRun (history_of (last_named (of_sender 0 c.inbox.received))) (held_start c.held) (packets_in c.packets.sent)
-    (confirms_in (of_sender 1 c.inbox.received))

@@ -127,17 +127,6 @@ pub record HasReceived (old new : Intake) : Type 0 where
   pub brought : IsBrought old.inbox message new.inbox
   pub after : new ≡ with_message message old
 
--- how far the end has come in a turn that fails: it has received nothing; or a message; or a delivery, which was taken
--- too. In none of these has it acknowledged anything
-abbrev pub ComesSoFar : Intake → Intake → Type 0
-ComesSoFar old new =
-    (new ≡ old)
-    ⊎ (((message : ToSubscriber) × IsBrought old.inbox message new.inbox × (new ≡ record old { inbox = new.inbox }))
-    ⊎ ((d : Delivery) × IsBrought old.inbox (Hands d) new.inbox × (new ≡ record old {
-      inbox = new.inbox;
-      subscriber = kept_of (heard_by old.close_after (taken_by old.inbox ++ d ∷ []));
-    })))
-
 -- what a turn answers: whether the end has finished
 abbrev pub turn_of : Bool → Turn
 turn_of finished = if finished then Finished else More

@@ -1,7 +1,7 @@
 //! A subscriber over its links.
 
 ghost use Rattle.std.specs.Prelude.{◌≡◌, IfErr, IfOk, length, min};
-ghost use Rattle.cdc_ends.specs.SubscriberEnds.{ComesSoFar, IsBrought, IsSubscriberEnd, IsTurnFault, IsTurned, heard_after, is_due, new_intake, parts_of};
+ghost use Rattle.cdc_ends.specs.SubscriberEnds.{IsBrought, IsSubscriberEnd, IsTurnFault, IsTurned, heard_after, is_due, new_intake, parts_of};
 ghost use Rattle.cdc_links.specs.Links.{with_sent};
 ghost use Rattle.cdc_subscriber.specs.Heard.{Heard, applied_of, kept_of};
 ghost use Rattle.cdc_traffic.specs.Following.{FollowsToBroker};
@@ -68,7 +68,6 @@ impl Naming<()> for Nothing {
 // Receives the broker's next message.
 fn hear<R: Wait>(inbox: &mut LinkIn<ToSubscriber>, rt: &R) -> Result<ToSubscriber, RunFault>
     ensures brought { IfOk result (λ message. IsBrought inbox.old message inbox.new) }
-    ensures refused { IfErr result (λ _. inbox.new ≡ inbox.old) }
     ensures fault { IfErr result IsTurnFault }
 {
     match inbox.receive(rt) {
@@ -81,7 +80,6 @@ fn hear<R: Wait>(inbox: &mut LinkIn<ToSubscriber>, rt: &R) -> Result<ToSubscribe
 fn acknowledge<R: Wait>(acks: &mut LinkOut<ToBroker>, rt: &R, ack: Ack) -> Result<(), RunFault>
     requires { FollowsToBroker acks.old.number acks.old.sent (ToBroker.Ack ack, tt) }
     ensures sent { IfOk result (λ _. acks.new ≡ with_sent acks.old (ToBroker.Ack ack, tt)) }
-    ensures refused { IfErr result (λ _. acks.new ≡ acks.old) }
     ensures fault { IfErr result IsTurnFault }
 {
     match acks.send::<Nothing, R>(rt, ToBroker::Ack(ack)) {
@@ -110,7 +108,6 @@ fn take(
 ) -> Result<(), RunFault>
     ensures heard { (heard : Heard) → subscriber.old ≡ kept_of heard
         → IfOk result (λ _. subscriber.new ≡ kept_of (heard_after close_after heard delivery.now)) }
-    ensures refused { IfErr result (λ _. subscriber.new ≡ subscriber.old) }
     ensures fault { IfErr result IsTurnFault }
 {
     let Ok(_) = subscriber.take(alloc, delivery) else {
@@ -147,7 +144,6 @@ impl Intake {
     pub(crate) fn turn<R: Wait>(&mut self, rt: &R, alloc: Global) -> Result<Turn, RunFault>
         requires { IsSubscriberEnd self.old }
         ensures turned { IfOk result (λ turn. IsTurned self.old turn self.new) }
-        ensures so_far { IfErr result (λ _. ComesSoFar self.old self.new) }
         ensures fault { IfErr result IsTurnFault }
     {
         if self.finished {

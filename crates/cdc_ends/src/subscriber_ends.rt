@@ -1,7 +1,7 @@
 //! A subscriber's end: it takes what its queue hands out, and acknowledges each delivery.
 
 ghost use Rattle.std.specs.Prelude.{◌≡◌, ◌↔◌, ◌<◌, Err, IfErr, IfOk, IsTrue, None, Some, true, []};
-ghost use Rattle.cdc_ends.specs.SubscriberEnds.{AskedClose, ComesSoFar, DeliveriesAreHeard, HasTurned, IsSubscriberEnd, IsTurnFault, UnaskedStayOpen, new_intake, parts_of};
+ghost use Rattle.cdc_ends.specs.SubscriberEnds.{AskedClose, DeliveriesAreHeard, HasTurned, IsSubscriberEnd, IsTurnFault, UnaskedStayOpen, new_intake, parts_of};
 
 use crate::faults::RunFault;
 use crate::intakes::Intake;
@@ -83,9 +83,6 @@ impl SubscriberEnd {
         ensures turned { IfOk result (λ turn. HasTurned self.old turn self.new) }
         ensures fault { IfErr result (λ fault. self.new.fault ≡ Some fault) }
         ensures kind { IfErr result IsTurnFault }
-        ensures so_far { self.old.fault ≡ None
-            → IfErr result (λ _. ComesSoFar self.old.intake self.new.intake) }
-        ensures system { self.new.system ≡ self.old.system }
         ensures again { (fault : RunFault) → self.old.fault ≡ Some fault
             → (result ≡ Err fault) × (self.new ≡ self.old) }
     {

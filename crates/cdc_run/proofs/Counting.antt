@@ -1,15 +1,17 @@
 -- Which faults the ends of a run have met, by their places.
-use Rattle.std.proofs.Common.{◌≡◌, ◌⊎◌, ℕ, ◌+◌, List, [], ◌∷◌, ◌++◌, Option, Some, None, Result, Ok, Err, refl, sym, ap, ◌∙◌, subst, arith, length, map, inl, inr}
+use Rattle.std.proofs.Common.{◌≡◌, ◌⊎◌, ℕ, suc, ◌+◌, List, [], ◌∷◌, ◌++◌, Option, Some, None, Result, Ok, Err, refl, sym, ap, ◌∙◌, subst, arith, length, map, inl, inr}
 use Rattle.std.specs.Prelude.{Bool}
 use Rattle.std.specs.List.{AllZip}
-use Rattle.cdc_ends.specs.ConnectorEnds.{IsTurnFault as IsConnectorFault}
-use Rattle.cdc_ends.specs.Clients.{ClientState, first_words}
-use Rattle.cdc_ends.specs.LedgerEnds.{IsTurnFault as IsLinkFault}
+use Rattle.cdc_ends.specs.BrokerEnds.{BrokerEndState}
+use Rattle.cdc_ends.specs.Clients.{ClientState}
+use Rattle.cdc_ends.specs.ConnectorEnds.{ConnectorEndState, IsTurnFault as IsConnectorFault}
+use Rattle.cdc_ends.specs.LedgerEnds.{IsTurnFault as IsLinkFault, LedgerEndState}
 use Rattle.cdc_ends.specs.SubscriberEnds.{SubscriberState}
 use Rattle.cdc_ends.specs.declared.faults.RunFault.{RunFault}
 use Rattle.cdc_ends.specs.declared.faults.RunFault.TheVariants.{OutOfMemory}
 use Rattle.cdc_links.specs.Links.{LinkId, fresh_end}
 use Rattle.cdc_progress.specs.Records.{Saved}
+use Rattle.cdc_run.specs.Accounts.{IsRefused}
 use Rattle.cdc_run.specs.Jobs.{ComesTo}
 use Rattle.cdc_run.specs.Made.{AreMade, fresh_inbox, made_clients, made_subscribers}
 use Rattle.cdc_run.specs.Meeting.{HasFailed, IsRunFault, MayHaveMet, MayMeet, clients_from, fault_in, places_in, subscribers_from}
@@ -37,8 +39,8 @@ of_kind K fault memory (inr none) = subst K (sym none) memory
 
 -- a fault that was met by some end
 met_kind : {A : Type 0} (Is : A → Type 0) (K : RunFault → Type 0) (fault : RunFault)
-    → ((left : A) × Is left × K fault) ⊎ (fault ≡ OutOfMemory) → K fault ⊎ (fault ≡ OutOfMemory)
-met_kind Is K fault (inl met) = inl met.2
+    → ((left : A) × (Is left × K fault)) ⊎ (fault ≡ OutOfMemory) → K fault ⊎ (fault ≡ OutOfMemory)
+met_kind Is K fault (inl met) = inl met.1.1
 met_kind Is K fault (inr none) = inr none
 
 module _ (S : Type 0) where
@@ -55,16 +57,20 @@ module _ (S : Type 0) where
       → MayHaveMet (place_of t) (fault_of outcome)
   one_met t (Ok left) come = tt
   one_met (task.Ledger end) (Err fault) come =
-      of_kind IsLinkFault fault (inr refl) (met_kind (λ left. left.fault ≡ Some fault) IsLinkFault fault come.fault)
+      of_kind IsLinkFault fault (inr refl)
+      (met_kind (λ (left : LedgerEndState). left.fault ≡ Some fault) IsLinkFault fault come.fault)
   one_met (task.Client client) (Err fault) come =
-      of_kind IsLinkFault fault (inr refl) (met_kind (λ left. left.fault ≡ Some fault) IsLinkFault fault come.fault)
+      of_kind IsLinkFault fault (inr refl)
+      (met_kind (λ (left : ClientState). left.fault ≡ Some fault) IsLinkFault fault come.fault)
   one_met (task.Connector end) (Err fault) come =
       of_kind IsConnectorFault fault (inr (inl refl))
-      (met_kind (λ left. left.fault ≡ Some fault) IsConnectorFault fault come.fault)
+      (met_kind (λ (left : ConnectorEndState). left.fault ≡ Some fault) IsConnectorFault fault come.fault)
   one_met (task.Broker end) (Err fault) come =
-      of_kind IsLinkFault fault (inr refl) (met_kind (λ left. left.fault ≡ Some fault) IsLinkFault fault come.fault)
+      of_kind IsLinkFault fault (inr refl)
+      (met_kind (λ (left : BrokerEndState). left.fault ≡ Some fault) IsLinkFault fault come.fault)
   one_met (task.Subscriber number end) (Err fault) come =
-      of_kind IsLinkFault fault (inr refl) (met_kind (λ left. left.fault ≡ Some fault) IsLinkFault fault come.fault)
+      of_kind IsLinkFault fault (inr refl)
+      (met_kind (λ (left : SubscriberState). left.fault ≡ Some fault) IsLinkFault fault come.fault)
 
   -- so has each
   all_met : (ts : List (Task S)) (outcomes : List (Result (Left S) RunFault)) → AllZip (ComesTo Leaves Fails) ts outcomes
@@ -106,7 +112,7 @@ subscribers_count system acks number [] closes many = refl
 subscribers_count system acks number (link ∷ links) [] many = absurd (omega arith)
 subscribers_count system acks number (link ∷ links) (close ∷ closes) many =
     let fewer : length closes ≡ length links = omega arith in
-    ap (λ (n : ℕ). n + 1) (subscribers_count system acks (number + 1) links closes fewer)
+    ap (λ (n : ℕ). suc n) (subscribers_count system acks (number + 1) links closes fewer)
 
 module _ {S : Type 0} (config : Config) (faults : Faults) (held : Option Saved) (honest : Bool) (ends : Ends S)
     (made : AreMade config faults held honest ends) (scripts : List (List Batch)) where
@@ -143,3 +149,8 @@ module _ {S : Type 0} (config : Config) (faults : Faults) (held : Option Saved) 
         (ap (map (place_of S)) same ∙ all_stand many) (all_met S ts met.0 met.1);
     counts = sym (counts_in S met.0) ∙ met.2;
   }))
+
+-- ends that weren't put together
+pub unsettled : (n m : ℕ) (AreFit : Type 0) (fault : RunFault) → IsRefused AreFit fault → IsRunFault n m fault
+unsettled n m AreFit fault (inl none) = inl none
+unsettled n m AreFit fault (inr other) = inr (inr other.0)

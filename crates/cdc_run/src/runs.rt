@@ -1,6 +1,6 @@
 //! A run: every end on a thread of its own.
 
-ghost use Rattle.std.specs.Prelude.{◌≡◌, All, Option, IfErr, IfOk, List, ℕ, false, map, true, vec_len};
+ghost use Rattle.std.specs.Prelude.{◌≡◌, All, Option, IfErr, IfOk, List, ℕ, false, length, map, true, vec_len};
 ghost use Rattle.cdc_ends.specs.ConnectorEnds.{first_origin};
 ghost use Rattle.cdc_laws.specs.Connectors.{held_start, held_timestamp};
 ghost use Rattle.cdc_run.specs.Configs.{Fits};
@@ -108,11 +108,12 @@ pub fn run<S: ProgressStore + Send + Drop, R: Threads + Wait + Sync, G: Gate + S
     requires fits { Fits config }
     requires scripts { vec_len scripts ≡ config.clients }
     ensures report { IfOk result (HasRun (map (λ s. s.items) scripts.items)) }
-    ensures fault { IfErr result (IsRunFault config.clients (vec_len config.bindings)) }
+    ensures fault { IfErr result (IsRunFault config.clients (length config.bindings.items)) }
     ensures subscribers { IfOk result (λ report. S.is_honest store ≡ true
         → held_timestamp (S.held store) ≡ held_start (S.held store)
         → (closes : List (Option ℕ)) × AreCloses 1 faults.close.items closes
-        × AreSubscribed report.ledger (first_origin config.start (S.held store)).start config.bindings.items closes report.subscribers.items) }
+        × AreSubscribed report.ledger (first_origin config.start (S.held store)).start config.bindings.items closes
+        report.subscribers.items) }
 {
     let ends = wire_up(alloc, config, faults, store)?;
     let tasks = tasks_of(alloc, ends, scripts)?;

@@ -65,14 +65,14 @@ own_of-none {X} other client (e ∷ entries) differ own =
     ∙ own_of-none other client entries differ (All-tail (λ (n : ℕ). n ≡ client) e.0 owners own)
 
 -- so many lists of nothing
-nones : {X : Type 0} → ℕ → List (List X)
+abbrev nones : {X : Type 0} → ℕ → List (List X)
 nones zero = []
 nones (suc k) = [] ∷ nones k
 
 -- which are each client's own, up to the one whose all are
 shares_of-last : {X : Type 0} (client k number : ℕ) (entries : List (ℕ × X)) → number + k ≡ client
     → AllAre client (map (λ (e : ℕ × X). e.0) entries)
-    → shares_from number (k + 1) entries ≡ nones k ++ map (λ (e : ℕ × X). e.1) entries ∷ []
+    → shares_from number (suc k) entries ≡ nones k ++ map (λ (e : ℕ × X). e.1) entries ∷ []
 shares_of-last {X} client zero number entries at own =
     let same : client ≡ number = omega arith in
     ap (λ (l : List X). l ∷ [])
@@ -105,11 +105,11 @@ greatest client before (b ∷ batches) is own =
 
 -- the clients of a script are those up to the one that hands in its batches; up to the first, where there are none
 up_to_one : (batches : List ClientBatch) (client : ℕ) → 0 < client → AllAre client (owners_of batches)
-    → (before : ℕ) × ((client_count batches ≡ before + 1) × AllAre (before + 1) (owners_of batches))
+    → (before : ℕ) × ((client_count batches ≡ suc before) × AllAre (suc before) (owners_of batches))
 up_to_one [] client first own = (0, (refl, All-nil (λ (n : ℕ). n ≡ 1)))
 up_to_one (b ∷ batches) client first own =
     let here : b.client ≡ client = All-head (λ (n : ℕ). n ≡ client) b.client (owners_of batches) own in
-    let same : client ≡ client - 1 + 1 = omega (arith, first) in
+    let same : client ≡ suc (client - 1) = omega (arith, first) in
     let start : max 1 b.client ≡ client = ap (max 1) here ∙ max_first client first in (
       client - 1,
       (
@@ -121,15 +121,15 @@ up_to_one (b ∷ batches) client first own =
     )
 
 -- so that one hands in all, and those before it nothing
-one_script : (script : Script) (before : ℕ) → client_count script.batches ≡ before + 1
-    → AllAre (before + 1) (owners_of script.batches)
+one_script : (script : Script) (before : ℕ) → client_count script.batches ≡ suc before
+    → AllAre (suc before) (owners_of script.batches)
     → scripts_of script ≡ nones before ++ map (λ (b : ClientBatch). b.batch) script.batches ∷ []
 one_script script before count all =
     let entries : List (ℕ × Batch) = entries_of script.batches in
-    let at : 1 + before ≡ before + 1 = omega arith in
+    let at : 1 + before ≡ suc before = omega arith in
     ap (λ (n : ℕ). shares_from 1 n entries) count
-    ∙ shares_of-last (before + 1) before 1 entries at
-    (subst (AllAre (before + 1)) (sym (map-map (λ (e : ℕ × Batch). e.0) entry_of script.batches)) all)
+    ∙ shares_of-last (suc before) before 1 entries at
+    (subst (AllAre (suc before)) (sym (map-map (λ (e : ℕ × Batch). e.0) entry_of script.batches)) all)
     ∙ ap (λ (bs : List Batch). nones before ++ bs ∷ []) (map-map (λ (e : ℕ × Batch). e.1) entry_of script.batches)
 
 -- who was replied to no batch was replied nothing
@@ -152,9 +152,9 @@ one_share (suc before) (first ∷ rest) batches same =
     (more.0, (ap₂ (λ (l : List Reply) (ls : List (List Reply)). l ∷ ls) (no_replies first none) more.1.0, more.1.1))
 
 -- how many they are
-count_nones : {X : Type 0} (before : ℕ) (share : List X) → length (nones before ++ share ∷ []) ≡ before + 1
+count_nones : {X : Type 0} (before : ℕ) (share : List X) → length (nones before ++ share ∷ []) ≡ suc before
 count_nones zero share = refl
-count_nones (suc before) share = ap (λ (n : ℕ). n + 1) (count_nones before share)
+count_nones (suc before) share = ap (λ (n : ℕ). suc n) (count_nones before share)
 
 all_none : (before : ℕ) → HaveNone (nones before)
 all_none zero = All-nil (λ (l : List Reply). l ≡ [])
@@ -170,12 +170,12 @@ same_last (suc before) one other same =
 
 -- replies that are merged of one client's are that client's
 merged_share : (before : ℕ) (owners : List ℕ) (share : List Reply) (entries : List (ℕ × Reply))
-    → AllAre (before + 1) owners → AreMerged owners (nones before ++ share ∷ []) entries
+    → AllAre (suc before) owners → AreMerged owners (nones before ++ share ∷ []) entries
     → map (λ (e : ℕ × Reply). e.1) entries ≡ share
 merged_share before owners share entries own merged =
-    let at : 1 + before ≡ before + 1 = omega arith in
+    let at : 1 + before ≡ suc before = omega arith in
     same_last before (map (λ (e : ℕ × Reply). e.1) entries) share
-    (sym (shares_of-last (before + 1) before 1 entries at (subst (AllAre (before + 1)) (sym merged.owners) own))
+    (sym (shares_of-last (suc before) before 1 entries at (subst (AllAre (suc before)) (sym merged.owners) own))
     ∙ ap (λ (n : ℕ). shares_from 1 n entries) (sym (count_nones before share))
     ∙ merged.own)
 

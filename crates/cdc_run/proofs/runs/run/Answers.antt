@@ -1,9 +1,11 @@
 use Rattle.std.proofs.Common.{◌≡◌, ◌∙◌, sym, List, length, map}
 use Rattle.std.proofs.lemmas.List.{length-map}
-use Rattle.std.proofs.lemmas.Result.{IfOk-weaker}
+use Rattle.std.proofs.lemmas.Result.{IfErr-weaker, IfOk-weaker}
 use Rattle.cdc_types.specs.declared.batches.Batch.{Batch}
-use Rattle.cdc_run.specs.Reports.{HasRun, IsReportOf}
+use Rattle.cdc_run.specs.Meeting.{IsRunFault}
+use Rattle.cdc_run.specs.Reports.{AreFinished, HasRun, IsReportOf, IsUnreported}
 use Rattle.cdc_run.specs.Tasks.{places_of}
+use Rattle.cdc_run.proofs.Counting.{has_failed, unsettled}
 use Rattle.cdc_run.proofs.Leaving.{are_left, in_places}
 use Rattle.cdc_run.proofs.Ran.{has_run, have_subscribed, no_client_done}
 use Rattle.cdc_run.proofs.Seated.{all_seated}
@@ -57,3 +59,20 @@ returns-clause-subscribers g c =
       have_subscribed _ _ _ _ c.in_ok-ends.ends made c.in_ok-finished.finished scripts are report reported honest zero,
     ))
     c.settle.ensures.report
+
+-- the fault that counts of those that its ends have met
+pub returns-in_err-left-clause-fault : goal.returns-in_err-left-clause-fault
+returns-in_err-left-clause-fault g c =
+    let scripts : List (List Batch) = map (λ s. s.items) c.args.scripts.items in
+    let many : length scripts ≡ c.args.config.clients =
+    length-map c.args.scripts.items (λ s. s.items) ∙ sym c.args.scripts.ok.0 ∙ c.requires.scripts in
+    has_failed _ _ _ _ c.in_ok-ends.ends c.in_ok-ends.ensures.made scripts many c.in_ok-tasks.tasks.items
+    c.in_ok-tasks.ensures c.in_err-left.field-0.0 c.in_err-left.ensures.fault
+
+-- or why they weren't put together
+pub returns-clause-fault : goal.returns-clause-fault
+returns-clause-fault g c =
+    let n = c.args.config.clients in
+    let m = length c.args.config.bindings.items in
+    IfErr-weaker c.settle.result (IsUnreported c.in_ok-finished.finished) (IsRunFault n m)
+    (unsettled n m (AreFinished c.in_ok-finished.finished)) c.settle.ensures.refused
