@@ -47,15 +47,15 @@ STORE = b"fault: store\n"
 NO_MEMORY = b"fault: out_of_memory\n"
 EXHAUSTED = b"fault: sessions_exhausted\n"
 GREATEST = 2**64 - 1
-RECORD = re.compile(rb"tb-cdc 1 (0|[1-9][0-9]*) (0|[1-9][0-9]*)\n")
+RECORD = re.compile(rb"tb-cdc 2 (0|[1-9][0-9]*) (0|[1-9][0-9]*) (0|[1-9][0-9]*)\n")
 # A beginning of a record, as a save leaves it that was broken off.
 BEGINNING = re.compile(rb"(t|tb|tb-|tb-c|tb-cd|tb-cdc|tb-cdc [0-9 ]*\n?)?")
 TRANSFERS, ENDED = 60, 10  # of the long runs; how many of them are ended by each means
 
 
-def record(session, timestamp):
+def record(session, timestamp, start=0):
     """The text of a record of progress."""
-    return b"tb-cdc 1 %d %d\n" % (session, timestamp)
+    return b"tb-cdc 2 %d %d %d\n" % (session, timestamp, start)
 
 
 def as_nobody(processes=None):
@@ -207,7 +207,7 @@ def unwritable(hostile):
 
 
 def no_record(hostile):
-    texts = [b"x", b"", record(3, 0)[:-1], record(3, 0) + b"\n", record(3, 0) + 120 * b"0", SCRIPT, record(GREATEST + 1, 0)]
+    texts = [b"x", b"", record(3, 0)[:-1], record(3, 0) + b"\n", record(3, 0) + 120 * b"0", SCRIPT, record(GREATEST + 1, 0), record(3, 0, 1), b"tb-cdc 3 3 0 0\n"]
     for text in texts:
         folder = hostile.folder()
         hostile.write(folder, "saved", text)

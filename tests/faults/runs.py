@@ -65,18 +65,18 @@ LATER = {
 MOMENTS = sorted(LATER)
 KIND_OF = {"open": "open", "look": "open", "read": "read", "write": "write", "sync": "sync", "rename": "rename"}
 HOW = ["", " after", " end", " after end"]
-RECORD = re.compile(rb"tb-cdc 1 (\d+) (\d+)\n")
+RECORD = re.compile(rb"tb-cdc (?:1 (?=\d+ \d+\n)|2 )(\d+) (\d+)(?: 0)?\n")
 BEGINNING = re.compile(rb"(t|tb|tb-|tb-c|tb-cd|tb-cdc|tb-cdc [0-9 ]*\n?)?")
 
 
 def record(session, timestamp):
-    return b"tb-cdc 1 %d %d\n" % (session, timestamp)
+    return b"tb-cdc 2 %d %d 0\n" % (session, timestamp)
 
 
 # What the file and the one beside it hold before a run.
 STARTS = {
     "no file": (None, None),
-    "an old record": (record(3, 0), None),
+    "an old record": (b"tb-cdc 1 3 0\n", None),
     "an old record and what a broken save left": (record(3, 0), record(4, 0)[:-4]),
 }
 
@@ -204,7 +204,7 @@ class Sweep:
         if "end" in how:
             right = ended == ENDED
         else:
-            right = ended == STORE and b"store: " in errors and errors.count(b"\n") == 1
+            right = ended == STORE and b"saved: store: " in errors and errors.count(b"\n") == 1
         if not right or holds != wanted or not (beside is None or BEGINNING.fullmatch(beside)):
             self.fail(f"{name}, {plan} of {path}: {ended}, {errors!r}; saved: {holds!r}, wanted {wanted!r}; beside it {beside!r}")
             return
