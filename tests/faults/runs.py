@@ -65,7 +65,7 @@ LATER = {
 MOMENTS = sorted(LATER)
 KIND_OF = {"open": "open", "look": "open", "read": "read", "write": "write", "sync": "sync", "rename": "rename"}
 HOW = ["", " after", " end", " after end"]
-RECORD = re.compile(rb"tb-cdc (?:1 (?=\d+ \d+\n)|2 )(\d+) (\d+)(?: 0)?\n")
+RECORD = re.compile(rb"tb-cdc (?:1 (?=\d+ \d+\n)|2 (?=\d+ \d+ \d+\n))(\d+) (\d+)(?: 0)?\n")
 BEGINNING = re.compile(rb"(t|tb|tb-|tb-c|tb-cd|tb-cdc|tb-cdc [0-9 ]*\n?)?")
 
 
