@@ -125,7 +125,7 @@ module _ {S : Type 0} (config : Config) (faults : Faults) (held : Option Saved) 
       task.Connector ends.connector ∷ task.Broker ends.broker ∷ numbered 1 ends.subscribers.items in
       let behind : List Place = place.Connector ∷ place.Broker ∷ [] in
       let subscribers : map (place_of S) (numbered 1 ends.subscribers.items)
-          ≡ subscribers_from 1 (length config.bindings.items) =
+      ≡ subscribers_from 1 (length config.bindings.items) =
       subscribers_stand S 1 ends.subscribers.items
       ∙ ap (subscribers_from 1)
       (ap (λ (l : List SubscriberState). length l) made.subscribers

@@ -44,6 +44,7 @@ impl<S: ProgressStore + Send + Drop> Job for Task<S> {
             )?)),
         }
     }
+
     fn give_up<R: Wait>(self, rt: &R) {
         match self {
             Task::Ledger(end) => end.give_up(rt),

@@ -115,7 +115,7 @@ up_to_one (b ∷ batches) client first own =
       (
         greatest client (max 1 b.client) batches start
             (All-tail (λ (n : ℕ). n ≡ client) b.client (owners_of batches) own)
-        ∙ same,
+            ∙ same,
         subst (λ (n : ℕ). AllAre n (owners_of (b ∷ batches))) same own,
       ),
     )

@@ -1,6 +1,8 @@
-use Rattle.std.proofs.Common.{◌≡◌, ◌∙◌, sym, List, length, map}
+use Rattle.std.proofs.Common.{◌≡◌, ◌∙◌, IfErr, subst, sym, List, length, map}
+use Rattle.std.specs.Prelude.{IsErrAnd}
 use Rattle.std.proofs.lemmas.List.{length-map}
-use Rattle.std.proofs.lemmas.Result.{IfErr-weaker, IfOk-weaker}
+use Rattle.std.proofs.lemmas.Result.{IfErr-weaker, IfOk-weaker, err_from_is_err_and}
+use Rattle.cdc_ends.specs.declared.faults.RunFault.{RunFault}
 use Rattle.cdc_types.specs.declared.batches.Batch.{Batch}
 use Rattle.cdc_run.specs.Meeting.{IsRunFault}
 use Rattle.cdc_run.specs.Reports.{AreFinished, HasRun, IsReportOf, IsUnreported}
@@ -66,8 +68,14 @@ returns-in_err-left-clause-fault g c =
     let scripts : List (List Batch) = map (λ s. s.items) c.args.scripts.items in
     let many : length scripts ≡ c.args.config.clients =
     length-map c.args.scripts.items (λ s. s.items) ∙ sym c.args.scripts.ok.0 ∙ c.requires.scripts in
+    let Is : RunFault → Type 0 = IsRunFault c.args.config.clients (length c.args.config.bindings.items) in
+    let failed : Is c.in_err-left.field-0.0 =
     has_failed _ _ _ _ c.in_ok-ends.ends c.in_ok-ends.ensures.made scripts many c.in_ok-tasks.tasks.items
-    c.in_ok-tasks.ensures c.in_err-left.field-0.0 c.in_err-left.ensures.fault
+    c.in_ok-tasks.ensures c.in_err-left.field-0.0 c.in_err-left.ensures.fault in
+    let same : IsErrAnd c.from_residual-in_err-left.result (λ e. e ≡ c.in_err-left.field-0.0) =
+    c.from_residual-in_err-left.ensures.1 in
+    let out = err_from_is_err_and c.from_residual-in_err-left.result same in
+    subst (λ r. IfErr r Is) (sym out.1) (subst Is (sym out.2) failed)
 
 -- or why they weren't put together
 pub returns-clause-fault : goal.returns-clause-fault

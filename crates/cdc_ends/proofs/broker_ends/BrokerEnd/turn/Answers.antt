@@ -19,7 +19,7 @@ returns-in-Ok-clause-links g c =
 
 pub invariant_of-self : goal.invariant_of-self
 invariant_of-self g c = (
-    λ none. turns_is (desk_of c.self.inside.desk) (desk_of c.turn.new.self) c.in-Ok.turn (c.self.invariant.0 none)
-        c.in-Ok.ensures.after,
-    c.self.invariant.1,
-  )
+  λ none. turns_is (desk_of c.self.inside.desk) (desk_of c.turn.new.self) c.in-Ok.turn (c.self.invariant.0 none)
+      c.in-Ok.ensures.after,
+  c.self.invariant.1,
+)
