@@ -33,7 +33,16 @@ fn a_connector_without_a_broker(rt: HostRuntime) {
     let polls = asking.pop().expect(&rt, "two senders");
     let packets = sending.pop().expect(&rt, "one sender");
     drop(broker);
-    let mut connector = ConnectorEnd::new(1, inbox, polls, packets, MemoryStore::new(), None, 1, plan);
+    let mut connector = ConnectorEnd::new(
+        1,
+        inbox,
+        polls,
+        packets,
+        MemoryStore::new(),
+        None,
+        1,
+        plan,
+    );
     let gone = Err(RunFault::PeerGone);
     turn_so(&rt, rt.alloc(), &mut connector, &[gone, gone]);
     assert!(rt; hears_of_a_loss(&rt, &mut ledger));
@@ -80,7 +89,16 @@ fn a_connector_begins(rt: HostRuntime) {
     let (_answers, inbox) = link::<ToConnector>(rt.alloc(), 5, 2).expect(&rt, "memory");
     let polls = asking.pop().expect(&rt, "one sender");
     let packets = sending.pop().expect(&rt, "one sender");
-    let mut connector = ConnectorEnd::new(1, inbox, polls, packets, MemoryStore::new(), None, 1, plan);
+    let mut connector = ConnectorEnd::new(
+        1,
+        inbox,
+        polls,
+        packets,
+        MemoryStore::new(),
+        None,
+        1,
+        plan,
+    );
     turn_so(&rt, rt.alloc(), &mut connector, &[Ok(Turn::More)]);
     assert!(rt; is_polled(&rt, &mut ledger));
     assert!(rt; is_connected(&rt, &mut broker));
