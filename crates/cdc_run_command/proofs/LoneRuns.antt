@@ -206,7 +206,7 @@ text_of-kept n h start (b ∷ bindings) =
     ap (λ (l : List ℕ). subscriber_text n (kept_of_line h start b) ++ l) (text_of-kept (n + 1) h start bindings)
 
 -- the ledger of a script, which no event of 0 is in
-ledger_of : Script → History
+abbrev ledger_of : Script → History
 ledger_of script =
     record (after_batches features empty_history (map (λ (b : ClientBatch). b.batch) script.batches)) { closed = true }
 

@@ -4,12 +4,15 @@ use Rattle.std.specs.Prelude.{All, IfOk, IfSome, Option, Result, fold, max, slic
 use Rattle.std.specs.Option.{option_map}
 use Rattle.std.proofs.lemmas.List.{length-map}
 use Rattle.std.proofs.lemmas.Option.{get_or_from_slice_get, slice_get-map, slice_get_within}
+use Rattle.cdc_ledger.specs.History.{History}
+use Rattle.cdc_match.specs.declared.binding.Binding.{Binding}
 use Rattle.cdc_run.specs.Configs.{Fits}
-use Rattle.cdc_run.specs.Reports.{HasRun, replies_of}
+use Rattle.cdc_run.specs.Reports.{AreSubscribed, HasRun, replies_of}
 use Rattle.cdc_run.specs.declared.reports.Report.{Report}
 use Rattle.cdc_script.specs.Scripts.{script_of}
 use Rattle.cdc_script.specs.declared.scripts.ClientBatch.{ClientBatch}
 use Rattle.cdc_script.specs.declared.scripts.Script.{Script}
+use Rattle.cdc_subscriber.specs.Kept.{Kept}
 use Rattle.cdc_traffic.specs.declared.requests.Reply.{Reply}
 use Rattle.cdc_types.specs.declared.batches.Batch.{Batch}
 use Rattle.cdc_types.specs.declared.bounds.TheConstants.Limits.{CLIENTS}
@@ -100,6 +103,13 @@ order_of_shares batches replies lawful same = record {
       ∙ ap (times_in (1 + k)) (owners_are batches)
       ∙ ap (λ c. times_in c (owners_of batches)) (let e : 1 + k ≡ k + 1 = omega arith in e);
 }
+
+-- subscribers of some bindings are those of equal ones
+pub subscribed_same : (h : History) (start : ℕ) (closes : List (Option ℕ)) (subscribers : List Kept)
+    (these those : List Binding) → these ≡ those
+    → AreSubscribed h start these closes subscribers → AreSubscribed h start those closes subscribers
+subscribed_same h start closes subscribers these those same are =
+    subst (λ (bindings : List Binding). AreSubscribed h start bindings closes subscribers) same are
 
 -- ---- what is printed
 

@@ -1,14 +1,13 @@
 use Rattle.std.proofs.Common.{◌≡◌, ◌∙◌, ◌≤◌, ℕ, List, Some, ap, arith, length, map, subst, sym}
 use Rattle.std.specs.Prelude.{slice_get}
 use Rattle.std.proofs.lemmas.List.{length-map}
-use Rattle.cdc_match.specs.declared.binding.Binding.{Binding}
-use Rattle.cdc_run.specs.Reports.{AreSubscribed, HasRun, replies_of}
+use Rattle.cdc_run.specs.Reports.{HasRun, replies_of}
 use Rattle.cdc_script.specs.declared.scripts.ClientBatch.{ClientBatch}
 use Rattle.cdc_types.specs.declared.batches.Batch.{Batch}
 use Rattle.cdc_run_command.specs.Private.Merging.{IsOrderOf}
 use Rattle.cdc_run_command.specs.Private.Runnable.{IsClient}
 use Rattle.cdc_run_command.specs.Runs.{PrintsReport, client_count, entries_of, owners_of, shares_from}
-use Rattle.cdc_run_command.proofs.RunLemmas.{clients_fit, order_of_shares}
+use Rattle.cdc_run_command.proofs.RunLemmas.{clients_fit, order_of_shares, subscribed_same}
 use Rattle.cdc_run_command.proofs.ShareLemmas.{length-shares_from}
 use Rattle.cdc_run_command.proofs.run.run_clients.Goals as goal
 
@@ -66,9 +65,7 @@ returns-clause-text g c =
               come.0,
               (
                 come.1,
-                subst (λ (bindings : List Binding). AreSubscribed report.ledger bindings come.0
-                    report.subscribers.items)
-                    c.into_vec-bindings.ensures come.2,
+                subscribed_same report.ledger _ come.0 report.subscribers.items _ _ c.into_vec-bindings.ensures come.2,
               ),
             );
       };
