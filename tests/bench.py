@@ -12,7 +12,6 @@ least and the middle.
 The table is compared with the last one of docs/MEASURED.md: what takes a fiftieth more instructions or memory is named. With
 --write it is put there, at the top, with the commit. Limits that fail are those of tests/cost.py, which the gate runs.
 """
-import argparse
 import concurrent.futures
 import datetime
 import os

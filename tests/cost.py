@@ -25,7 +25,7 @@ SCRIPT_BYTES = 1_048_576
 BATCH_ITEMS = 1_000
 
 # The limits.
-GROWTH = 2.0  # per cent, of what a further transfer costs, for each doubling
+GROWTH = 3.0  # per cent, of what a further transfer costs, for each doubling
 EXPONENT = 1.02
 FULL = 40_000  # instructions for each transfer of a full script
 FURTHER = 20_000  # instructions for each transfer and each subscriber beyond the first

@@ -46,11 +46,12 @@ def accounts_of(events):
 class Search:
     """The ledger of a run as far as its batches are handed in, and how many of each client's are."""
 
-    def __init__(self, script, batches, subscribers, moment):
+    def __init__(self, script, batches, subscribers, moment, saved):
         self.script = script
         self.printed = batches
         self.subscribers = list(zip(script.bindings, subscribers))
-        self.moment = moment  # of the saved progress, after which events are published
+        self.moment = moment  # after which events are published
+        self.saved = saved  # the moment of the progress that the run has left, where it left some
         self.left = {}  # of each client the places of its batches, in its order
         for place, batch in enumerate(script.batches):
             self.left.setdefault(batch.client, []).append(place)
@@ -60,7 +61,8 @@ class Search:
     def found(self):
         """Each order that what was printed of batches and subscribers allows, one after another."""
         if len(self.order) == len(self.script.batches):
-            yield list(self.order)
+            if self.saved in (None, self.last_moment()):
+                yield list(self.order)
             return
         for places in self.left.values():
             if places:
@@ -73,6 +75,11 @@ class Search:
                 self.ledger.undo(before)
                 self.ledger.last = last
                 places.insert(0, place)
+
+    def last_moment(self):
+        """The moment of the last event that is published, which is saved once all are confirmed."""
+        events = [event for event in self.ledger.events[-1:] if event.timestamp > self.moment]
+        return events[-1].timestamp if events else self.moment
 
     def submits(self, place):
         """Hands in a batch; whether the results are those that were printed."""
@@ -99,22 +106,33 @@ class Search:
         return last == told.last if len(events) == told.applied else last < told.last
 
 
-def orders_of(script, printed, moment):
-    """Each order of a script's batches, as places in it, that this text of a run allows."""
+def saved_moment(record):
+    """The moment of a record of progress as a run leaves it; None where it is no such record."""
+    fields = (record or b'').split()
+    return int(fields[3]) if len(fields) == 5 and fields[:2] == [b'tb-cdc', b'2'] else None
+
+
+def orders_of(script, printed, moment, saved):
+    """Each order of a script's batches, as places in it, that this text of a run and the moment that it saved allow."""
     told = told_of(printed)
     if told is None or [len(part) for part in told] != [len(script.batches), len(script.bindings)]:
         return iter(())
-    return Search(script, *told, moment).found()
+    return Search(script, *told, moment, saved).found()
 
 
-def report_of_run(script_data, plan, progress, printed):
-    """What the model says of a run that printed this: in an order that allows it, if there is one, else in the file's."""
-    report = model.run(script_data, plan, progress)
-    if report.status != 0 or report.text == printed:
+def report_of_run(script_data, plan, progress, printed, record=None):
+    """What the model says of a run that printed this, and left this record of progress, if it left any: in an order that
+    allows both, if there is one, else in the file's."""
+    report, saved = model.run(script_data, plan, progress), saved_moment(record)
+
+    def fits(one):
+        return one.text == printed and (saved is None or one.progress is None or one.progress[1] == saved)
+
+    if report.status != 0 or fits(report):
         return report
     moment = plan.start or 0 if progress is None else progress[1]
-    for order in orders_of(model.read_script(script_data), printed, moment):
+    for order in orders_of(model.read_script(script_data), printed, moment, saved):
         other = model.run(script_data, plan, progress, order)
-        if other.text == printed:
+        if fits(other):
             return other
     return report

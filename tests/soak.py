@@ -859,7 +859,7 @@ def report_of(command, case, found):
     if command == 'simulate':
         return model.simulate(case.script, case.steps, number_of(case.words_of_window))
     printed = found.text.decode('ascii', 'replace')
-    return orders.report_of_run(case.script, model.plan_of(case.plan), case.progress, printed)
+    return orders.report_of_run(case.script, model.plan_of(case.plan), case.progress, printed, found.record if case.saves else None)
 
 
 def words_of(command, case):

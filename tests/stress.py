@@ -11,7 +11,7 @@ output has to be what the outside model (model.py) has for the order of batches 
 of three start after a moment. A long one closes nothing, and its first book tells the order of its batches: the output has to be what `books` prints of a
 script in this order. Half of the runs save their progress to a file; from the record that is left, the plan did what it
 says, where the window is 1. A run that takes longer than SECONDS hangs, and has failed. One run more is held for a while,
-by a pipe in the place of its saved progress, and must take no processor time meanwhile.
+in its first save (hold.c), and must take no processor time meanwhile.
 
 Then four clients hand in 1,000 transfers each, a batch a transfer, and it is printed how many batches of one client came
 to the ledger in a row, at the most: nothing is claimed of that.
@@ -27,9 +27,11 @@ import os
 import pathlib
 import random
 import re
+import shutil
 import subprocess
 import sys
 import time
+from types import SimpleNamespace
 
 import model
 import orders
@@ -336,8 +338,8 @@ class Short(Stress):
         moment = self.rng.choice([0, 1000, 2000, 5000]) + self.rng.randint(-1, 8)
         return ['--start-after', str(max(moment, 0))]
 
-    def wanted(self, script, plan, saves, printed):
-        report = orders.report_of_run(script.text().encode('ascii'), model.plan_of(plan), None, printed)
+    def wanted(self, script, plan, saves, printed, left=None):
+        report = orders.report_of_run(script.text().encode('ascii'), model.plan_of(plan), None, printed, left)
         return [(report.text, record) for record in (records_of(report) if saves else [None])]
 
     def shown(self, printed):
@@ -353,7 +355,7 @@ class Long(Stress):
     def script(self, clients, subscribers):
         return script_of(self.rng, clients, subscribers, TRANSFERS // 6 // clients, 11, [1000])
 
-    def wanted(self, script, plan, saves, printed):
+    def wanted(self, script, plan, saves, printed, left=None):
         order = script.order_in(printed)
         if order is None:
             return [('an order of the batches in the first book', None)]
@@ -404,7 +406,7 @@ def run_stress(options, runner):
         times.setdefault((stress.name, processors), []).append(time.monotonic() - begun)
         left = progress.read_bytes() if progress.exists() else None
         what = f'run {number} of seed {options.seed}, a {stress.name} script on {processors} processors, {stress.told}: '
-        wanted = stress.wanted(script, plan, saves, printed)
+        wanted = stress.wanted(script, plan, saves, printed, left)
         runner.note(what + ' '.join(words), wanted, (stress.shown(printed), left))
     run_waiting(runner)
     for (name, processors), seconds in sorted(times.items()):
@@ -454,19 +456,25 @@ def has_rested(process):
 
 
 def run_waiting(runner):
-    """A run whose connector waits for its progress, and all others with it."""
+    """A run whose connector is held in its first save, and all others with it."""
+    compiler, library = shutil.which('cc'), runner.folder / 'hold.so'
+    if compiler is None:
+        print('stress: not tried: a run that waits, for want of cc')
+        return
+    source = pathlib.Path(__file__).parent / 'hold.c'
+    subprocess.run([compiler, '-shared', '-fPIC', '-O1', '-o', library, source], check=True)
     script = long_script(2000, 100)
     book = runner.run(['books', '-'], script)
-    pipe = runner.folder / 'stress.pipe'
+    pipe = runner.folder / 'hold'
     os.mkfifo(pipe)
     (runner.folder / 'stress.script').write_text(script)
-    words = [runner.program, 'run', 'stress.script', '--progress', pipe.name]
-    with subprocess.Popen(words, cwd=runner.folder, stdout=subprocess.PIPE) as run:
+    words = [runner.program, 'run', 'stress.script', '--progress', 'held']
+    held = {**os.environ, 'LD_PRELOAD': str(library)}
+    with subprocess.Popen(words, cwd=runner.folder, stdout=subprocess.PIPE, env=held) as run:
         try:
             rested = has_rested(run)
             # Without a reader this is refused, and doesn't wait.
-            with open(os.open(pipe, os.O_WRONLY | os.O_NONBLOCK), 'wb') as saved:
-                saved.write(b'tb-cdc 2 4 0 0\n')
+            os.close(os.open(pipe, os.O_WRONLY | os.O_NONBLOCK))
             found = run.communicate(timeout=SECONDS)[0].decode('utf-8', 'backslashreplace')
         except (OSError, subprocess.TimeoutExpired) as error:
             run.kill()
