@@ -91,7 +91,7 @@ fn scratch(rt: &HostRuntime) -> Result<String, Fail> {
 
 #[test]
 fn each_beginning_of_a_record_is_none(rt: HostRuntime) {
-    for (_, _, text) in RECORDS {
+    for (_, _, _, text) in RECORDS {
         for end in 0..text.len() {
             assert_eq!(rt; parse(&text.as_bytes()[..end]), None);
         }
