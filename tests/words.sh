@@ -248,21 +248,10 @@ same 'a run of a fifth client: standard error' "fifth.script:2: bad_client: a cl
 
 # Two clients at once: which of them comes first isn't fixed, but each one's own order is, and both books are told by the
 # ledger's events. Ten times over.
-cat >clients.script <<'SCRIPT'
-subscriber all
-subscriber all ledger=800
-accounts 1000
-account id=1 ledger=700 code=10
-account id=2 ledger=700 code=10
-transfers 2000
-transfer id=1 debit_account_id=1 credit_account_id=2 amount=5 ledger=700 code=1
-client 2
-accounts 1000
-account id=3 ledger=800 code=10
-account id=4 ledger=800 code=10
-transfers 2000
-transfer id=2 debit_account_id=3 credit_account_id=4 amount=7 ledger=800 code=1
-SCRIPT
+{
+    printf 'subscriber all\nsubscriber all ledger=800\n'
+    cat "$top/tests/faults/two-clients.script"
+} >clients.script
 for _ in 1 2 3 4 5 6 7 8 9 10; do
     run run clients.script --restart-after 2
     ends_well 'two clients'

@@ -31,15 +31,8 @@ transfers 3000
 transfer id=11 pending_id=10 amount=40 flags=4
 transfer id=12 debit_account_id=2 credit_account_id=1 amount=5 ledger=700 code=1
 """
-TWO_CLIENTS = "client 1\n" + S + """transfers 2000
-transfer id=1 debit_account_id=1 credit_account_id=2 amount=5 ledger=700 code=1
-client 2
-accounts 1000
-account id=3 ledger=800 code=10
-account id=4 ledger=800 code=10
-transfers 2000
-transfer id=2 debit_account_id=3 credit_account_id=4 amount=7 ledger=800 code=1
-"""
+with open(os.path.join(os.path.dirname(os.path.realpath(__file__)), "two-clients.script"), encoding="ascii") as file:
+    TWO_CLIENTS = "client 1\n" + file.read()
 BATCHES = "batch 1: 0 0\nbatch 2: 0\nbatch 3: 0 0\n"
 ALL_KEPT = "subscriber 1 applied 3 last 3001 ended yes closed no\naccount 1 0 40 0 5\naccount 2 0 5 0 40\n"
 POSTED_KEPT = "subscriber 2 applied 1 last 3000 ended yes closed no\naccount 1 0 40 0 0\naccount 2 0 0 0 40\n"
