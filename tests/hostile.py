@@ -7,7 +7,7 @@ Each case has a folder of its own, and each run 20 seconds. A run that is refuse
 names the file on standard error, and leaves the folder as it was; one that isn't leaves the record, in the file that was named,
 and nothing beside it. Where it is run as root, the program is run as nobody, so that modes and owners count.
 
-Runs that may not have all their threads want memory. Then runs are ended in the middle, by SIGTERM and by a standard output that
+Runs that may not have all their threads, or whose address space is small, want memory. Then runs are ended in the middle, by SIGTERM and by a standard output that
 nobody reads any more: the file holds a whole record, or isn't there; what is beside it is at most the beginning of a record,
 which the next run takes away.
 
@@ -58,14 +58,16 @@ def record(session, timestamp, start=0):
     return b"tb-cdc 2 %d %d %d\n" % (session, timestamp, start)
 
 
-def as_nobody(processes=None):
-    """Makes a process nobody's, who may have so many processes and threads."""
+def as_nobody(processes=None, megabytes=None):
+    """Makes a process nobody's, who may have so many processes and threads, and it so much of an address space."""
     if os.geteuid() == 0:
         os.setgroups([])
         os.setgid(NOBODY)
         os.setuid(NOBODY)
     if processes is not None:
         resource.setrlimit(resource.RLIMIT_NPROC, (processes, processes))
+    if megabytes is not None:
+        resource.setrlimit(resource.RLIMIT_AS, (megabytes << 20, megabytes << 20))
 
 
 class Hostile:
@@ -115,10 +117,10 @@ class Hostile:
 
     # -- runs
 
-    def start(self, folder, saved, script="script", processes=None):
+    def start(self, folder, saved, script="script", **limits):
         words = [self.program, "run", script, "--progress", saved]
         how = {"stdin": subprocess.DEVNULL, "stdout": subprocess.PIPE, "stderr": subprocess.PIPE}
-        return subprocess.Popen(words, cwd=folder, preexec_fn=lambda: as_nobody(processes), **how)
+        return subprocess.Popen(words, cwd=folder, preexec_fn=lambda: as_nobody(**limits), **how)
 
     def end(self, run):
         """How a run ended: its status, and what it printed; and what it said on standard error."""
@@ -263,18 +265,31 @@ def kept(hostile):
 
 
 # ---------------------------------------------------------------------------------------------------------------------
-# Too few threads.
+# Too few threads, and too little of an address space.
+
+
+def wants_memory(hostile, what, begins=True, **limits):
+    """A run under limits comes to its end, or says that it wants memory, and leaves a whole record or none. One of which nobody
+    knows whether the system can begin it at all may also end before it has printed anything."""
+    folder = hostile.folder()
+    ended, errors = hostile.end(hostile.start(folder, "saved", **limits))
+    right = ended == (0, PRINTED) or ended == (1, NO_MEMORY) and b"out_of_memory" in errors
+    unbegun = not begins and ended[0] not in (0, 1, "none") and ended[1] == b""
+    hostile.check(what, True, right or unbegun or (ended, errors))
+    held = contents(folder).get("saved")
+    hostile.check(f"{what}: the record", True, not held or bool(RECORD.fullmatch(held[1])))
 
 
 def few_threads(hostile):
     """A run that may not have all its threads wants memory; how many others nobody has, nobody knows."""
     for processes in range(1, 9):
-        folder = hostile.folder()
-        ended, errors = hostile.end(hostile.start(folder, "saved", processes=processes))
-        right = ended == (0, PRINTED) or ended == (1, NO_MEMORY) and b"out_of_memory" in errors
-        hostile.check(f"at most {processes} threads", True, right or (ended, errors))
-        held = contents(folder).get("saved")
-        hostile.check(f"at most {processes} threads: the record", True, not held or bool(RECORD.fullmatch(held[1])))
+        wants_memory(hostile, f"at most {processes} threads", processes=processes)
+
+
+def small_spaces(hostile):
+    """So does one whose threads' stacks find no room."""
+    for megabytes in (*range(2, 64, 2), *range(64, 257, 8)):
+        wants_memory(hostile, f"an address space of {megabytes} MB", begins=megabytes >= 16, megabytes=megabytes)
 
 
 # ---------------------------------------------------------------------------------------------------------------------
@@ -361,7 +376,7 @@ def main():
     program = os.path.realpath(sys.argv[1] if len(sys.argv) > 1 else f"{HERE}/../crates/cdc_app/out/cdc_app")
     with rooms.room("hostile-") as room:
         hostile = Hostile(program, room)
-        for part in (unreachable, unwritable, no_record, in_the_way, kept, few_threads, two_runs, ended_runs):
+        for part in (unreachable, unwritable, no_record, in_the_way, kept, few_threads, small_spaces, two_runs, ended_runs):
             part(hostile)
     print(f"hostile: {hostile.passed} passed, {hostile.failed} failed")
     return 1 if hostile.failed else 0
