@@ -1,21 +1,20 @@
 #!/usr/bin/env python3
 """The documents beside the repository: what they name exists, and the tables of promises stay short.
 
-- Each word in backquotes that looks like a file of this repository is one: README.md, docs/*.md and the other pages of OF_TODAY.
-- Each name in backquotes that has an underscore, a capital inside or `::` stands in some source. docs/MEASURED.md is left
-  out of both: each of its blocks is of a commit of its own.
-- A cell of a table of docs/PROOFS.md has at most 300 characters.
+- Each word in backquotes that looks like a file of this repository is one, in README.md, docs/*.md and the other pages of
+  OF_TODAY; each name in backquotes that has an underscore, a capital inside or `::` stands in some source. docs/MEASURED.md
+  is left out of both: each of its blocks is of a commit of its own.
+- A clause that docs/PROOFS.md names is one of some function; a cell of a table there has at most 300 characters.
 - The files of definitions that PROOFS.md has a reader believe, and the definitions that it picks of them, are told in
   docs/DEFINITIONS.md.
 
   tests/documents.py
 
-Prints each check that fails; the last line is 'documents: N checks, M failed'. Needs Python 3.8 or later, and git.
+Prints each check that fails; the last line is 'documents: N checks, M failed'. Needs Python 3.8 or later.
 """
 import fnmatch
 import os
 import re
-import subprocess
 import sys
 
 TOP = os.path.dirname(os.path.dirname(os.path.realpath(__file__)))
@@ -27,17 +26,17 @@ QUOTED = re.compile(r"`([^`\n]+)`")
 LOOKS_LIKE_A_FILE = re.compile(rf"\.?[\w./*-]+\.(?:{ENDINGS})|\.?[\w.-]+(?:/[\w.*-]+)+/?")
 # Names for any name, and what the documents call a file that a command is given, or makes.
 STAND_INS = re.compile(r"NAME|CRATE|FUNCTION|METHOD|FILE|STEPS|PATH|PROGRESS|\bout/|^/|^\d|\.\.\.?$")
-# Folders in which a document may mean a file without saying so.
-FOLDERS = ["", "docs/", "tests/", "tests/words/", "crates/", "examples/", "contrib/rabbitmq/"]
-# Names of the toolchain, of Python, of RabbitMQ and of formats, that stand in no source here; files that a program makes.
-OF_OTHERS = {"CRATES.md"}
+# What is of the toolchain or of a format, and stands in no source here.
+OF_OTHERS = {"CRATES.md", "application/json", "fast_float"}
 
 
-def tracked():
-    """Returns the files of the repository, those too that are new and not ignored."""
-    words = ["git", "-C", TOP, "ls-files", "--cached", "--others", "--exclude-standard"]
-    found = subprocess.run(words, check=True, capture_output=True, text=True).stdout.split("\n")
-    return [it for it in found if it and os.path.exists(f"{TOP}/{it}")]
+def all_files():
+    """Returns the files of the repository, without what is built."""
+    found = []
+    for at, folders, names in os.walk(TOP):
+        folders[:] = sorted(it for it in folders if it not in (".git", "out", "__pycache__"))
+        found += [os.path.relpath(f"{at}/{it}", TOP) for it in sorted(names)]
+    return found
 
 
 def read(path):
@@ -60,18 +59,19 @@ class Tree:
     """What stands in the repository: its files and folders, and the names in its sources."""
 
     def __init__(self):
-        self.files = tracked()
+        self.files = all_files()
         self.folders = {os.path.dirname(it) for it in self.files}
         self.folders |= {it[:at] for it in self.folders for at in range(len(it)) if it[at] == "/"}
         self.ends = {"/" + it for it in self.files} | {"/" + it for it in self.folders}
         sources = [it for it in self.files if not it.startswith("docs/") and not it.endswith((".md", ".xz", ".patch"))]
         self.names = {it for path in sources for it in re.findall(r"[A-Za-z_][A-Za-z0-9_]*", read(path))}
+        self.clauses = {it for path in sources for it in re.findall(r"\bensures (\w+)", read(path))}
         self.names |= {os.path.splitext(os.path.basename(it))[0] for it in self.files}
         self.names |= {os.path.basename(it) for it in self.folders}
 
     def has_file(self, word):
         """Returns whether a word names a file or a folder: from the top, or from a folder further down."""
-        word = word.rstrip("/")
+        word = (word[2:] if word.startswith("./") else word).rstrip("/")
         if "*" in word:
             return any(fnmatch.fnmatch(it, f"*{word}") for it in self.files)
         return any(it.endswith(f"/{word}") for it in self.ends)
@@ -105,17 +105,21 @@ def checks(tree):
                 yield tree.has_names(word), f"{page}:{at}: no source has {word}"
     proofs, told = read("docs/PROOFS.md"), read("docs/DEFINITIONS.md")
     for at, line in enumerate(proofs.split("\n"), 1):
+        for names in re.findall(r"clauses? ((?:`\w+`(?:, | and )?)+)", line):
+            for it in re.findall(r"\w+", names.replace(" and ", " ")):
+                yield it in tree.clauses, f"docs/PROOFS.md:{at}: no function has a clause {it}"
         for cell in cells_of(line) if line.startswith("|") else []:
-            yield len(cell) <= MOST, f"docs/PROOFS.md:{at}: a cell of {len(cell)} characters, which may be {MOST}: {cell[:60]}"
+            yield len(cell) <= MOST, f"docs/PROOFS.md:{at}: a cell of more than {MOST} characters: {cell[:60]}"
     for crate, file, names in believed_in(proofs):
-        part = told.partition(f"## `{crate}`\n")[2].partition("\n## ")[0].partition(f"### {file}\n")[2].partition("\n###")[0]
-        yield bool(part), f"docs/PROOFS.md has a reader believe {file} of {crate}, which docs/DEFINITIONS.md doesn't tell"
+        of_crate = told.partition(f"## `{crate}`\n")[2].partition("\n## ")[0]
+        part = of_crate.partition(f"### {file}\n")[2].partition("\n###")[0]
+        yield bool(part), f"docs/PROOFS.md has a reader believe {file} of {crate}, which isn't told"
         for it in names:
             yield f"**{it}**" in part, f"docs/PROOFS.md has a reader believe {it} of {crate}, which isn't told"
 
 
 def believed_in(proofs):
-    """Gives the files of definitions in the tables of PROOFS.md, each with its crate and the definitions that are picked."""
+    """Gives the files of definitions in the tables of PROOFS.md: the crate, the file, and which of its definitions."""
     for line in proofs.split("\n"):
         if re.match(r"\| \d+ \|", line):
             crate = None
