@@ -29,12 +29,14 @@ CARRIERS = [
     "cdc_run/runs.rt",
     "cdc_run/determined.rt",
 ]
+# Definitions that tie what the code keeps to a state of the theorem, which nobody has to believe (docs/PROOFS.md).
+TIES = {("cdc_world", "Stands.antt")}
 HEAD = """\
 # The definitions, read aloud
 
 What a reader has to believe: the contracts say that the code does what these definitions say. They stand in the `specs/` folders, in antt, and never repeat the code's loops. In a definition a number is a whole number of any size, and nothing wraps. Each file names the public document that its rules come from, where there is one; the rest is this product's own choice. PROOFS.md says which of them the theorems rest on, and in which order to read those.
 
-Told one by one is what the two theorems and the program's commands need: what the clauses of the crates `cdc_commands`, `cdc_run_command` and `cdc_app`, of `World`, and of `run` with its config, its plan and its law on one client cite, and what that cites in turn. What only a promise of a single crate needs beside it is named by file at the end; it is told in the same way where it stands. A definition that private contracts and proofs alone cite isn't here: nobody has to believe it.
+Told one by one is what the two theorems and the program's commands need: what the clauses of the crates `cdc_commands`, `cdc_run_command` and `cdc_app`, of `World`, and of `run` with its config, its plan and its law on one client cite, and what that cites in turn. What only a promise of a single crate needs beside it is named by file at the end, with what ties the code of a world to its state; it is told in the same way where it stands. A definition that private contracts and proofs alone cite isn't here: nobody has to believe it.
 
 This page is made from the comments of the definitions (`tests/definitions.py --write`), and the tests see that it is current.
 """
@@ -46,7 +48,7 @@ Each result, answer and fault has a number, a name or both, which are those of F
 OTHERS = """\
 ## What single crates promise besides
 
-Whoever relies on a promise of one crate, as that on a turn of one end of a run, has to believe these files too, or more of those above.
+Whoever relies on a promise of one crate, as that on a turn of one end of a run, has to believe these files too, or so many more definitions of those above. Each says in its first lines what it is about.
 """
 # What begins a definition, with its name; what imports some, and what a module is called.
 KINDS = "abbrev|unfoldable|record|data|inductive|relation|opaque|alias"
@@ -167,12 +169,14 @@ def cited_by_clauses(sources=None):
     return [it for it in found if not it[1].startswith("Private/")]
 
 
-def needed(files, open_ones):
-    """Returns these definitions, and those that they cite in turn."""
+def needed(files, open_ones, stops=()):
+    """Returns these definitions, and those that they cite in turn, but for those of the files where this stops."""
     found = set()
     while open_ones:
         crate, path, name = open_ones.pop()
-        if (crate, path) in files and name in files[crate, path].definitions and (crate, path, name) not in found:
+        if (crate, path) in stops or (crate, path, name) in found:
+            continue
+        if (crate, path) in files and name in files[crate, path].definitions:
             found.add((crate, path, name))
             open_ones += files[crate, path].cited_by(name)
     return found
@@ -223,7 +227,7 @@ def page():
         for path in files_below(f"{TOP}/crates/{crate}/specs", ".antt"):
             if os.path.basename(path) != "Lib.antt":
                 files[crate, path] = File(crate, path)
-    told, all_of_them = needed(files, cited_by_clauses(CARRIERS)), needed(files, cited_by_clauses())
+    told, all_of_them = needed(files, cited_by_clauses(CARRIERS), TIES), needed(files, cited_by_clauses())
     lines, named, others = [HEAD], [], []
     for crate in crates():
         parts, rest = [], []
@@ -236,11 +240,11 @@ def page():
             if here:
                 parts.append(f"### {file.path}\n\n{sentence(file.about)}\n\n{''.join(told_of(file, here))}")
             if of_file - here:
-                rest.append(f"  - {file.path}{f', {len(of_file - here)} more' if here else f': {sentence(file.about)}'}")
+                rest.append(f"{file.path}{f' ({len(of_file - here)} more)' if here else ''}")
         if parts:
             lines += [f"## `{crate}`\n", *parts]
         if rest:
-            others.append(f"- `{crate}`\n" + "\n".join(rest))
+            others.append(f"- `{crate}`: {', '.join(rest)}.")
     return "\n".join([*lines, NAMES, f"{', '.join(named)}.\n", OTHERS, *others, ""])
 
 
