@@ -1,9 +1,9 @@
 #!/usr/bin/env python3
 """The documents beside the repository: what they name exists, and the tables of promises stay short.
 
-- Each word in backquotes that looks like a file of this repository is one, in README.md, docs/*.md and the other pages of
-  OF_TODAY; each name in backquotes that has an underscore, a capital inside or `::` stands in some source. docs/MEASURED.md
-  is left out of both: each of its blocks is of a commit of its own.
+- Each word in backquotes that looks like a file of this repository is one, in README.md, docs/*.md and the other pages
+  of OF_TODAY; each name in backquotes that has an underscore, a capital inside or `::` stands in some source.
+  docs/MEASURED.md is left out of both: each of its blocks is of a commit of its own.
 - A clause that docs/PROOFS.md names is one of some function; a cell of a table there has at most 300 characters.
 - The files of definitions that PROOFS.md has a reader believe, and the definitions that it picks of them, are told in
   docs/DEFINITIONS.md.
