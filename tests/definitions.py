@@ -4,11 +4,12 @@
   tests/definitions.py            says whether the page is current
   tests/definitions.py --write    writes the page
 
-A crate's definitions stand in its specs/, each behind the comment that says what it is, or behind another one of which the
-same comment speaks; each file begins with a comment of its own. Told one by one are those that the clauses of CARRIERS cite,
-and those that these cite in turn. Of the others that a public function's clause needs the page has the files; one that only
-private contracts and proofs cite needs nobody's belief. Crates come in the order of crates.txt, and the files of a crate so
-that each stands behind those that it cites. The last line is 'N passed, M failed'. Needs Python 3.8 or later.
+A crate's definitions stand in its specs/, each behind the comment that says what it is, or behind another one of
+which the same comment speaks; each file begins with a comment of its own. Told one by one are those that the clauses
+of CARRIERS cite, and those that these cite in turn. Of the others that a public function's clause needs the page has
+the files; one that only private contracts and proofs cite needs nobody's belief. Crates come in the order of
+crates.txt, and the files of a crate so that each stands behind those that it cites. The last line is 'N passed, M
+failed'. Needs Python 3.8 or later.
 """
 import argparse
 import os
@@ -34,21 +35,31 @@ TIES = {("cdc_world", "Stands.antt")}
 HEAD = """\
 # The definitions, read aloud
 
-What a reader has to believe: the contracts say that the code does what these definitions say. They stand in the `specs/` folders, in antt, and never repeat the code's loops. In a definition a number is a whole number of any size, and nothing wraps. Each file names the public document that its rules come from, where there is one; the rest is this product's own choice. PROOFS.md says which of them the theorems rest on, and in which order to read those.
+What a reader has to believe: the contracts say that the code does what these definitions say. They stand in the \
+`specs/` folders, in antt, and never repeat the code's loops. In a definition a number is a whole number of any \
+size, and nothing wraps. Each file names the public document that its rules come from, where there is one; the rest \
+is this product's own choice. PROOFS.md says which of them the theorems rest on, and in which order to read those.
 
-Told one by one is what the two theorems and the program's commands need: what the clauses of the crates `cdc_commands`, `cdc_run_command` and `cdc_app`, of `World`, and of `run` with its config, its plan and its law on one client cite, and what that cites in turn. What only a promise of a single crate needs beside it is named by file at the end, with what ties the code of a world to its state; it is told in the same way where it stands. A definition that private contracts and proofs alone cite isn't here: nobody has to believe it.
+Told one by one is what the two theorems and the program's commands need: what the clauses of the crates \
+`cdc_commands`, `cdc_run_command` and `cdc_app`, of `World`, and of `run` with its config, its plan and its law on \
+one client cite, and what that cites in turn. What only a promise of a single crate needs beside it is named by \
+file at the end, with what ties the code of a world to its state; it is told in the same way where it stands. A \
+definition that private contracts and proofs alone cite isn't here: nobody has to believe it.
 
-This page is made from the comments of the definitions (`tests/definitions.py --write`), and the tests see that it is current.
+This page is made from the comments of the definitions (`tests/definitions.py --write`), and the tests see that it \
+is current.
 """
 NAMES = """\
 ## Numbers and names
 
-Each result, answer and fault has a number, a name or both, which are those of FORMATS.md. They are definitions too, each called `.._number` or `.._name` behind the name of its type, in these files:
+Each result, answer and fault has a number, a name or both, which are those of FORMATS.md. They are definitions \
+too, each called `.._number` or `.._name` behind the name of its type, in these files:
 """
 OTHERS = """\
 ## What single crates promise besides
 
-Whoever relies on a promise of one crate, as that on a turn of one end of a run, has to believe these files too, or so many more definitions of those above. Each says in its first lines what it is about.
+Whoever relies on a promise of one crate, as that on a turn of one end of a run, has to believe these files too, or \
+so many more definitions of those above. Each says in its first lines what it is about.
 """
 # What begins a definition, with its name; what imports some, and what a module is called.
 KINDS = "abbrev|unfoldable|record|data|inductive|relation|opaque|alias"
@@ -61,7 +72,8 @@ def crates():
     """Returns the crates of crates.txt that have definitions, lowest first, without those of tests."""
     with open(f"{TOP}/crates.txt", encoding="utf-8") as file:
         rows = [it.partition("#")[0].partition(":")[0].split() for it in file]
-    return [it[0] for it in rows if it and os.path.isdir(f"{TOP}/crates/{it[0]}/specs") and not it[0].endswith("_tests")]
+    names = [it[0] for it in rows if it and not it[0].endswith("_tests")]
+    return [it for it in names if os.path.isdir(f"{TOP}/crates/{it}/specs")]
 
 
 def read(path):
@@ -105,8 +117,8 @@ class Definition:
 
 
 class File:
-    """A file of definitions: its first comment, its definitions in their order, those in a module of parameters too, and the
-    files of its crate that it cites."""
+    """A file of definitions: its first comment, its definitions in their order, those in a module of parameters too, and
+    the files of its crate that it cites."""
 
     def __init__(self, crate, path):
         text = read(f"{TOP}/crates/{crate}/specs/{path}")
@@ -153,8 +165,8 @@ def clauses_in(text, is_program):
 
 
 def cited_by_clauses(sources=None):
-    """Returns the definitions that the clauses of public functions cite, of all sources or of these alone. What stands in
-    Private/ is of functions that are public in their crate alone."""
+    """Returns the definitions that the clauses of public functions cite, of all sources or of these alone. What stands
+    in Private/ is of functions that are public in their crate alone."""
     found, met = [], set()
     for crate in crates():
         at = f"{TOP}/crates/{crate}/src"
@@ -209,7 +221,7 @@ def sentence(text):
 
 
 def told_of(file, names):
-    """Returns what is said of these definitions of a file: the names of those that have one comment, and the comment."""
+    """Returns what is said of these definitions of a file: the names of those with one comment, and the comment."""
     found, comment = [], ""
     for it in file.definitions.values():
         comment = it.comment or comment
