@@ -117,7 +117,7 @@ class Definition:
 
 
 class File:
-    """A file of definitions: its first comment, its definitions in their order, those in a module of parameters too, and
+    """A file of definitions: its first comment, its definitions in their order, also in a module of parameters, and
     the files of its crate that it cites."""
 
     def __init__(self, crate, path):
