@@ -1,8 +1,8 @@
 #!/usr/bin/env bash
-# docs/GUIDE.md and docs/REFERENCE.md as their reader meets them: each `sh` block of a page is run, in their order, in one
-# folder that begins with the program and the examples, and what it prints on standard output is compared with the block
-# of output behind it. A block with none behind it prints nothing. Nothing else than the folder play/ may come to be.
-# Of README what it shows of the marketplace is compared, and that its theorem stands in docs/PROOFS.md in these words.
+# docs/GUIDE.md and docs/REFERENCE.md as their reader meets them: each `sh` block of a page is run, in their order, in
+# one folder that begins with the program and the examples, and what it prints on standard output is compared with the
+# block of output behind it. A block with none behind it prints nothing. Whatever it writes is in the folder play/.
+# Of README what it shows of the marketplace is compared, and its theorem has to stand in docs/PROOFS.md, word for word.
 # Takes the program's path, crates/cdc_app/out/cdc_app where none is given. Prints each block that fails.
 set -uo pipefail
 top=$(cd "$(dirname "${BASH_SOURCE[0]}")/.." && pwd)
@@ -86,7 +86,7 @@ shown=$(sed -n '/^send 1: position 1,/,/^```$/p' "$top/README.md" | sed '$d')
 line=$(sed -n 's/.*`\(account 1 [0-9 ]*\)`.*/\1/p' "$top/README.md")
 grep -qx "$line" books || wrong 'README: a line of the book'
 theorem=$(sed -n 's/^> //p' "$top/README.md" | tr '\n' ' ')
-[ "$theorem" != '' ] && grep -qF "${theorem% }" "$top/docs/PROOFS.md" || wrong 'README: the theorem is not in the words of PROOFS.md'
+[ "$theorem" != '' ] && grep -qF "${theorem% }" "$top/docs/PROOFS.md" || wrong "README: its theorem isn't that of PROOFS.md"
 
 echo "guide: $blocks blocks, $failed failed, $passed_over passed over"
 [ "$failed" == 0 ]
