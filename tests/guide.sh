@@ -86,7 +86,7 @@ shown=$(sed -n '/^send 1: position 1,/,/^```$/p' "$top/README.md" | sed '$d')
 line=$(sed -n 's/.*`\(account 1 [0-9 ]*\)`.*/\1/p' "$top/README.md")
 grep -qx "$line" books || wrong 'README: a line of the book'
 theorem=$(sed -n 's/^> //p' "$top/README.md" | tr '\n' ' ')
-[ "$theorem" != '' ] && grep -qF "${theorem% }" "$top/docs/PROOFS.md" || wrong "README: its theorem isn't that of PROOFS.md"
+[ "$theorem" != '' ] && grep -qF "${theorem% }" "$top/docs/PROOFS.md" || wrong "README: not the theorem of PROOFS.md"
 
 echo "guide: $blocks blocks, $failed failed, $passed_over passed over"
 [ "$failed" == 0 ]
