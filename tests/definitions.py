@@ -1,13 +1,15 @@
 #!/usr/bin/env python3
-"""docs/DEFINITIONS.md: every definition that a reader has to believe, made from the comments of the definitions.
+"""docs/DEFINITIONS.md: the definitions that a reader has to believe, made from the comments of the definitions.
 
   tests/definitions.py            says whether the page is current
   tests/definitions.py --write    writes the page
 
-A crate's definitions stand in its specs/, each behind the comment that says what it is, or behind another one of which the same
-comment speaks; each file begins with a comment of its own. On the page are those that the clauses of a public function cite, and those that these cite in turn: a definition
-that only private contracts and proofs cite needs nobody's belief. Crates come in the order of crates.txt, and the files of a
-crate so that each stands behind those that it cites. The last line is 'N passed, M failed'. Needs Python 3.8 or later.
+A crate's definitions stand in its specs/, each behind the comment that says what it is, or behind another one of
+which the same comment speaks; each file begins with a comment of its own. Told one by one are those that the clauses
+of CARRIERS cite, and those that these cite in turn. Of the others that a public function's clause needs the page has
+the files; one that only private contracts and proofs cite needs nobody's belief. Crates come in the order of
+crates.txt, and the files of a crate so that each stands behind those that it cites. The last line is 'N passed, M
+failed'. Needs Python 3.8 or later.
 """
 import argparse
 import os
@@ -17,17 +19,51 @@ import sys
 sys.dont_write_bytecode = True
 TOP = os.path.dirname(os.path.dirname(os.path.realpath(__file__)))
 PAGE = "docs/DEFINITIONS.md"
+# The sources whose clauses carry the two theorems, or say what a command does.
+CARRIERS = [
+    "cdc_commands",
+    "cdc_run_command",
+    "cdc_app",
+    "cdc_world/world.rt",
+    "cdc_run/configs.rt",
+    "cdc_run/plans.rt",
+    "cdc_run/runs.rt",
+    "cdc_run/determined.rt",
+]
+# Definitions that tie what the code keeps to a state of the theorem, which nobody has to believe (docs/PROOFS.md).
+TIES = {("cdc_world", "Stands.antt")}
 HEAD = """\
 # The definitions, read aloud
 
-What a reader has to believe: the contracts say that the code does what these definitions say. They stand in the `specs/` folders, in antt, and never repeat the code's loops. In a definition a number is a whole number of any size, and nothing wraps. Each file names the public document that its rules come from, where there is one; the rest is this product's own choice.
+What a reader has to believe: the contracts say that the code does what these definitions say. They stand in the \
+`specs/` folders, in antt, and never repeat the code's loops. In a definition a number is a whole number of any \
+size, and nothing wraps. Each file names the public document that its rules come from, where there is one; the rest \
+is this product's own choice. PROOFS.md says which of them the theorems rest on, and in which order to read those.
 
-Most of them compute: `proofs/Examples.antt` of ten crates, and `proofs/ReplayExamples.antt` of `cdc_message`, run them on small examples, as theorems by computation. PROOFS.md says which definitions the theorems rest on, and in which order to read those.
+Told one by one is what the two theorems and the program's commands need: what the clauses of the crates \
+`cdc_commands`, `cdc_run_command` and `cdc_app`, of `World`, and of `run` with its config, its plan and its law on \
+one client cite, and what that cites in turn. What only a promise of a single crate needs beside it is named by \
+file at the end, with what ties the code of a world to its state; it is told in the same way where it stands. A \
+definition that private contracts and proofs alone cite isn't here: nobody has to believe it.
 
-This page is made from the comments of the definitions (`tests/definitions.py --write`), and the tests see that it is current. It has what the clauses of public functions cite, and what that cites in turn; a definition of private contracts and proofs alone isn't here, and nobody has to believe it.
+This page is made from the comments of the definitions (`tests/definitions.py --write`), and the tests see that it \
+is current.
+"""
+NAMES = """\
+## Numbers and names
+
+Each result, answer and fault has a number, a name or both, which are those of FORMATS.md. They are definitions \
+too, each called `.._number` or `.._name` behind the name of its type, in these files:
+"""
+OTHERS = """\
+## What single crates promise besides
+
+Whoever relies on a promise of one crate, as that on a turn of one end of a run, has to believe these files too, or \
+so many more definitions of those above. Each says in its first lines what it is about.
 """
 # What begins a definition, with its name; what imports some, and what a module is called.
-DEFINITION = re.compile(r"(?:pub )?(?:abbrev|unfoldable|record|data|inductive|relation|opaque|alias) (?:pub )?(?!pub )([^\s:]*[A-Za-z][^\s:]*)")
+KINDS = "abbrev|unfoldable|record|data|inductive|relation|opaque|alias"
+DEFINITION = re.compile(rf"(?:pub )?(?:{KINDS}) (?:pub )?(?!pub )([^\s:]*[A-Za-z][^\s:]*)")
 IMPORT = re.compile(r"(?m)^\s*(?:ghost |pub )?use Rattle\.(\w+)\.specs\.([A-Z][\w.]*?)(?:\.\{([^}]*)\}| as (\w+));?$")
 NAME = re.compile(r"(?:([A-Za-z_]\w*)\.)?([A-Za-z_][\w'\-]*)")
 
@@ -36,7 +72,8 @@ def crates():
     """Returns the crates of crates.txt that have definitions, lowest first, without those of tests."""
     with open(f"{TOP}/crates.txt", encoding="utf-8") as file:
         rows = [it.partition("#")[0].partition(":")[0].split() for it in file]
-    return [it[0] for it in rows if it and os.path.isdir(f"{TOP}/crates/{it[0]}/specs") and not it[0].endswith("_tests")]
+    names = [it[0] for it in rows if it and not it[0].endswith("_tests")]
+    return [it for it in names if os.path.isdir(f"{TOP}/crates/{it}/specs")]
 
 
 def read(path):
@@ -80,7 +117,8 @@ class Definition:
 
 
 class File:
-    """A file of definitions: its first comment, its definitions in their order, and the files of its crate that it cites."""
+    """A file of definitions: its first comment, its definitions in their order, also in a module of parameters, and
+    the files of its crate that it cites."""
 
     def __init__(self, crate, path):
         text = read(f"{TOP}/crates/{crate}/specs/{path}")
@@ -89,7 +127,7 @@ class File:
         self.cites |= {it for of, it in self.imports.modules.values() if of == crate}
         name = None
         for at, paragraph in enumerate(re.split(r"\n\s*\n", text)):
-            lines = [it for it in paragraph.split("\n") if it.strip()]
+            lines = [it.strip() for it in paragraph.split("\n") if it.strip() and not it.startswith("module ")]
             count = next((at for at, it in enumerate(lines) if not it.startswith("--")), len(lines))
             comment = " ".join(it[2:].strip() for it in lines[:count])
             begun = [it[1] for it in map(DEFINITION.match, lines) if it]
@@ -116,8 +154,8 @@ def clauses_in(text, is_program):
             is_trait = True
         elif line == "}":
             is_trait = False
-        public = r"\s*(pub fn|pub const fn" + (r"|fn" if is_trait else "") + (r"|pub\(crate\) fn|fn" if is_program else "") + r")\b"
-        if re.match(public, line):
+        more = ("|fn" if is_trait else "") + (r"|pub\(crate\) fn|fn" if is_program else "")
+        if re.match(rf"\s*(pub fn|pub const fn{more})\b", line):
             taken = True
         if taken or re.match(r"\s*ghost (Value|\w+:)", line):
             found.append(line)
@@ -126,22 +164,39 @@ def clauses_in(text, is_program):
     return "\n".join(found)
 
 
-def believed(files):
-    """Returns the definitions that the clauses of public functions cite, and those that these cite in turn."""
-    open_ones = []
+def cited_by_clauses(sources=None):
+    """Returns the definitions that the clauses of public functions cite, of all sources or of these alone. What stands
+    in Private/ is of functions that are public in their crate alone."""
+    found, met = [], set()
     for crate in crates():
         at = f"{TOP}/crates/{crate}/src"
         for path in files_below(at, ".rt"):
-            text = read(f"{at}/{path}")
-            is_program = os.path.isfile(f"{at}/main.rt")
-            open_ones += Imports(text).cited_in(clauses_in(text, is_program))
+            named = {crate, f"{crate}/{path}"}
+            if sources is None or named & set(sources):
+                met |= named
+                text = read(f"{at}/{path}")
+                found += Imports(text).cited_in(clauses_in(text, os.path.isfile(f"{at}/main.rt")))
+    if sources and set(sources) - met:
+        sys.exit(f"definitions: there is no {' '.join(sorted(set(sources) - met))}")
+    return [it for it in found if not it[1].startswith("Private/")]
+
+
+def needed(files, open_ones, stops=()):
+    """Returns these definitions, and those that they cite in turn, but for those of the files where this stops."""
     found = set()
     while open_ones:
         crate, path, name = open_ones.pop()
-        if (crate, path) in files and name in files[crate, path].definitions and (crate, path, name) not in found:
+        if (crate, path) in stops or (crate, path, name) in found:
+            continue
+        if (crate, path) in files and name in files[crate, path].definitions:
             found.add((crate, path, name))
             open_ones += files[crate, path].cited_by(name)
     return found
+
+
+def has_names_alone(names):
+    """Returns whether these definitions of a file are numbers and names of results or faults, and nothing else."""
+    return all(re.search(r"_(number|name)$", it) for it in names)
 
 
 def in_reading_order(files):
@@ -166,7 +221,7 @@ def sentence(text):
 
 
 def told_of(file, names):
-    """Returns what is said of these definitions of a file: the names of those that have one comment, and the comment."""
+    """Returns what is said of these definitions of a file: the names of those with one comment, and the comment."""
     found, comment = [], ""
     for it in file.definitions.values():
         comment = it.comment or comment
@@ -184,14 +239,25 @@ def page():
         for path in files_below(f"{TOP}/crates/{crate}/specs", ".antt"):
             if os.path.basename(path) != "Lib.antt":
                 files[crate, path] = File(crate, path)
-    told, lines = believed(files), [HEAD]
+    told, all_of_them = needed(files, cited_by_clauses(CARRIERS), TIES), needed(files, cited_by_clauses())
+    lines, named, others = [HEAD], [], []
     for crate in crates():
-        of_crate = in_reading_order([it for (of, _), it in files.items() if of == crate])
-        parts = [(it, told_of(it, {name for of, path, name in told if (of, path) == (crate, it.path)})) for it in of_crate]
-        if any(said for _, said in parts):
-            lines.append(f"## `{crate}`\n")
-        lines += [f"### {it.path}\n\n{sentence(it.about)}\n\n{''.join(said)}" for it, said in parts if said]
-    return "\n".join(lines)
+        parts, rest = [], []
+        for file in in_reading_order([it for (of, _), it in files.items() if of == crate]):
+            of_file = {name for of, path, name in all_of_them if (of, path) == (crate, file.path)}
+            if of_file and has_names_alone(of_file):
+                named.append(f"`{crate}` {file.path}")
+                continue
+            here = {it for it in of_file if (crate, file.path, it) in told}
+            if here:
+                parts.append(f"### {file.path}\n\n{sentence(file.about)}\n\n{''.join(told_of(file, here))}")
+            if of_file - here:
+                rest.append(f"{file.path}{f' ({len(of_file - here)} more)' if here else ''}")
+        if parts:
+            lines += [f"## `{crate}`\n", *parts]
+        if rest:
+            others.append(f"- `{crate}`: {', '.join(rest)}.")
+    return "\n".join([*lines, NAMES, f"{', '.join(named)}.\n", OTHERS, *others, ""])
 
 
 def main():

@@ -1,0 +1,143 @@
+#!/usr/bin/env python3
+"""The documents beside the repository: what they name exists, and the tables of promises stay short.
+
+- Each word in backquotes that looks like a file of this repository is one, in README.md, docs/*.md and the other pages
+  of OF_TODAY; each name in backquotes that has an underscore, a capital inside or `::` stands in some source.
+  docs/MEASURED.md is left out of both: each of its blocks is of a commit of its own.
+- A clause that docs/PROOFS.md names is one of some function; a cell of a table there has at most 300 characters.
+- The files of definitions that PROOFS.md has a reader believe, and the definitions that it picks of them, are told in
+  docs/DEFINITIONS.md.
+
+  tests/documents.py
+
+Prints each check that fails; the last line is 'documents: N checks, M failed'. Needs Python 3.8 or later.
+"""
+import fnmatch
+import os
+import re
+import sys
+
+TOP = os.path.dirname(os.path.dirname(os.path.realpath(__file__)))
+MOST = 300
+OF_TODAY = ["README.md", "docs/*.md", "waiting/README.md", "contrib/*/README.md"]
+OF_OTHER_DAYS = "docs/MEASURED.md"
+ENDINGS = "antt|args|c|edit|errors|fish|bash|md|patch|progress|py|rt|script|sh|status|stdout|steps|txt|tar\\.xz|1"
+QUOTED = re.compile(r"`([^`\n]+)`")
+LOOKS_LIKE_A_FILE = re.compile(rf"\.?[\w./*-]+\.(?:{ENDINGS})|\.?[\w.-]+(?:/[\w.*-]+)+/?")
+# Names for any name, and what the documents call a file that a command is given, or makes.
+STAND_INS = re.compile(r"NAME|CRATE|FUNCTION|METHOD|FILE|STEPS|PATH|PROGRESS|\bout/|^/|^\d|\.\.\.?$")
+# What is of the toolchain or of a format, and stands in no source here.
+OF_OTHERS = {"CRATES.md", "application/json", "fast_float"}
+
+
+def all_files():
+    """Returns the files of the repository, without what is built."""
+    found = []
+    for at, folders, names in os.walk(TOP):
+        folders[:] = sorted(it for it in folders if it not in (".git", "out", "__pycache__"))
+        found += [os.path.relpath(f"{at}/{it}", TOP) for it in sorted(names)]
+    return found
+
+
+def read(path):
+    with open(f"{TOP}/{path}", encoding="utf-8", errors="replace") as file:
+        return file.read()
+
+
+def quoted_in(text):
+    """Returns the words in backquotes of a page, each with its line, without what stands in blocks."""
+    found, is_block = [], False
+    for at, line in enumerate(text.split("\n"), 1):
+        if line.lstrip().startswith("```"):
+            is_block = not is_block
+        elif not is_block:
+            found += [(at, it) for it in QUOTED.findall(line)]
+    return found
+
+
+class Tree:
+    """What stands in the repository: its files and folders, and the names in its sources."""
+
+    def __init__(self):
+        self.files = all_files()
+        self.folders = {os.path.dirname(it) for it in self.files}
+        self.folders |= {it[:at] for it in self.folders for at in range(len(it)) if it[at] == "/"}
+        self.ends = {"/" + it for it in self.files} | {"/" + it for it in self.folders}
+        sources = [it for it in self.files if not it.startswith("docs/") and not it.endswith((".md", ".xz", ".patch"))]
+        self.names = {it for path in sources for it in re.findall(r"[A-Za-z_][A-Za-z0-9_]*", read(path))}
+        self.clauses = {it for path in sources for it in re.findall(r"\bensures (\w+)", read(path))}
+        self.names |= {os.path.splitext(os.path.basename(it))[0] for it in self.files}
+        self.names |= {os.path.basename(it) for it in self.folders}
+
+    def has_file(self, word):
+        """Returns whether a word names a file or a folder: from the top, or from a folder further down."""
+        word = (word[2:] if word.startswith("./") else word).rstrip("/")
+        if "*" in word:
+            return any(fnmatch.fnmatch(it, f"*{word}") for it in self.files)
+        return any(it.endswith(f"/{word}") for it in self.ends)
+
+    def has_names(self, word):
+        """Returns whether each name in a word stands in some source; words that are no names aren't looked at."""
+        if not re.fullmatch(r"[A-Za-z_][\w:.'-]*(\(\))?", word):
+            return True
+        names = re.findall(r"[A-Za-z_][A-Za-z0-9_]*", word)
+        is_name = "::" in word or any(re.search(r"[a-z]_[a-z]|[a-z][A-Z]", it) for it in names)
+        return not is_name or all(it in self.names for it in names)
+
+
+def pages(tree):
+    return [it for it in tree.files if any(fnmatch.fnmatch(it, of) for of in OF_TODAY) and it != OF_OTHER_DAYS]
+
+
+def cells_of(line):
+    return [it.strip() for it in re.split(r"(?<!\\)\|", line.strip().strip("|"))]
+
+
+def checks(tree):
+    """Gives each check: whether it passed, and what is said where it failed."""
+    for page in pages(tree):
+        for at, word in quoted_in(read(page)):
+            if STAND_INS.search(word) or word in OF_OTHERS:
+                continue
+            if LOOKS_LIKE_A_FILE.fullmatch(word):
+                yield tree.has_file(word), f"{page}:{at}: there is no {word}"
+            else:
+                yield tree.has_names(word), f"{page}:{at}: no source has {word}"
+    proofs, told = read("docs/PROOFS.md"), read("docs/DEFINITIONS.md")
+    for at, line in enumerate(proofs.split("\n"), 1):
+        for names in re.findall(r"clauses? ((?:`\w+`(?:, | and )?)+)", line):
+            for it in re.findall(r"\w+", names.replace(" and ", " ")):
+                yield it in tree.clauses, f"docs/PROOFS.md:{at}: no function has a clause {it}"
+        for cell in cells_of(line) if line.startswith("|") else []:
+            yield len(cell) <= MOST, f"docs/PROOFS.md:{at}: a cell of more than {MOST} characters: {cell[:60]}"
+    for crate, file, names in believed_in(proofs):
+        of_crate = told.partition(f"## `{crate}`\n")[2].partition("\n## ")[0]
+        part = of_crate.partition(f"### {file}\n")[2].partition("\n###")[0]
+        yield bool(part), f"docs/PROOFS.md has a reader believe {file} of {crate}, which isn't told"
+        for it in names:
+            yield f"**{it}**" in part, f"docs/PROOFS.md has a reader believe {it} of {crate}, which isn't told"
+
+
+def believed_in(proofs):
+    """Gives the files of definitions in the tables of PROOFS.md: the crate, the file, and which of its definitions."""
+    for line in proofs.split("\n"):
+        if re.match(r"\| \d+ \|", line):
+            crate = None
+            for path, picked in re.findall(r"`([\w/]+\.antt)`(?: \(((?:`\w+`(?:, )?)+)\))?", cells_of(line)[2]):
+                if "/" in path:
+                    crate = path.partition("/")[0]
+                yield crate, path.rpartition("specs/")[2], re.findall(r"\w+", picked)
+
+
+def main():
+    passed, failed = 0, 0
+    for is_right, said in checks(Tree()):
+        passed, failed = passed + is_right, failed + (not is_right)
+        if not is_right:
+            print(f"failed: {said}")
+    print(f"documents: {passed + failed} checks, {failed} failed")
+    return int(failed > 0)
+
+
+if __name__ == "__main__":
+    sys.exit(main())
