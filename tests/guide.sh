@@ -1,18 +1,14 @@
 #!/usr/bin/env bash
-# docs/GUIDE.md as its reader meets it: each `sh` block is run, in their order, in one folder that begins with the program
-# and the examples, and what it prints on standard output is compared with the block of output behind it. A block with
-# none behind it prints nothing. Of README the output of its first command is compared.
+# docs/GUIDE.md and docs/REFERENCE.md as their reader meets them: each `sh` block of a page is run, in their order, in
+# one folder that begins with the program and the examples, and what it prints on standard output is compared with the
+# block of output behind it. A block with none behind it prints nothing. Whatever it writes is in the folder play/.
+# Of README what it shows of the marketplace is compared, and its theorem has to stand in docs/PROOFS.md, word for word.
 # Takes the program's path, crates/cdc_app/out/cdc_app where none is given. Prints each block that fails.
 set -uo pipefail
 top=$(cd "$(dirname "${BASH_SOURCE[0]}")/.." && pwd)
 program=$(realpath "${1:-$top/crates/cdc_app/out/cdc_app}")
-guide=$top/docs/GUIDE.md
 folder=$(mktemp -d)
 trap 'rm -rf "$folder"' EXIT
-mkdir "$folder/clone"
-cp -r "$top/examples" "$folder/clone/"
-ln -s "$program" "$folder/clone/relayplum"
-cd "$folder/clone" || exit 1
 command=$folder/command
 wanted=$folder/wanted
 blocks=0
@@ -24,6 +20,14 @@ wrong() {
     printf 'failed: %s\n' "$1"
 }
 
+# Makes a clone as a page's reader has it, and goes there.
+clone() {
+    mkdir "$folder/$1"
+    cp -r "$top/examples" "$folder/$1/"
+    ln -s "$program" "$folder/$1/relayplum"
+    cd "$folder/$1" || exit 1
+}
+
 # Runs the block that was read last, and compares.
 run_block() {
     [ -s "$command" ] || return 0
@@ -33,41 +37,56 @@ run_block() {
     else
         bash "$command" >"$folder/found" 2>"$folder/errors" </dev/null
         if ! diff "$wanted" "$folder/found" >"$folder/differs"; then
-            wrong "line $place: < the guide, > the program"
+            wrong "$name.md line $place: < the page, > the program"
             cat "$command" "$folder/differs" "$folder/errors"
         fi
     fi
     rm -f "$command"
 }
 
-# Which block a line is in: none, a command, what it prints.
-block=''
-at=0
-while IFS= read -r text; do
-    at=$((at + 1))
-    case $block:$text in
-        ':```sh')
-            run_block
-            place=$at
-            : >"$wanted"
-            block=$command
-            ;;
-        ':```text' | ':```mermaid')
-            [ ! -s "$wanted" ] || wrong "line $at: a second output"
-            block=$wanted
-            ;;
-        ':```'*) wrong "line $at: neither a command nor what one prints" ;;
-        :*) ;;
-        *':```') block='' ;;
-        *) printf '%s\n' "$text" >>"$block" ;;
-    esac
-done <"$guide"
-run_block
-[ "$blocks" -gt 0 ] || wrong 'no block was found'
+# Runs all blocks of the page $name.
+run_page() {
+    local before=$blocks block='' at=0 text
+    clone "$name"
+    while IFS= read -r text; do
+        at=$((at + 1))
+        # Which block a line is in: none, a command, what it prints.
+        case $block:$text in
+            ':```sh')
+                run_block
+                place=$at
+                : >"$wanted"
+                block=$command
+                ;;
+            ':```text' | ':```mermaid')
+                [ ! -s "$wanted" ] || wrong "$name.md line $at: a second output"
+                block=$wanted
+                ;;
+            ':```'*) wrong "$name.md line $at: neither a command nor what one prints" ;;
+            :*) ;;
+            *':```') block='' ;;
+            *) printf '%s\n' "$text" >>"$block" ;;
+        esac
+    done <"$top/docs/$name.md"
+    run_block
+    [ "$blocks" -gt "$before" ] || wrong "$name.md: no block was found"
+    diff <(ls -A) <(printf '%s\n' examples play relayplum) || wrong "$name.md: other files than play/"
+    diff -r examples "$top/examples" || wrong "$name.md: an example was changed"
+}
 
-# README shows what its first command prints.
-shown=$(sed -n '/^batch 1: 0 0$/,/^```$/p' "$top/README.md" | sed '$d')
-[ "$shown" == "$(./relayplum books examples/first-transfer.script)" ] || wrong "README: its first command's output"
+for name in GUIDE REFERENCE; do
+    run_page
+done
+
+# README: the end of a trace, a line of the book, the theorem.
+clone README
+shown=$(sed -n '/^send 1: position 1,/,/^```$/p' "$top/README.md" | sed '$d')
+./relayplum simulate examples/marketplace.script examples/marketplace.steps --trace >books 2>trace
+[ "$shown" == "$(tail -n 6 trace)" ] || wrong 'README: the end of the trace'
+line=$(sed -n 's/.*`\(account 1 [0-9 ]*\)`.*/\1/p' "$top/README.md")
+grep -qx "$line" books || wrong 'README: a line of the book'
+theorem=$(sed -n 's/^> //p' "$top/README.md" | tr '\n' ' ')
+[ "$theorem" != '' ] && grep -qF "${theorem% }" "$top/docs/PROOFS.md" || wrong "README: not the theorem of PROOFS.md"
 
 echo "guide: $blocks blocks, $failed failed, $passed_over passed over"
 [ "$failed" == 0 ]

@@ -438,13 +438,13 @@ subscriber 1 applied 0 last 0 ended no closed no
 same 'a refused step: standard error' 'twice.steps:2: start: not enabled: session 1 runs already
 ' "$err"
 run simulate "$top/examples/two-phase.script" "$top/examples/two-phase.steps"
-shown=$(sed -n '/^steps 22 of 22$/,/^```$/p' "$top/docs/GUIDE.md")
+shown=$(sed -n '/^steps 22 of 22$/,/^```$/p' "$top/docs/REFERENCE.md")
 same 'the example of steps' "batch 1: 0 0 0 0
 batch 2: 0 0 0
 ${shown%\`\`\`}" "$out"
 ends_well 'the example of steps'
 run simulate "$top/examples/two-phase.script" "$top/examples/faults.steps"
-shown=$(sed -n '/^steps 92 of 92$/,/^```$/p' "$top/docs/GUIDE.md")
+shown=$(sed -n '/^steps 92 of 92$/,/^```$/p' "$top/docs/REFERENCE.md")
 same 'the example of faults' "${shown%\`\`\`}" "$(sed -n '/^steps /,$p' output)
 "
 counts 'the example of faults' 2 0
@@ -561,7 +561,7 @@ for ((length = 1; length <= 200; length++)); do
 ' "$out"
 done
 
-# The example of two phases: an event of each kind that its ledger makes, and the book that the guide shows.
+# The example of two phases: an event of each kind that its ledger makes, and the book that the reference shows.
 its_kinds='two_phase_pending ledger=700 0
 two_phase_pending ledger=700 0
 two_phase_pending ledger=700 0
@@ -574,9 +574,33 @@ found=$(sed -n 's/^event_type=\([a-z_]*\) \(ledger=[0-9]*\) transfer_code=1 .* t
 same 'the example of two phases: its messages' "$its_kinds" "$found"
 ends_well 'the example of two phases: its messages'
 run books "$top/examples/two-phase.script"
-shown=$(sed -n '/^batch 1: 0 0 0 0$/,/^```$/p' "$top/docs/GUIDE.md")
+shown=$(sed -n '/^batch 1: 0 0 0 0$/,/^```$/p' "$top/docs/REFERENCE.md")
 same 'the example of two phases: its books' "$out" "${shown%\`\`\`}"
 counts 'the example of two phases: its books' 2 0
+
+# The example of a marketplace, worked out by hand: what each message is routed by, and the books, in which each euro that
+# was posted to one account was posted from another. The guide shows its results too.
+its_headers='single_phase 1 9 1 0
+single_phase 1 9 1 0
+two_phase_pending 2 1 2 0
+two_phase_pending 2 1 2 0
+two_phase_pending 2 1 2 0
+two_phase_posted 2 1 2 0
+single_phase 3 2 3 0
+two_phase_voided 2 1 2 0
+single_phase 4 2 1 0
+single_phase 4 3 2 0
+two_phase_expired 2 1 2 3600'
+run messages "$top/examples/marketplace.script"
+found=$(sed -nE 's/^event_type=(.*) ledger=978 .*=(.*) .*=(.*) .*=(.*) timestamp=/\1 \2 \3 \4 /p' output)
+same 'the example of a marketplace: its messages' "$its_headers" "$found"
+ends_well 'the example of a marketplace: its messages'
+run books "$top/examples/marketplace.script"
+same 'the example of a marketplace: what was posted' '194 194' \
+    "$(sed '/^subscriber 2/,$d' output | awk '/^account/ { debits += $4; credits += $6 } END { print debits, credits }')"
+counts 'the example of a marketplace: its books' 2 0
+shown=$(sed -n '/^batch 1: 0 0 0 0 0 0$/,/^```$/p' "$top/docs/GUIDE.md")
+same 'the example of a marketplace: its books' "$out" "${shown%\`\`\`}"
 
 # The example of refusals: a transfer that is there already, with other fields too, no such account, a limit.
 its_refusals='batch 1: 0 0
