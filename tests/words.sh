@@ -664,7 +664,7 @@ run simulate --trace --explain --diagram "$top/examples/two-phase.script" "$top/
 same 'all that can be told: status' 0 "$status"
 same 'all that can be told: what was explained' 2 "$(grep -c 'two-phase.script:.*: 2[68] pending_transfer' errors)"
 same 'all that can be told: subscriber 1' 'applied 2000 applied 2001 repeat repeat repeat applied 2002 applied 3000 repeat repeat applied 3001 applied 3002 applied 2000000000 heard the end mark' \
-    "$(sed -n 's/^take 1: //p' errors | tr '\n' ' ' | sed 's/ $//')"
+    "$(sed -n 's/^take 1: //p' errors | sed 's/, transfer .*//; s/^repeat of .*/repeat/' | tr '\n' ' ' | sed 's/ $//')"
 printf 'start\nstart\n' >twice.steps
 run simulate --trace one.script twice.steps
 same 'a trace up to a refused step' 'start: session 1 begins after 0
@@ -689,7 +689,7 @@ one.script: events up to the start, 2500, are left out: 1 of 1
 printf '%s\n' batch batch 'start at 1999' publish 'arrive 1' poll publish 'arrive 2' 'answer 1' save >late.steps
 run simulate --trace one.script late.steps
 same 'a start before an event' 'start at 1999: session 1 begins after 1999, events left out so far: 0
-poll: event 2000
+poll: event 2000, transfer 1, 100 from 1 to 2
 save: session 1 is confirmed up to 2000
 ' "$(grep -E '^(start|poll|save)' errors)
 "
