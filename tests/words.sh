@@ -143,6 +143,15 @@ bad_words "'--window" simulate one.script three.steps --window
 bad_words "'--window" simulate one.script three.steps --window 1 --window 1
 bad_words "'--window'" books one.script --window 1
 bad_words "'--explain'" messages one.script --explain
+bad_words "'--random" simulate one.script three.steps --random 1
+bad_words "'--random" simulate one.script --check --random 1
+bad_words "'--random" books one.script --random 1
+bad_words '--random' simulate one.script three.steps --steps 5
+bad_words '--random' simulate one.script three.steps --faults 5
+for words in '--random x' '--random 18446744073709551616' '--random 1 --steps 20001' '--random 1 --faults -1' \
+    '--random 1 --steps x' '--random='; do
+    bad_words 'a seed is 0 to 18446744073709551615, and steps and faults are 0 to 20000' simulate one.script ${words/ -1/=-1}
+done
 bad_words "'--trace'" books one.script --trace
 bad_words "'--diagram" messages one.script --diagram=out
 bad_words "'--check" simulate one.script three.steps --check=yes
@@ -237,8 +246,14 @@ same 'a run of no file: standard output' 'fault: read_fault
 has 'a run of no file: standard error' 'no-such.script: read_fault: No such file' "$err"
 printf '%stransfer id=1\n' "$one_transfer" >refused.script
 run run refused.script
-same 'a run that refuses: standard error' 'relayplum: items not accepted: 1, batches refused: 0
+counts 'a run that refuses' 1 0
+run run --explain refused.script
+same 'a run that refuses, explained' 'refused.script:7: batch 2 transfer 2 (id 1): 12 exists_with_different_fields: transfer 1 is there already, with other fields
 ' "$err"
+same 'a run that refuses, explained: status' 0 "$status"
+run run --explain one.script
+same 'a run with nothing to explain' "$its_book" "$out"
+ends_well 'a run with nothing to explain'
 printf 'subscriber all\nclient 5\n' >fifth.script
 run run fifth.script
 same 'a run of a fifth client: standard output' 'fault: script line 2: bad_client
@@ -273,6 +288,22 @@ account 4 0 0 0 7' "$(sed '1,/^subscriber 2/d' output)"
     '2001 2001' | '2001 2000' | '2003 2003' | '2003 2000') ;;
     *) wrong 'two clients: the moments of the last events' '2001 or 2003, and 2000 or the same' "$last $eight" ;;
     esac
+done
+
+# Why an item of two clients wasn't accepted: told in an order that comes to the results that were printed, whichever came.
+# The second client's transfer finds no account at all, or the one that it debits alone. Ten times over.
+printf '%s\n' 'subscriber all' 'accounts 1000' 'account id=1 ledger=700 code=10' 'client 2' 'transfers 2000' \
+    'transfer id=1 debit_account_id=1 credit_account_id=2 amount=5 ledger=700 code=1' >either.script
+for _ in 1 2 3 4 5 6 7 8 9 10; do
+    run run --explain either.script
+    same 'either client first: status' 0 "$status"
+    case "$out" in
+    *'batch 2: 14'*) why='14 debit_account_not_found: there is no account 1 to debit' ;;
+    *) why='15 credit_account_not_found: there is no account 2 to credit' ;;
+    esac
+    same 'either client first: why' "either.script: told in one order of the clients' batches that comes to these results; the run may have had another
+either.script:6: batch 2 transfer 1 (id 1): $why
+" "$err"
 done
 
 # Four clients at once, each with two accounts and one transfer on a ledger of its own; of eight subscribers four hear one
@@ -670,6 +701,38 @@ run simulate --trace one.script twice.steps
 same 'a trace up to a refused step' 'start: session 1 begins after 0
 twice.steps:2: start: not enabled: session 1 runs already
 ' "$err"
+
+# Steps that are made by chance: what stands on standard error is a step file that comes to the same report, whatever else
+# is told there; and a seed makes the same steps again. Standard output is that of the step file.
+cp "$top/examples/two-phase.script" .
+for seed in {1..50}; do
+    run simulate two-phase.script --random "$seed" --window $((seed % 3 + 1)) --steps 120 --faults 12
+    same "the seed $seed: status" 0 "$status"
+    cp errors random.steps
+    made=$out
+    run simulate two-phase.script random.steps --window $((seed % 3 + 1))
+    same "the steps of the seed $seed, played again" "$made" "$out"
+    run simulate --trace --explain --diagram two-phase.script --random "$seed" --window $((seed % 3 + 1)) --steps 120 --faults 12
+    same "the seed $seed again: standard output" "$made" "$out"
+    same "the seed $seed again: its steps" "$(grep -v '^#' random.steps)" "$(grep -v '^#' errors)"
+    cp errors random.steps
+    run simulate two-phase.script random.steps --window $((seed % 3 + 1))
+    same "the steps of the seed $seed among what is told, played again" "$made" "$out"
+done
+run simulate two-phase.script --random 7 --steps 0
+same 'no steps by chance' 'steps 0 of 0' "$(head -n 1 output)"
+same 'no steps by chance: standard error' '# relayplum simulate FILE --random 7 --steps 0 --faults 10 --window 1
+' "$err"
+run simulate number.script --random 7
+same 'steps by chance of a bad script: status' 2 "$status"
+same 'steps by chance of a bad script: standard output' 'fault: script line 2: bad_number
+' "$out"
+run simulate no-such.script --random 7
+same 'steps by chance of no file: standard output' 'fault: read_fault
+' "$out"
+has 'steps by chance of no file: standard error' 'no-such.script: read_fault: No such file' "$err"
+run simulate two-phase.script --random 7 --diagram=./precious.script
+same 'steps by chance, a diagram in the place of the script' "2 $(cat "$top/examples/two-phase.script")" "$status $(cat precious.script)"
 
 # A start after a moment: what is left out, also of what comes later, and what later sessions go on from.
 printf '%s\n' 'start at 2500' batch batch publish 'arrive 1' poll save crash start poll >late.steps

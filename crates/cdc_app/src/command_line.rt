@@ -3,6 +3,7 @@
 ghost use Rattle.std.specs.Prelude.{◌≡◌};
 ghost use Rattle.cdc_app.specs.Options.{options_fault_number, options_fault_name};
 
+use cdc_random_steps::Chances;
 use cdc_run_command::RunPlan;
 use std::alloc::AllocError;
 use thiserror::Error;
@@ -29,6 +30,13 @@ pub enum Options<'a> {
         window: usize,
         telling: Telling<'a>,
     },
+    /// The same of steps that are made by chance.
+    Random {
+        file: &'a str,
+        window: usize,
+        chances: Chances,
+        telling: Telling<'a>,
+    },
     /// The results of a script's batches and the books of its subscribers, of the script in this file, which is run on
     /// threads; `-` is standard input. The connector saves its progress in the second file, or, where none is named, in
     /// memory.
@@ -36,6 +44,8 @@ pub enum Options<'a> {
         file: &'a str,
         plan: RunPlan,
         progress: Option<&'a str>,
+        /// Whether standard error says why each item wasn't accepted.
+        explain: bool,
     },
     /// Whether the script in the first file is good, and the step file, where one is named; `-` as the script is
     /// standard input.
