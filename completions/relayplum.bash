@@ -15,7 +15,7 @@ _relayplum() {
             messages) words='--check -h --help' ;;
             simulate) words='--random --steps --faults --window --explain --trace --diagram --check -h --help' ;;
             run)
-                words='--window --prefetch --lose-confirm --lose-publish --restart-after --repeat --close --start-after --progress --explain -h --help'
+                words='--window --prefetch --lose-confirm --lose-publish --restart-after --repeat --close --start-after --progress --explain --trace -h --help'
                 ;;
         esac
     fi

@@ -261,6 +261,27 @@ same 'a run of a fifth client: standard output' 'fault: script line 2: bad_clien
 same 'a run of a fifth client: standard error' "fifth.script:2: bad_client: a client's number is 1 to 4
 " "$err"
 
+# Faults that never came, and what came to each subscriber. There are 7 events, 2 of which are the second subscriber's and 1
+# the third's, and an end mark. A queue that goes back at its third position with no other one on its way has one twice.
+missed() {
+    run run "$top/examples/two-phase.script" "${@:2}"
+    same "a fault that never came, '${*:2}': status" 0 "$status"
+    same "a fault that never came, '${*:2}'" "relayplum: $1" "$(grep -v 'items not accepted' errors)"
+}
+missed '--lose-publish 999: only 8 publishes reached the broker' --lose-publish 999
+missed '--lose-confirm 9: only 8 publishes reached the broker' --lose-confirm 9
+missed '--restart-after 9: only 8 publishes were sent' --restart-after 9
+missed '--restart-after 999: at most 10 publishes were sent' --lose-publish 1 --restart-after 999
+missed '--repeat 2:9: queue 2 handed out only 3 deliveries' --repeat 2:9
+missed '--repeat 4:1: there is no queue 4' --repeat 4:1 --repeat 1:1
+missed '--close 2:9: subscriber 2 applied only 2 events' --close 2:9
+missed '--close 4:1: there is no subscriber 4' --close 4:1
+run run --trace "$top/examples/two-phase.script" --prefetch 1 --repeat 1:3
+same 'what came to each subscriber' 'subscriber 1: 9 deliveries, 7 applied, each once; the other 2 are end marks, and what came again or after a close
+subscriber 2: 3 deliveries, 2 applied, each once; the other 1 are end marks, and what came again or after a close
+subscriber 3: 2 deliveries, 1 applied, each once; the other 1 are end marks, and what came again or after a close' \
+    "$(grep '^subscriber' errors)"
+
 # Two clients at once: which of them comes first isn't fixed, but each one's own order is, and both books are told by the
 # ledger's events. Ten times over.
 {

@@ -22,7 +22,7 @@ IsRun name (Books file explain) = ⊥
 IsRun name (Messages file) = ⊥
 IsRun name (Simulate file steps window telling) = ⊥
 IsRun name (Random file window chances telling) = ⊥
-IsRun name (Run file plan progress explain) = (file.now ≡ name) × (IsDefaultPlan plan × (progress ≡ None))
+IsRun name (Run file plan progress telling) = (file.now ≡ name) × (IsDefaultPlan plan × (progress ≡ None))
 IsRun name (Check file steps) = ⊥
 IsRun name (Explain text) = ⊥
 
@@ -32,7 +32,7 @@ IsWithinLimits (Books file explain) = Unit {0}
 IsWithinLimits (Messages file) = Unit {0}
 IsWithinLimits (Simulate file steps window telling) = IsWindow window
 IsWithinLimits (Random file window chances telling) = IsWindow window
-IsWithinLimits (Run file plan progress explain) = IsPlan plan
+IsWithinLimits (Run file plan progress telling) = IsPlan plan
 IsWithinLimits (Check file steps) = Unit {0}
 IsWithinLimits (Explain text) = Unit {0}
 

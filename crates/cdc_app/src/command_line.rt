@@ -44,8 +44,7 @@ pub enum Options<'a> {
         file: &'a str,
         plan: RunPlan,
         progress: Option<&'a str>,
-        /// Whether standard error says why each item wasn't accepted.
-        explain: bool,
+        telling: RunTelling,
     },
     /// Whether the script in the first file is good, and the step file, where one is named; `-` as the script is
     /// standard input.
@@ -68,6 +67,15 @@ pub struct Telling<'a> {
     pub trace: bool,
     /// The file that gets the steps as a diagram; `-` is standard error.
     pub diagram: Option<&'a str>,
+}
+
+/// What standard error tells of a run, beside its fault and the faults asked for that never came.
+#[derive(Clone, Copy)]
+pub struct RunTelling {
+    /// Whether it says why each item wasn't accepted.
+    pub explain: bool,
+    /// Whether it says what came to each subscriber.
+    pub trace: bool,
 }
 
 /// Why words ask for nothing.

@@ -10,7 +10,9 @@ mod kept;
 mod options;
 mod random;
 mod random_options;
+mod run_faults;
 mod run_options;
+mod run_turns;
 mod sources;
 mod telling;
 
@@ -20,11 +22,12 @@ use cdc_commands::check::{check, check_files};
 use cdc_commands::messages::messages;
 use cdc_commands::{Ending, ProgramFault, print_fault, print_text, simulate_command};
 use cdc_progress::{FileStore, MemoryStore};
-use cdc_run::OpenGate;
 use cdc_run_command::{RunPlan, run_command};
 use kept::Kept;
-use options::{Options, OptionsFault, Telling, options};
+use options::{Options, OptionsFault, RunTelling, Telling, options};
 use random::run_random;
+use run_faults::{copy_faults, tell_missed, trace_deliveries};
+use run_turns::Turns;
 use sources::{STANDARD_INPUT, Source};
 use std::alloc::AllocError;
 use std::process::ExitCode;
@@ -75,9 +78,9 @@ fn run_words<T: Threads + Wait + Sync>(rt: &HostRuntime, threads: &T, words: &[S
                 file,
                 plan,
                 progress,
-                explain,
+                telling,
             },
-        ) => run_on_threads(rt, threads, file, plan, progress, explain),
+        ) => run_on_threads(rt, threads, file, plan, progress, telling),
         Ok(
             Options::Random {
                 file,
@@ -163,20 +166,24 @@ fn run_simulation(
 }
 
 /// Runs the script of this name on threads, with its progress in the file of that name or in memory, and says on
-/// standard error why the command gave up, or what wasn't accepted.
+/// standard error why the command gave up, or what wasn't accepted and which faults never came.
 fn run_on_threads<T: Threads + Wait + Sync>(
     rt: &HostRuntime,
     threads: &T,
     file: &str,
     plan: RunPlan,
     progress: Option<&str>,
-    explain: bool,
+    telling: RunTelling,
 ) -> Ending
     requires { IsPlan plan }
 {
     let alloc = rt.alloc();
     let mut script = Kept::new(alloc, Source::of_script(rt, file));
     let mut printed = Kept::new(alloc, io::writer(rt));
+    let Ok(faults) = copy_faults(alloc, &plan.faults) else {
+        return give_up(rt, ProgramFault::OutOfMemory);
+    };
+    let turns = Turns::new();
     let ending = match progress {
         None => {
             let store = MemoryStore::new();
@@ -186,7 +193,7 @@ fn run_on_threads<T: Threads + Wait + Sync>(
                 &mut script,
                 plan,
                 store,
-                &OpenGate,
+                &turns,
                 &mut printed,
             )
         }
@@ -198,16 +205,23 @@ fn run_on_threads<T: Threads + Wait + Sync>(
                 &mut script,
                 plan,
                 store,
-                &OpenGate,
+                &turns,
                 &mut printed,
             )
         }
     };
     match (ending, script.bytes(), printed.bytes()) {
-        (Ending::Done, Some(script), Some(printed)) if explain => {
-            explain_run(rt, file, script, printed);
+        (Ending::Done, Some(script), Some(printed)) => {
+            if telling.explain {
+                explain_run(rt, file, script, printed);
+            } else {
+                hint(rt, printed, EXPLAIN);
+            }
+            if telling.trace {
+                trace_deliveries(rt, &turns, printed);
+            }
+            tell_missed(rt, &faults, &turns, printed);
         }
-        (Ending::Done, _, Some(printed)) => hint(rt, printed, EXPLAIN),
         _ => advise_on_run(rt, file, progress, ending),
     }
     ending

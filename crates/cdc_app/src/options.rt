@@ -4,7 +4,7 @@ ghost use Rattle.std.specs.Prelude.{◌≡◌, length, codes, IfOk, IfSome, IsOk
 ghost use Rattle.cdc_types.specs.Windows.{IsWindow};
 ghost use Rattle.cdc_app.specs.Options.{IsRun, IsWithinLimits};
 
-pub use crate::command_line::{Options, OptionsFault, Telling};
+pub use crate::command_line::{Options, OptionsFault, RunTelling, Telling};
 use crate::random_options::{asked_chances, faults_option, random_option, steps_option};
 use crate::run_options::{default_plan, run_plan, run_words};
 use crate::sources::STANDARD_INPUT;
@@ -65,7 +65,10 @@ pub fn options<'a>(alloc: Global, words: &'a [&'a str]) -> Result<Options<'a>, O
             file: STANDARD_INPUT,
             plan: default_plan(alloc),
             progress: None,
-            explain: false,
+            telling: RunTelling {
+                explain: false,
+                trace: false,
+            },
         });
     }
     match read_words(alloc, words) {
@@ -225,7 +228,10 @@ fn asked_of<'a>(
             file,
             plan: run_plan(alloc, arguments)?,
             progress: arguments.get_str("progress"),
-            explain: arguments.get_flag("explain"),
+            telling: RunTelling {
+                explain: arguments.get_flag("explain"),
+                trace: arguments.get_flag("trace"),
+            },
         }),
         _ => Err(bad_words(alloc, "error: no command has such words\n")?),
     }

@@ -55,7 +55,16 @@ pub fn run_words<'a>(alloc: Global) -> Result<Command<'a>, AllocError> {
         ))?
         .arg(start_option(alloc))?
         .arg(progress_option(alloc))?
-        .arg(explain_flag(alloc))
+        .arg(explain_flag(alloc))?
+        .arg(trace_flag(alloc))
+}
+
+/// The flag `--trace`.
+fn trace_flag<'a>(alloc: Global) -> Arg<'a> {
+    Arg::new(alloc, "trace")
+        .long("trace")
+        .action(ArgAction::SetTrue)
+        .help("Say on standard error what came to each subscriber")
 }
 
 /// The option `--prefetch`.
