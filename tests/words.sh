@@ -148,9 +148,9 @@ bad_words "'--random" simulate one.script --check --random 1
 bad_words "'--random" books one.script --random 1
 bad_words '--random' simulate one.script three.steps --steps 5
 bad_words '--random' simulate one.script three.steps --faults 5
-for words in '--random x' '--random 18446744073709551616' '--random 1 --steps 20001' '--random 1 --faults -1' \
+for words in '--random x' '--random 18446744073709551616' '--random 1 --steps 20001' '--random 1 --faults=-1' \
     '--random 1 --steps x' '--random='; do
-    bad_words 'a seed is 0 to 18446744073709551615, and steps and faults are 0 to 20000' simulate one.script ${words/ -1/=-1}
+    bad_words 'a seed is 0 to 18446744073709551615, and steps and faults are 0 to 20000' simulate one.script $words
 done
 bad_words "'--trace'" books one.script --trace
 bad_words "'--diagram" messages one.script --diagram=out
@@ -261,8 +261,9 @@ same 'a run of a fifth client: standard output' 'fault: script line 2: bad_clien
 same 'a run of a fifth client: standard error' "fifth.script:2: bad_client: a client's number is 1 to 4
 " "$err"
 
-# Faults that never came, and what came to each subscriber. There are 7 events, 2 of which are the second subscriber's and 1
-# the third's, and an end mark. A queue that goes back at its third position with no other one on its way has one twice.
+# Faults that never came, and what came to each subscriber. There are 7 events, 2 of which are the second subscriber's
+# and 1 the third's, and an end mark. A queue that goes back at its third position while nothing else is on its way has
+# one delivery twice.
 missed() {
     run run "$top/examples/two-phase.script" "${@:2}"
     same "a fault that never came, '${*:2}': status" 0 "$status"
@@ -311,8 +312,8 @@ account 4 0 0 0 7' "$(sed '1,/^subscriber 2/d' output)"
     esac
 done
 
-# Why an item of two clients wasn't accepted: told in an order that comes to the results that were printed, whichever came.
-# The second client's transfer finds no account at all, or the one that it debits alone. Ten times over.
+# Why an item of two clients wasn't accepted: told in an order that comes to the results that were printed, whichever
+# came. The second client's transfer finds no account at all, or the one that it debits alone. Ten times over.
 printf '%s\n' 'subscriber all' 'accounts 1000' 'account id=1 ledger=700 code=10' 'client 2' 'transfers 2000' \
     'transfer id=1 debit_account_id=1 credit_account_id=2 amount=5 ledger=700 code=1' >either.script
 for _ in 1 2 3 4 5 6 7 8 9 10; do
