@@ -1,5 +1,5 @@
-//! The command `simulate` by steps that are made by chance. Standard error gets them as a step file; whatever else stands
-//! there is a comment of it.
+//! The command `simulate` by steps that are made by chance. Standard error gets them as a step file; whatever else
+//! stands there is a comment of it.
 
 ghost use Rattle.cdc_types.specs.Windows.{IsWindow};
 
@@ -15,7 +15,8 @@ use cdc_script::read_text;
 use cdc_telling::{RefusedStep, Tally, count_lines, simulation_told};
 use std::io;
 
-/// Makes steps for the script of this name, prints them as a step file on standard error, and simulates the script by them.
+/// Makes steps for the script of this name, prints them as a step file on standard error, and simulates the script by
+/// them.
 pub fn run_random(
     rt: &HostRuntime,
     file: &str,

@@ -25,7 +25,8 @@ pub fn random_option<'a>(alloc: Global) -> Result<Arg<'a>, AllocError> {
         .help(
             "Make the steps by chance from this number, and print them as a step file on standard error",
         )
-        .conflicts_with_all(&["STEPS", "check"])
+        .conflicts_with("STEPS")?
+        .conflicts_with("check")
 }
 
 /// The option `--steps`.

@@ -54,7 +54,8 @@ pub fn tell_missed(rt: &HostRuntime, faults: &Faults, turns: &Turns, printed: &[
     }
 }
 
-/// Whether one of these faults may have made the connector start another session, where at most so many publishes were sent.
+/// Whether one of these faults may have made the connector start another session, where at most so many publishes were
+/// sent.
 fn restarts(faults: &Faults, most: u64) -> bool {
     faults.lose_confirm.as_slice().iter().any(|n| *n <= most)
         || faults.lose_publish.as_slice().iter().any(|n| *n <= most)
@@ -97,7 +98,8 @@ pub fn trace_deliveries(rt: &HostRuntime, turns: &Turns, printed: &[u8]) {
             let count = turns.deliveries(number);
             let others = count.saturating_sub(applied);
             let _ = eprintln!(rt;
-                "subscriber {number}: {count} deliveries, {applied} applied, each once; the other {others} are end marks, and what came again or after a close"
+                "subscriber {number}: {count} deliveries, {applied} applied, each once; the other {others} are end marks, \
+                 and what came again or after a close"
             );
         }
     }

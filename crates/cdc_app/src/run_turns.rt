@@ -30,8 +30,8 @@ impl Turns {
         }
     }
 
-    /// How many deliveries came to the subscriber of this number, from 1, in a run that has ended well: all its messages but
-    /// the last, which says that nothing follows.
+    /// How many deliveries came to the subscriber of this number, from 1, in a run that has ended well: all its messages
+    /// but the last, which says that nothing follows.
     pub fn deliveries(&self, number: u64) -> u64 {
         match self.subscribers.get(number.wrapping_sub(1) as usize) {
             Some(turns) => turns.load(Ordering::SeqCst).saturating_sub(1),
@@ -39,8 +39,8 @@ impl Turns {
         }
     }
 
-    /// How many packets came to the broker in a run that has ended well, connects and publishes: all its messages but an
-    /// acknowledgement for each delivery, and the connector's last.
+    /// How many packets came to the broker in a run that has ended well, connects and publishes: all its messages but
+    /// an acknowledgement for each delivery, and the connector's last.
     pub fn packets(&self) -> u64 {
         let mut packets = self.broker.load(Ordering::SeqCst).saturating_sub(1);
         for number in 1..9 {

@@ -35,7 +35,7 @@ pub fn explain_books(rt: &HostRuntime, file: &str, script: &[u8]) {
     }
 }
 
-/// Says why each item of a script wasn't accepted in the run of which this was printed, and each batch that was refused.
+/// Says why each item of a script wasn't accepted in the run of which this was printed, and why each batch was refused.
 pub fn explain_run(rt: &HostRuntime, file: &str, script: &[u8], printed: &[u8]) {
     let name = shown_name(file);
     match run_told(rt.alloc(), name, script, printed) {
@@ -44,7 +44,8 @@ pub fn explain_run(rt: &HostRuntime, file: &str, script: &[u8], printed: &[u8]) 
         }
         Some(RunTold::InOneOrder(text)) => {
             let _ = eprint!(rt;
-                "{name}: told in one order of the clients' batches that comes to these results; the run may have had another\n{text}"
+                "{name}: told in one order of the clients' batches that comes to these results; \
+                 the run may have had another\n{text}"
             );
         }
         Some(RunTold::OrderUnknown) => {
