@@ -13,9 +13,9 @@ _relayplum() {
         case ${COMP_WORDS[1]} in
             books) words='--explain --check -h --help' ;;
             messages) words='--check -h --help' ;;
-            simulate) words='--window --explain --trace --diagram --check -h --help' ;;
+            simulate) words='--random --steps --faults --window --explain --trace --diagram --check -h --help' ;;
             run)
-                words='--window --prefetch --lose-confirm --lose-publish --restart-after --repeat --close --start-after --progress -h --help'
+                words='--window --prefetch --lose-confirm --lose-publish --restart-after --repeat --close --start-after --progress --explain --trace -h --help'
                 ;;
         esac
     fi

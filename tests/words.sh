@@ -143,6 +143,15 @@ bad_words "'--window" simulate one.script three.steps --window
 bad_words "'--window" simulate one.script three.steps --window 1 --window 1
 bad_words "'--window'" books one.script --window 1
 bad_words "'--explain'" messages one.script --explain
+bad_words "'--random" simulate one.script three.steps --random 1
+bad_words "'--random" simulate one.script --check --random 1
+bad_words "'--random" books one.script --random 1
+bad_words '--random' simulate one.script three.steps --steps 5
+bad_words '--random' simulate one.script three.steps --faults 5
+for words in '--random x' '--random 18446744073709551616' '--random 1 --steps 20001' '--random 1 --faults=-1' \
+    '--random 1 --steps x' '--random='; do
+    bad_words 'a seed is 0 to 18446744073709551615, and steps and faults are 0 to 20000' simulate one.script $words
+done
 bad_words "'--trace'" books one.script --trace
 bad_words "'--diagram" messages one.script --diagram=out
 bad_words "'--check" simulate one.script three.steps --check=yes
@@ -237,14 +246,42 @@ same 'a run of no file: standard output' 'fault: read_fault
 has 'a run of no file: standard error' 'no-such.script: read_fault: No such file' "$err"
 printf '%stransfer id=1\n' "$one_transfer" >refused.script
 run run refused.script
-same 'a run that refuses: standard error' 'relayplum: items not accepted: 1, batches refused: 0
+counts 'a run that refuses' 1 0
+run run --explain refused.script
+same 'a run that refuses, explained' 'refused.script:7: batch 2 transfer 2 (id 1): 12 exists_with_different_fields: transfer 1 is there already, with other fields
 ' "$err"
+same 'a run that refuses, explained: status' 0 "$status"
+run run --explain one.script
+same 'a run with nothing to explain' "$its_book" "$out"
+ends_well 'a run with nothing to explain'
 printf 'subscriber all\nclient 5\n' >fifth.script
 run run fifth.script
 same 'a run of a fifth client: standard output' 'fault: script line 2: bad_client
 ' "$out"
 same 'a run of a fifth client: standard error' "fifth.script:2: bad_client: a client's number is 1 to 4
 " "$err"
+
+# Faults that never came, and what came to each subscriber. There are 7 events, 2 of which are the second subscriber's
+# and 1 the third's, and an end mark. A queue that goes back at its third position while nothing else is on its way has
+# one delivery twice.
+missed() {
+    run run "$top/examples/two-phase.script" "${@:2}"
+    same "a fault that never came, '${*:2}': status" 0 "$status"
+    same "a fault that never came, '${*:2}'" "relayplum: $1" "$(grep -v 'items not accepted' errors)"
+}
+missed '--lose-publish 999: only 8 publishes reached the broker' --lose-publish 999
+missed '--lose-confirm 9: only 8 publishes reached the broker' --lose-confirm 9
+missed '--restart-after 9: only 8 publishes were sent' --restart-after 9
+missed '--restart-after 999: at most 10 publishes were sent' --lose-publish 1 --restart-after 999
+missed '--repeat 2:9: queue 2 handed out only 3 deliveries' --repeat 2:9
+missed '--repeat 4:1: there is no queue 4' --repeat 4:1 --repeat 1:1
+missed '--close 2:9: subscriber 2 applied only 2 events' --close 2:9
+missed '--close 4:1: there is no subscriber 4' --close 4:1
+run run --trace "$top/examples/two-phase.script" --prefetch 1 --repeat 1:3
+same 'what came to each subscriber' 'subscriber 1: 9 deliveries, 7 applied, each once; the other 2 are end marks, and what came again or after a close
+subscriber 2: 3 deliveries, 2 applied, each once; the other 1 are end marks, and what came again or after a close
+subscriber 3: 2 deliveries, 1 applied, each once; the other 1 are end marks, and what came again or after a close' \
+    "$(grep '^subscriber' errors)"
 
 # Two clients at once: which of them comes first isn't fixed, but each one's own order is, and both books are told by the
 # ledger's events. Ten times over.
@@ -273,6 +310,22 @@ account 4 0 0 0 7' "$(sed '1,/^subscriber 2/d' output)"
     '2001 2001' | '2001 2000' | '2003 2003' | '2003 2000') ;;
     *) wrong 'two clients: the moments of the last events' '2001 or 2003, and 2000 or the same' "$last $eight" ;;
     esac
+done
+
+# Why an item of two clients wasn't accepted: told in an order that comes to the results that were printed, whichever
+# came. The second client's transfer finds no account at all, or the one that it debits alone. Ten times over.
+printf '%s\n' 'subscriber all' 'accounts 1000' 'account id=1 ledger=700 code=10' 'client 2' 'transfers 2000' \
+    'transfer id=1 debit_account_id=1 credit_account_id=2 amount=5 ledger=700 code=1' >either.script
+for _ in 1 2 3 4 5 6 7 8 9 10; do
+    run run --explain either.script
+    same 'either client first: status' 0 "$status"
+    case "$out" in
+    *'batch 2: 14'*) why='14 debit_account_not_found: there is no account 1 to debit' ;;
+    *) why='15 credit_account_not_found: there is no account 2 to credit' ;;
+    esac
+    same 'either client first: why' "either.script: told in one order of the clients' batches that comes to these results; the run may have had another
+either.script:6: batch 2 transfer 1 (id 1): $why
+" "$err"
 done
 
 # Four clients at once, each with two accounts and one transfer on a ledger of its own; of eight subscribers four hear one
@@ -688,12 +741,44 @@ run simulate --trace --explain --diagram "$top/examples/two-phase.script" "$top/
 same 'all that can be told: status' 0 "$status"
 same 'all that can be told: what was explained' 2 "$(grep -c 'two-phase.script:.*: 2[68] pending_transfer' errors)"
 same 'all that can be told: subscriber 1' 'applied 2000 applied 2001 repeat repeat repeat applied 2002 applied 3000 repeat repeat applied 3001 applied 3002 applied 2000000000 heard the end mark' \
-    "$(sed -n 's/^take 1: //p' errors | tr '\n' ' ' | sed 's/ $//')"
+    "$(sed -n 's/^take 1: //p' errors | sed 's/, transfer .*//; s/^repeat of .*/repeat/' | tr '\n' ' ' | sed 's/ $//')"
 printf 'start\nstart\n' >twice.steps
 run simulate --trace one.script twice.steps
 same 'a trace up to a refused step' 'start: session 1 begins after 0
 twice.steps:2: start: not enabled: session 1 runs already
 ' "$err"
+
+# Steps that are made by chance: what stands on standard error is a step file that comes to the same report, whatever else
+# is told there; and a seed makes the same steps again. Standard output is that of the step file.
+cp "$top/examples/two-phase.script" .
+for seed in {1..50}; do
+    run simulate two-phase.script --random "$seed" --window $((seed % 3 + 1)) --steps 120 --faults 12
+    same "the seed $seed: status" 0 "$status"
+    cp errors random.steps
+    made=$out
+    run simulate two-phase.script random.steps --window $((seed % 3 + 1))
+    same "the steps of the seed $seed, played again" "$made" "$out"
+    run simulate --trace --explain --diagram two-phase.script --random "$seed" --window $((seed % 3 + 1)) --steps 120 --faults 12
+    same "the seed $seed again: standard output" "$made" "$out"
+    same "the seed $seed again: its steps" "$(grep -v '^#' random.steps)" "$(grep -v '^#' errors)"
+    cp errors random.steps
+    run simulate two-phase.script random.steps --window $((seed % 3 + 1))
+    same "the steps of the seed $seed among what is told, played again" "$made" "$out"
+done
+run simulate two-phase.script --random 7 --steps 0
+same 'no steps by chance' 'steps 0 of 0' "$(head -n 1 output)"
+same 'no steps by chance: standard error' '# relayplum simulate FILE --random 7 --steps 0 --faults 10 --window 1
+' "$err"
+run simulate number.script --random 7
+same 'steps by chance of a bad script: status' 2 "$status"
+same 'steps by chance of a bad script: standard output' 'fault: script line 2: bad_number
+' "$out"
+run simulate no-such.script --random 7
+same 'steps by chance of no file: standard output' 'fault: read_fault
+' "$out"
+has 'steps by chance of no file: standard error' 'no-such.script: read_fault: No such file' "$err"
+run simulate two-phase.script --random 7 --diagram=./precious.script
+same 'steps by chance, a diagram in the place of the script' "2 $(cat "$top/examples/two-phase.script")" "$status $(cat precious.script)"
 
 # A start after a moment: what is left out, also of what comes later, and what later sessions go on from.
 printf '%s\n' 'start at 2500' batch batch publish 'arrive 1' poll save crash start poll >late.steps
@@ -713,7 +798,7 @@ one.script: events up to the start, 2500, are left out: 1 of 1
 printf '%s\n' batch batch 'start at 1999' publish 'arrive 1' poll publish 'arrive 2' 'answer 1' save >late.steps
 run simulate --trace one.script late.steps
 same 'a start before an event' 'start at 1999: session 1 begins after 1999, events left out so far: 0
-poll: event 2000
+poll: event 2000, transfer 1, 100 from 1 to 2
 save: session 1 is confirmed up to 2000
 ' "$(grep -E '^(start|poll|save)' errors)
 "

@@ -5,7 +5,7 @@ use Rattle.cdc_types.specs.Windows.{IsWindow}
 use Rattle.cdc_run_command.specs.Plans.{IsPlan}
 use Rattle.cdc_run_command.specs.declared.plans.RunPlan.{RunPlan}
 use Rattle.cdc_app.specs.declared.command_line.Options.{Options}
-use Rattle.cdc_app.specs.declared.command_line.Options.TheVariants.{Books, Messages, Simulate, Run, Check, Explain}
+use Rattle.cdc_app.specs.declared.command_line.Options.TheVariants.{Books, Messages, Simulate, Random, Run, Check, Explain}
 use Rattle.cdc_app.specs.declared.command_line.OptionsFault.{OptionsFault}
 use Rattle.cdc_app.specs.declared.command_line.OptionsFault.TheVariants.{BadWords, OutOfMemory}
 
@@ -21,7 +21,8 @@ abbrev pub IsRun : List ℕ → Options → Type 0
 IsRun name (Books file explain) = ⊥
 IsRun name (Messages file) = ⊥
 IsRun name (Simulate file steps window telling) = ⊥
-IsRun name (Run file plan progress) = (file.now ≡ name) × (IsDefaultPlan plan × (progress ≡ None))
+IsRun name (Random file window chances telling) = ⊥
+IsRun name (Run file plan progress telling) = (file.now ≡ name) × (IsDefaultPlan plan × (progress ≡ None))
 IsRun name (Check file steps) = ⊥
 IsRun name (Explain text) = ⊥
 
@@ -30,7 +31,8 @@ abbrev pub IsWithinLimits : Options → Type 0
 IsWithinLimits (Books file explain) = Unit {0}
 IsWithinLimits (Messages file) = Unit {0}
 IsWithinLimits (Simulate file steps window telling) = IsWindow window
-IsWithinLimits (Run file plan progress) = IsPlan plan
+IsWithinLimits (Random file window chances telling) = IsWindow window
+IsWithinLimits (Run file plan progress telling) = IsPlan plan
 IsWithinLimits (Check file steps) = Unit {0}
 IsWithinLimits (Explain text) = Unit {0}
 

@@ -3,6 +3,7 @@
 ghost use Rattle.std.specs.Prelude.{◌≡◌};
 ghost use Rattle.cdc_app.specs.Options.{options_fault_number, options_fault_name};
 
+use cdc_random_steps::Chances;
 use cdc_run_command::RunPlan;
 use std::alloc::AllocError;
 use thiserror::Error;
@@ -29,6 +30,13 @@ pub enum Options<'a> {
         window: usize,
         telling: Telling<'a>,
     },
+    /// The same of steps that are made by chance.
+    Random {
+        file: &'a str,
+        window: usize,
+        chances: Chances,
+        telling: Telling<'a>,
+    },
     /// The results of a script's batches and the books of its subscribers, of the script in this file, which is run on
     /// threads; `-` is standard input. The connector saves its progress in the second file, or, where none is named, in
     /// memory.
@@ -36,6 +44,7 @@ pub enum Options<'a> {
         file: &'a str,
         plan: RunPlan,
         progress: Option<&'a str>,
+        telling: RunTelling,
     },
     /// Whether the script in the first file is good, and the step file, where one is named; `-` as the script is
     /// standard input.
@@ -58,6 +67,15 @@ pub struct Telling<'a> {
     pub trace: bool,
     /// The file that gets the steps as a diagram; `-` is standard error.
     pub diagram: Option<&'a str>,
+}
+
+/// What standard error tells of a run, beside its fault and the faults asked for that never came.
+#[derive(Clone, Copy)]
+pub struct RunTelling {
+    /// Whether it says why each item wasn't accepted.
+    pub explain: bool,
+    /// Whether it says what came to each subscriber.
+    pub trace: bool,
 }
 
 /// Why words ask for nothing.

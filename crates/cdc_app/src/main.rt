@@ -8,7 +8,11 @@ mod advice;
 mod command_line;
 mod kept;
 mod options;
+mod random;
+mod random_options;
+mod run_faults;
 mod run_options;
+mod run_turns;
 mod sources;
 mod telling;
 
@@ -18,17 +22,19 @@ use cdc_commands::check::{check, check_files};
 use cdc_commands::messages::messages;
 use cdc_commands::{Ending, ProgramFault, print_fault, print_text, simulate_command};
 use cdc_progress::{FileStore, MemoryStore};
-use cdc_run::OpenGate;
 use cdc_run_command::{RunPlan, run_command};
 use kept::Kept;
-use options::{Options, OptionsFault, STANDARD_ERROR, Telling, options};
+use options::{Options, OptionsFault, RunTelling, Telling, options};
+use random::run_random;
+use run_faults::{copy_faults, tell_missed, trace_deliveries};
+use run_turns::Turns;
 use sources::{STANDARD_INPUT, Source};
 use std::alloc::AllocError;
 use std::process::ExitCode;
 use std::sync::Wait;
 use std::thread::Threads;
 use std::{env, io};
-use telling::{EXPLAIN, Inputs, explain_books, hint, may_draw, tell_simulation};
+use telling::{EXPLAIN, Inputs, can_draw, explain_books, explain_run, hint, tell_simulation};
 
 fn main(rt: HostRuntime) -> ExitCode {
     let ending = match words_of(&rt) {
@@ -72,8 +78,17 @@ fn run_words<T: Threads + Wait + Sync>(rt: &HostRuntime, threads: &T, words: &[S
                 file,
                 plan,
                 progress,
+                telling,
             },
-        ) => run_on_threads(rt, threads, file, plan, progress),
+        ) => run_on_threads(rt, threads, file, plan, progress, telling),
+        Ok(
+            Options::Random {
+                file,
+                window,
+                chances,
+                telling,
+            },
+        ) => run_random(rt, file, window, chances, telling),
         Ok(Options::Check { file, steps }) => run_check(rt, file, steps),
         Ok(Options::Explain { text }) => explain(rt, text.as_str()),
         Err(OptionsFault::BadWords { message }) => refuse_words(rt, message.as_str()),
@@ -113,13 +128,8 @@ fn run_simulation(
 ) -> Ending
     requires { IsWindow window }
 {
-    if let Some(out) = telling.diagram {
-        if out != STANDARD_ERROR && !may_draw(rt, out) {
-            let _ = eprintln!(rt;
-                "error: --diagram={out}: this file holds something else than a diagram, which would be lost; name another one"
-            );
-            return Ending::BadWords;
-        }
+    if !can_draw(rt, telling) {
+        return Ending::BadWords;
     }
     let mut script = Kept::new(rt.alloc(), Source::of_script(rt, file));
     let mut step_file = Kept::new(rt.alloc(), Source::of_file(rt, steps));
@@ -156,19 +166,24 @@ fn run_simulation(
 }
 
 /// Runs the script of this name on threads, with its progress in the file of that name or in memory, and says on
-/// standard error why the command gave up, or how much wasn't accepted.
+/// standard error why the command gave up, or what wasn't accepted and which faults never came.
 fn run_on_threads<T: Threads + Wait + Sync>(
     rt: &HostRuntime,
     threads: &T,
     file: &str,
     plan: RunPlan,
     progress: Option<&str>,
+    telling: RunTelling,
 ) -> Ending
     requires { IsPlan plan }
 {
     let alloc = rt.alloc();
-    let mut script = Source::of_script(rt, file);
+    let mut script = Kept::new(alloc, Source::of_script(rt, file));
     let mut printed = Kept::new(alloc, io::writer(rt));
+    let Ok(faults) = copy_faults(alloc, &plan.faults) else {
+        return give_up(rt, ProgramFault::OutOfMemory);
+    };
+    let turns = Turns::new();
     let ending = match progress {
         None => {
             let store = MemoryStore::new();
@@ -178,7 +193,7 @@ fn run_on_threads<T: Threads + Wait + Sync>(
                 &mut script,
                 plan,
                 store,
-                &OpenGate,
+                &turns,
                 &mut printed,
             )
         }
@@ -190,13 +205,23 @@ fn run_on_threads<T: Threads + Wait + Sync>(
                 &mut script,
                 plan,
                 store,
-                &OpenGate,
+                &turns,
                 &mut printed,
             )
         }
     };
-    match (ending, printed.bytes()) {
-        (Ending::Done, Some(printed)) => hint(rt, printed, ""),
+    match (ending, script.bytes(), printed.bytes()) {
+        (Ending::Done, Some(script), Some(printed)) => {
+            if telling.explain {
+                explain_run(rt, file, script, printed);
+            } else {
+                hint(rt, printed, EXPLAIN);
+            }
+            if telling.trace {
+                trace_deliveries(rt, &turns, printed);
+            }
+            tell_missed(rt, &faults, &turns, printed);
+        }
         _ => advise_on_run(rt, file, progress, ending),
     }
     ending

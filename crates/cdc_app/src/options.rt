@@ -4,7 +4,8 @@ ghost use Rattle.std.specs.Prelude.{◌≡◌, length, codes, IfOk, IfSome, IsOk
 ghost use Rattle.cdc_types.specs.Windows.{IsWindow};
 ghost use Rattle.cdc_app.specs.Options.{IsRun, IsWithinLimits};
 
-pub use crate::command_line::{Options, OptionsFault, Telling};
+pub use crate::command_line::{Options, OptionsFault, RunTelling, Telling};
+use crate::random_options::{asked_chances, faults_option, random_option, steps_option};
 use crate::run_options::{default_plan, run_plan, run_words};
 use crate::sources::STANDARD_INPUT;
 use cdc_message::decimal_up_to;
@@ -64,6 +65,10 @@ pub fn options<'a>(alloc: Global, words: &'a [&'a str]) -> Result<Options<'a>, O
             file: STANDARD_INPUT,
             plan: default_plan(alloc),
             progress: None,
+            telling: RunTelling {
+                explain: false,
+                trace: false,
+            },
         });
     }
     match read_words(alloc, words) {
@@ -112,7 +117,7 @@ fn messages_words<'a>(alloc: Global) -> Result<Command<'a>, AllocError> {
 /// The command `simulate`.
 fn simulate_words<'a>(alloc: Global) -> Result<Command<'a>, AllocError> {
     let steps = Arg::new(alloc, "STEPS")
-        .required(true)
+        .required_unless_present("random")?
         .action(ArgAction::Set)
         .help("The file of the steps");
     Command::new(alloc, "simulate")
@@ -122,6 +127,9 @@ fn simulate_words<'a>(alloc: Global) -> Result<Command<'a>, AllocError> {
         .after_help(MORE)
         .arg(script_argument(alloc))?
         .arg(steps)?
+        .arg(random_option(alloc)?)?
+        .arg(steps_option(alloc)?)?
+        .arg(faults_option(alloc)?)?
         .arg(window_option(alloc))?
         .arg(explain_flag(alloc))?
         .arg(trace_flag(alloc))?
@@ -147,7 +155,7 @@ pub fn window_option<'a>(alloc: Global) -> Arg<'a> {
 }
 
 /// The flag `--explain`.
-fn explain_flag<'a>(alloc: Global) -> Arg<'a> {
+pub fn explain_flag<'a>(alloc: Global) -> Arg<'a> {
     Arg::new(alloc, "explain")
         .long("explain")
         .action(ArgAction::SetTrue)
@@ -207,6 +215,7 @@ fn asked_of<'a>(
 {
     match (command, arguments.get_str("STEPS")) {
         ("simulate", Some(steps)) => simulation(alloc, file, steps, arguments),
+        ("simulate", None) => random_simulation(alloc, file, arguments),
         ("books" | "messages", _) if arguments.get_flag("check") => {
             Ok(Options::Check { file, steps: None })
         }
@@ -219,6 +228,10 @@ fn asked_of<'a>(
             file,
             plan: run_plan(alloc, arguments)?,
             progress: arguments.get_str("progress"),
+            telling: RunTelling {
+                explain: arguments.get_flag("explain"),
+                trace: arguments.get_flag("trace"),
+            },
         }),
         _ => Err(bad_words(alloc, "error: no command has such words\n")?),
     }
@@ -241,17 +254,38 @@ fn simulation<'a>(
             steps: Some(steps),
         });
     }
-    let telling = Telling {
-        explain: arguments.get_flag("explain"),
-        trace: arguments.get_flag("trace"),
-        diagram: arguments.get_str("diagram"),
-    };
     Ok(Options::Simulate {
         file,
         steps,
         window,
-        telling,
+        telling: asked_telling(arguments),
     })
+}
+
+/// A simulation of this file by steps that are made by chance, with the window that a word says, or that of one event.
+fn random_simulation<'a>(
+    alloc: Global,
+    file: &'a str,
+    arguments: &ArgMatches<'a>,
+) -> Result<Options<'a>, OptionsFault>
+    ensures { IfOk result IsWithinLimits }
+{
+    let window = asked_window(alloc, arguments)?;
+    Ok(Options::Random {
+        file,
+        window,
+        chances: asked_chances(alloc, arguments)?,
+        telling: asked_telling(arguments),
+    })
+}
+
+/// What the words ask standard error to tell of a simulation.
+fn asked_telling<'a>(arguments: &ArgMatches<'a>) -> Telling<'a> {
+    Telling {
+        explain: arguments.get_flag("explain"),
+        trace: arguments.get_flag("trace"),
+        diagram: arguments.get_str("diagram"),
+    }
 }
 
 /// The window that the words say, or that of one event.

@@ -5,7 +5,7 @@ ghost use Rattle.cdc_run_command.specs.Plans.{AreCounts, IsPlan, IsPrefetch};
 ghost use Rattle.cdc_app.specs.Options.{IsDefaultPlan};
 
 use crate::command_line::OptionsFault;
-use crate::options::{MORE, asked_window, bad_words, script_argument, window_option};
+use crate::options::{MORE, asked_window, bad_words, explain_flag, script_argument, window_option};
 use cdc_message::decimal_up_to;
 use cdc_run::Faults;
 use cdc_run_command::RunPlan;
@@ -54,7 +54,17 @@ pub fn run_words<'a>(alloc: Global) -> Result<Command<'a>, AllocError> {
             "Close a subscriber after N applied events",
         ))?
         .arg(start_option(alloc))?
-        .arg(progress_option(alloc))
+        .arg(progress_option(alloc))?
+        .arg(explain_flag(alloc))?
+        .arg(trace_flag(alloc))
+}
+
+/// The flag `--trace`.
+fn trace_flag<'a>(alloc: Global) -> Arg<'a> {
+    Arg::new(alloc, "trace")
+        .long("trace")
+        .action(ArgAction::SetTrue)
+        .help("Say on standard error what came to each subscriber")
 }
 
 /// The option `--prefetch`.

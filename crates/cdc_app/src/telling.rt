@@ -6,7 +6,9 @@ ghost use Rattle.cdc_types.specs.Windows.{IsWindow};
 
 use crate::advice::shown_name;
 use crate::options::{STANDARD_ERROR, Telling};
-use cdc_telling::{RefusedStep, Tally, books_lines, count_lines, simulation_told};
+use cdc_telling::{
+    RefusedStep, RunTold, Tally, books_lines, count_lines, run_told, simulation_told,
+};
 use std::fs;
 use std::fs::OpenOptions;
 use std::io::Read;
@@ -30,6 +32,28 @@ pub struct Inputs<'a> {
 pub fn explain_books(rt: &HostRuntime, file: &str, script: &[u8]) {
     if let Some(text) = books_lines(rt.alloc(), shown_name(file), script) {
         let _ = eprint!(rt; "{text}");
+    }
+}
+
+/// Says why each item of a script wasn't accepted in the run of which this was printed, and why each batch was refused.
+pub fn explain_run(rt: &HostRuntime, file: &str, script: &[u8], printed: &[u8]) {
+    let name = shown_name(file);
+    match run_told(rt.alloc(), name, script, printed) {
+        Some(RunTold::Alone(text)) => {
+            let _ = eprint!(rt; "{text}");
+        }
+        Some(RunTold::InOneOrder(text)) => {
+            let _ = eprint!(rt;
+                "{name}: told in one order of the clients' batches that comes to these results; \
+                 the run may have had another\n{text}"
+            );
+        }
+        Some(RunTold::OrderUnknown) => {
+            let _ = eprintln!(rt;
+                "{name}: no order of the clients' batches was found that comes to these results"
+            );
+        }
+        None => {}
     }
 }
 
@@ -86,9 +110,23 @@ pub fn tell_simulation(rt: &HostRuntime, inputs: Inputs<'_>, telling: Telling<'_
 /// What a diagram begins with (Mermaid).
 const DIAGRAM: &[u8; 15] = b"sequenceDiagram";
 
+/// Whether the diagram that is asked for can be drawn without the loss of anything else; says where it can't.
+pub fn can_draw(rt: &HostRuntime, telling: Telling<'_>) -> bool {
+    let Some(out) = telling.diagram else {
+        return true;
+    };
+    if out == STANDARD_ERROR || may_draw(rt, out) {
+        return true;
+    }
+    let _ = eprintln!(rt;
+        "error: --diagram={out}: this file holds something else than a diagram, which would be lost; name another one"
+    );
+    false
+}
+
 /// Whether a diagram may be written to the file of this name without the loss of anything else: there is none, it is empty
 /// or holds a diagram, or it is no regular file, as a pipe.
-pub fn may_draw(rt: &HostRuntime, file: &str) -> bool {
+fn may_draw(rt: &HostRuntime, file: &str) -> bool {
     // (a file that can't be opened is missed when it is written)
     let Ok(mut file) = OpenOptions::new().read(true).write(true).open(rt, file) else {
         return true;
@@ -101,7 +139,7 @@ pub fn may_draw(rt: &HostRuntime, file: &str) -> bool {
 }
 
 /// Writes a diagram to standard error or to the file of this name, and says where that can't be done.
-fn draw(rt: &HostRuntime, file: &str, diagram: &str) {
+pub fn draw(rt: &HostRuntime, file: &str, diagram: &str) {
     if file == STANDARD_ERROR {
         let _ = eprint!(rt; "{diagram}");
     } else if let Err(error) = fs::write(rt, file, diagram) {

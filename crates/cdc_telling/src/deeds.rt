@@ -1,7 +1,9 @@
 //! What a step of a simulation did, and how that is said.
 
 use crate::cargo::{Cargo, Confirm, Packet};
+use crate::movements::Movement;
 use crate::sentences::Sentence;
+use crate::texts::Text;
 use cdc_subscriber::Taking;
 
 /// What a step did. Numbers count from 1; timestamps are in nanoseconds.
@@ -46,12 +48,14 @@ pub(crate) enum ConnectorDeed {
     Crashed {
         session: u64,
     },
-    /// The session was offered so many events, the first and the last with these timestamps, or told that none follows.
+    /// The session was offered so many events, the first and the last with these timestamps, or told that none follows;
+    /// of a single one with its money.
     Offered {
         count: usize,
         first: u64,
         last: u64,
         complete: bool,
+        movement: Option<Movement>,
     },
     /// The session sent a packet, which has this number.
     Published {
@@ -145,6 +149,16 @@ impl Deed {
             Deed::Untold => Sentence::Plain("done"),
         }
     }
+
+    /// The money of the one event that the step was about.
+    pub(crate) fn movement(self) -> Option<Movement> {
+        match self {
+            Deed::Connector(deed) => deed.movement(),
+            Deed::Queue(_, deed) => deed.movement(),
+            Deed::Submitted { .. } | Deed::Pulsed { .. } | Deed::LedgerClosed | Deed::Untold =>
+                None,
+        }
+    }
 }
 
 impl ConnectorDeed {
@@ -181,6 +195,7 @@ impl ConnectorDeed {
                 first,
                 last,
                 complete,
+                ..
             } => offer_sentence(count, first, last, complete),
             ConnectorDeed::Published { number, packet } => packet_sentence(number as u64, packet),
             ConnectorDeed::Arrived { packet, .. } => arrival_sentence(packet),
@@ -200,6 +215,30 @@ impl ConnectorDeed {
                 "",
             ),
         }
+    }
+
+    /// The money of the one event that the step was about.
+    fn movement(self) -> Option<Movement> {
+        match self {
+            ConnectorDeed::Published { packet, .. } | ConnectorDeed::Arrived { packet, .. } => {
+                packet.movement()
+            }
+            ConnectorDeed::Offered { movement, .. } => movement,
+            ConnectorDeed::Started { .. }
+            | ConnectorDeed::StartedAt { .. }
+            | ConnectorDeed::Crashed { .. }
+            | ConnectorDeed::PassedOver { .. }
+            | ConnectorDeed::Answered { .. }
+            | ConnectorDeed::Saved { .. } => None,
+        }
+    }
+}
+
+/// Adds the money of the one event that a step was about, behind what is said of the step.
+pub(crate) fn push_movement(deed: Deed, text: &mut Text) {
+    if let Some(movement) = deed.movement() {
+        text.push(", ");
+        movement.push_to(text);
     }
 }
 
@@ -324,6 +363,17 @@ impl QueueDeed {
             QueueDeed::Closed => Sentence::Plain("the subscriber applies no more"),
         }
     }
+
+    /// The money of the one event that the step was about.
+    fn movement(self) -> Option<Movement> {
+        match self {
+            QueueDeed::Sent { cargo, .. } | QueueDeed::Took { cargo, .. } => cargo.movement(),
+            QueueDeed::Rewound { .. }
+            | QueueDeed::Broken { .. }
+            | QueueDeed::Acknowledged { .. }
+            | QueueDeed::Closed => None,
+        }
+    }
 }
 
 /// An item at a position.
@@ -344,13 +394,29 @@ fn position_sentence(position: usize, cargo: Cargo) -> Sentence {
 
 /// What a subscriber made of an item.
 fn taking_sentence(cargo: Cargo, taking: Taking) -> Sentence {
-    match (taking, cargo) {
-        (Taking::Applied, Cargo::Event { timestamp, .. }) => {
-            Sentence::One("applied ", timestamp.into(), "")
-        }
-        (Taking::Applied, Cargo::EndMark) => Sentence::Plain("applied"),
-        (Taking::Repeat, _) => Sentence::Plain("repeat"),
-        (Taking::Ended, _) => Sentence::Plain("heard the end mark"),
-        (Taking::AfterClose, _) => Sentence::Plain("passed over, the subscriber is closed"),
+    match cargo {
+        Cargo::Event { timestamp, .. } => event_sentence(timestamp, taking),
+        Cargo::EndMark => end_sentence(taking),
     }
+}
+
+/// What a subscriber made of the event of this timestamp.
+fn event_sentence(timestamp: u64, taking: Taking) -> Sentence {
+    let words = match taking {
+        Taking::Applied => "applied ",
+        Taking::Repeat => "repeat of ",
+        Taking::Ended => "ended by ",
+        Taking::AfterClose => "passed over, the subscriber is closed: event ",
+    };
+    Sentence::One(words, timestamp.into(), "")
+}
+
+/// What a subscriber made of an end mark.
+fn end_sentence(taking: Taking) -> Sentence {
+    Sentence::Plain(match taking {
+        Taking::Applied => "applied the end mark",
+        Taking::Repeat => "repeat of the end mark",
+        Taking::Ended => "heard the end mark",
+        Taking::AfterClose => "passed over, the subscriber is closed: end mark",
+    })
 }

@@ -1,6 +1,6 @@
 //! The steps of a simulation as a sequence diagram, in Mermaid's text (Mermaid, Sequence diagrams).
 
-use crate::deeds::{ConnectorDeed, Deed, QueueDeed, packet_sentence};
+use crate::deeds::{ConnectorDeed, Deed, QueueDeed, packet_sentence, push_movement};
 use crate::sentences::Sentence;
 use crate::texts::Text;
 use std::alloc::{AllocError, Global};
@@ -44,6 +44,7 @@ impl Diagram {
         self.text.push("    ");
         self.text.push_sentence(arrow(deed));
         self.text.push_sentence(label(deed));
+        push_movement(deed, &mut self.text);
         self.text.push("\n");
     }
 }

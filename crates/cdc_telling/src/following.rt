@@ -1,8 +1,9 @@
 //! What is kept of a simulation's steps beside its world, which doesn't show what was sent and what is waited for.
 
-use crate::cargo::{Confirm, Packet};
+use crate::cargo::{Cargo, Confirm, Packet};
 use crate::deeds::{ConnectorDeed, Deed, QueueDeed};
 use crate::lanes::Lane;
+use crate::movements::Movement;
 use crate::results::{accepted_count, item_count};
 use crate::sentences::Sentence;
 use crate::sessions::Session;
@@ -54,6 +55,27 @@ pub(crate) fn timestamp_of(ledger: &Ledger, count: usize) -> u64 {
     match ledger.log().get(count.wrapping_sub(1)) {
         Some(event) => event.timestamp,
         None => 0,
+    }
+}
+
+/// The event at a place of the log, from 0, as it is published; where there is none, what ends all.
+pub(crate) fn cargo_at(ledger: &Ledger, place: usize) -> Cargo {
+    match ledger.log().get(place) {
+        Some(event) => Cargo::Event {
+            place,
+            timestamp: event.timestamp,
+            movement: Movement::of(event),
+        },
+        None => Cargo::EndMark,
+    }
+}
+
+/// The money of the event at a place of the log, where it is the only one of so many.
+fn only_movement(ledger: &Ledger, place: usize, count: usize) -> Option<Movement> {
+    if count == 1 {
+        cargo_at(ledger, place).movement()
+    } else {
+        None
     }
 }
 
@@ -241,6 +263,7 @@ impl Followed {
             first: timestamp_of(ledger, before.saturating_add(1)),
             last: timestamp_of(ledger, session.offered),
             complete: session.complete,
+            movement: only_movement(ledger, before, count),
         })
     }
 

@@ -82,6 +82,12 @@ impl<'a> ItemLines<'a> {
         self.text.push("\n");
     }
 
+    /// Goes to the batch at this place, from 0, before which so many items stand.
+    pub(crate) fn go_to(&mut self, batch: usize, items: usize) {
+        self.batches = batch;
+        self.items = items;
+    }
+
     /// Goes on to the next batch.
     fn pass(&mut self, batch: &Batch) {
         self.batches = self.batches.saturating_add(1);

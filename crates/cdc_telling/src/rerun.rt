@@ -2,7 +2,7 @@
 
 ghost use Rattle.cdc_types.specs.Windows.{IsWindow};
 
-use crate::deeds::Deed;
+use crate::deeds::{Deed, push_movement};
 use crate::diagram::Diagram;
 use crate::following::Followed;
 use crate::items::ItemLines;
@@ -238,6 +238,7 @@ fn push_step(step: &Step, deed: Deed, trace: &mut Text) {
     trace.push_sentence(step_words(step));
     trace.push(": ");
     trace.push_sentence(deed.sentence());
+    push_movement(deed, trace);
     trace.push("\n");
 }
 

@@ -1,7 +1,7 @@
 //! The connector's session, as far as steps tell.
 
 use crate::cargo::{Cargo, Packet};
-use crate::following::timestamp_of;
+use crate::following::cargo_at;
 use cdc_ledger::Ledger;
 use std::alloc::{AllocError, Global};
 
@@ -123,10 +123,7 @@ impl Session {
         }
         let place = self.sent;
         self.sent = place.saturating_add(1);
-        Cargo::Event {
-            place,
-            timestamp: timestamp_of(ledger, self.sent),
-        }
+        cargo_at(ledger, place)
     }
 
     /// The confirm of a tag came, for which it waits.

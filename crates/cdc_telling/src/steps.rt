@@ -4,7 +4,7 @@ use crate::sentences::Sentence;
 use cdc_types::Step;
 
 /// The words of a step.
-pub(crate) fn step_words(step: &Step) -> Sentence {
+pub fn step_words(step: &Step) -> Sentence {
     match step {
         Step::Submit(_) => Sentence::Plain("batch"),
         Step::CloseLedger => Sentence::Plain("close_ledger"),

@@ -1,0 +1,125 @@
+//! Which faults that were asked for never came in a run, and what came again, on standard error.
+
+use crate::run_turns::Turns;
+use cdc_message::decimal_up_to;
+use cdc_run::Faults;
+use std::alloc::{AllocError, Global};
+
+/// The same faults once more: a run takes its own.
+pub fn copy_faults(alloc: Global, faults: &Faults) -> Result<Faults, AllocError> {
+    Ok(Faults {
+        lose_confirm: faults.lose_confirm.as_slice().to_vec(alloc)?,
+        lose_publish: faults.lose_publish.as_slice().to_vec(alloc)?,
+        restart_after: faults.restart_after.as_slice().to_vec(alloc)?,
+        repeat: faults.repeat.as_slice().to_vec(alloc)?,
+        close: faults.close.as_slice().to_vec(alloc)?,
+    })
+}
+
+/// Says of each fault that never came why it didn't, in a run that has ended well and printed this.
+pub fn tell_missed(rt: &HostRuntime, faults: &Faults, turns: &Turns, printed: &[u8]) {
+    // (each session connects by a packet, and there is one at least)
+    let most = turns.packets().saturating_sub(1);
+    let words = if restarts(faults, most) {
+        "at most"
+    } else {
+        "only"
+    };
+    for n in faults.lose_confirm.as_slice() {
+        if *n > most {
+            let _ = eprintln!(rt;
+                "relayplum: --lose-confirm {n}: {words} {most} publishes reached the broker"
+            );
+        }
+    }
+    for n in faults.lose_publish.as_slice() {
+        if *n > most {
+            let _ = eprintln!(rt;
+                "relayplum: --lose-publish {n}: {words} {most} publishes reached the broker"
+            );
+        }
+    }
+    for n in faults.restart_after.as_slice() {
+        if *n > most {
+            let _ = eprintln!(rt;
+                "relayplum: --restart-after {n}: {words} {most} publishes were sent"
+            );
+        }
+    }
+    for (queue, position) in faults.repeat.as_slice() {
+        tell_missed_repeat(rt, *queue, *position, turns, printed);
+    }
+    for (subscriber, count) in faults.close.as_slice() {
+        tell_missed_close(rt, *subscriber, *count, printed);
+    }
+}
+
+/// Whether one of these faults may have made the connector start another session, where at most so many publishes were
+/// sent.
+fn restarts(faults: &Faults, most: u64) -> bool {
+    faults.lose_confirm.as_slice().iter().any(|n| *n <= most)
+        || faults.lose_publish.as_slice().iter().any(|n| *n <= most)
+        || faults.restart_after.as_slice().iter().any(|n| *n <= most)
+}
+
+/// Says where a queue never came to a position.
+fn tell_missed_repeat(rt: &HostRuntime, queue: u64, position: u64, turns: &Turns, printed: &[u8]) {
+    let count = turns.deliveries(queue);
+    if applied_by(printed, queue).is_none() {
+        let _ = eprintln!(rt; "relayplum: --repeat {queue}:{position}: there is no queue {queue}");
+    } else if position > count {
+        let _ = eprintln!(rt;
+            "relayplum: --repeat {queue}:{position}: queue {queue} handed out only {count} deliveries"
+        );
+    }
+}
+
+/// Says where a subscriber never applied so many events.
+fn tell_missed_close(rt: &HostRuntime, subscriber: u64, count: u64, printed: &[u8]) {
+    match applied_by(printed, subscriber) {
+        None => {
+            let _ = eprintln!(rt;
+                "relayplum: --close {subscriber}:{count}: there is no subscriber {subscriber}"
+            );
+        }
+        Some(applied) if applied < count => {
+            let _ = eprintln!(rt;
+                "relayplum: --close {subscriber}:{count}: subscriber {subscriber} applied only {applied} events"
+            );
+        }
+        Some(_) => {}
+    }
+}
+
+/// Says of each subscriber how many deliveries came to it, how many it applied, and how many it passed over.
+pub fn trace_deliveries(rt: &HostRuntime, turns: &Turns, printed: &[u8]) {
+    for number in 1..9 {
+        if let Some(applied) = applied_by(printed, number) {
+            let count = turns.deliveries(number);
+            let others = count.saturating_sub(applied);
+            let _ = eprintln!(rt;
+                "subscriber {number}: {count} deliveries, {applied} applied, each once; the other {others} are end marks, \
+                 and what came again or after a close"
+            );
+        }
+    }
+}
+
+/// How many events the subscriber of this number has applied, as its printed line says; nothing where it has none.
+fn applied_by(printed: &[u8], number: u64) -> Option<u64> {
+    for line in printed.split(|byte| *byte == b'\n') {
+        let mut words = line.split(|byte| *byte == b' ');
+        if words.next() == Some(b"subscriber".as_slice())
+            && number_of(words.next()) == Some(number)
+        {
+            return number_of(words.nth(1));
+        }
+    }
+    None
+}
+
+/// The number that a word says.
+fn number_of(word: Option<&[u8]>) -> Option<u64> {
+    let number = decimal_up_to(word?, u128::from(u64::MAX))?;
+    Some(number as u64)
+}

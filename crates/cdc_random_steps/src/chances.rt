@@ -1,0 +1,12 @@
+//! How steps are made by chance.
+
+/// How steps are made by chance. The same chances and the same script make the same steps on every machine.
+#[derive(Clone, Copy)]
+pub struct Chances {
+    /// What the random numbers come from.
+    pub seed: u64,
+    /// How many steps are made at most.
+    pub steps: u64,
+    /// How many faults are strewn among them, if there is room for so many.
+    pub faults: u64,
+}

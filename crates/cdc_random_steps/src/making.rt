@@ -1,0 +1,339 @@
+//! Making steps: a world is played beside, and what it takes is written down.
+
+ghost use Rattle.std.specs.Prelude.{◌<◌};
+ghost use Rattle.cdc_types.specs.Windows.{IsWindow};
+
+use crate::chances::Chances;
+use cdc_match::Binding;
+use cdc_progress::MemoryStore;
+use cdc_script::{ClientBatch, Script, parse_script};
+use cdc_telling::step_words;
+use cdc_types::{Moment, Step};
+use cdc_world::World;
+use rand::RngExt;
+use rand_core::SeedableRng;
+use rand_xoshiro::Xoshiro256PlusPlus;
+use std::alloc::{AllocError, Global};
+use std::fmt::Write;
+use std::vec::IntoIter;
+
+/// How often a step is drawn that the world doesn't take, before nothing more is made.
+const TRIES: u64 = 256;
+
+/// What is tried next.
+#[derive(Drop)]
+enum Draw {
+    /// The script's next batch.
+    Batch,
+    /// A step.
+    Step(Step),
+    /// The packet that would arrive next never does.
+    LosePacket,
+    /// The confirm that would come next never does.
+    LoseConfirm,
+}
+
+/// The steps so far, and what they go by.
+#[derive(Drop)]
+struct Maker {
+    /// Where random numbers come from.
+    rng: Xoshiro256PlusPlus,
+    /// The script's batches that are left.
+    batches: IntoIter<ClientBatch>,
+    /// Whether no further batch is handed in.
+    batches_done: bool,
+    /// How many packets have come to the broker for the first time, or never will.
+    arrived: u64,
+    /// How many confirms have come to a session for the first time, or never will.
+    answered: u64,
+    /// Whether something was lost that the session waits for.
+    is_waiting: bool,
+    /// Whether a session runs.
+    runs: bool,
+    /// The steps, a line for each.
+    text: String,
+}
+
+/// A step file for a script: steps that its world takes, one after another, in most of which all goes on and among which
+/// faults are strewn. A session waits for so many events at a time. Of a bad script there are none.
+pub fn random_steps(
+    alloc: Global,
+    script: &[u8],
+    window: usize,
+    chances: Chances,
+) -> Result<String, AllocError>
+    requires { IsWindow window }
+{
+    let Ok(Script { bindings, batches }) = parse_script(alloc, script) else {
+        return Ok(String::new(alloc));
+    };
+    let mut maker = Maker {
+        rng: Xoshiro256PlusPlus::seed_from_u64(chances.seed),
+        batches: batches.into_vec().into_iter(),
+        batches_done: false,
+        arrived: 0,
+        answered: 0,
+        is_waiting: false,
+        runs: false,
+        text: String::new(alloc),
+    };
+    make_in_world(alloc, bindings.into_vec(), window, chances, &mut maker)?;
+    let Maker { text, .. } = maker;
+    Ok(text)
+}
+
+/// Makes steps in a new world with these bindings. It is owned here alone, and lent to all else, since it owns much.
+fn make_in_world(
+    alloc: Global,
+    bindings: Vec<Binding>,
+    window: usize,
+    chances: Chances,
+    maker: &mut Maker,
+) -> Result<(), AllocError>
+    requires { IsWindow window }
+{
+    let mut world = World::new(alloc, bindings, window, MemoryStore::new())?;
+    maker.make(alloc, &mut world, chances)
+}
+
+impl Maker {
+    /// Makes steps until there are enough, or none is found that the world takes.
+    fn make(
+        &mut self,
+        alloc: Global,
+        world: &mut World<MemoryStore>,
+        chances: Chances,
+    ) -> Result<(), AllocError> {
+        let mut faults = chances.faults;
+        for done in 0..chances.steps {
+            let is_fault = faults != 0 && self.below(chances.steps - done) < faults;
+            if is_fault {
+                faults -= 1;
+                if self.make_one(alloc, world, true)? {
+                    continue;
+                }
+            }
+            if !self.make_one(alloc, world, false)? {
+                break;
+            }
+        }
+        Ok(())
+    }
+
+    /// Makes one step, a fault or one by which all goes on; answers whether the world took any.
+    fn make_one(
+        &mut self,
+        alloc: Global,
+        world: &mut World<MemoryStore>,
+        is_fault: bool,
+    ) -> Result<bool, AllocError> {
+        for _ in 0..TRIES {
+            let draw = if is_fault {
+                self.draw_fault(world)
+            } else {
+                self.draw_step(world)
+            };
+            if self.try_draw(alloc, world, draw)? {
+                return Ok(true);
+            }
+        }
+        Ok(false)
+    }
+
+    /// A number below this one.
+    fn below(&mut self, count: u64) -> u64
+        requires { 0 < count }
+        ensures { result < count }
+    {
+        self.rng.random_range(0..count)
+    }
+
+    /// The number, from 1, of one of the subscribers, and 0 where there is none.
+    fn subscriber(&mut self, world: &World<MemoryStore>) -> usize {
+        match world.subscriber_count() {
+            0 => 0,
+            count => self.below(count as u64) as usize + 1,
+        }
+    }
+
+    /// A step by which all goes on.
+    fn draw_step(&mut self, world: &World<MemoryStore>) -> Draw {
+        let i = self.subscriber(world);
+        let number = i as u64;
+        match self.below(13) {
+            0 => Draw::Batch,
+            1 => Draw::Step(self.start(world)),
+            2 => Draw::Step(Step::Save),
+            3 => Draw::Step(Step::Poll),
+            4 => Draw::Step(Step::Publish),
+            5 | 6 => Draw::Step(Step::Arrive(self.arrived.saturating_add(1))),
+            7 => Draw::Step(Step::Answer(self.answered.saturating_add(1))),
+            8 | 9 => Draw::Step(Step::Send(number)),
+            10 => Draw::Step(Step::Take(number)),
+            11 => Draw::Step(Step::Ack(number, acks_of(world, i))),
+            _ => self.draw_ending(),
+        }
+    }
+
+    /// A session's start, or its end where it waits for what was lost. The first one may be told where to start.
+    fn start(&mut self, world: &World<MemoryStore>) -> Step {
+        if self.runs && self.is_waiting {
+            return Step::Crash;
+        }
+        if world.packets() == 0 && self.below(4) == 0 {
+            let last = world.ledger().last();
+            if let Some(moment) = Moment::new(self.below(last.saturating_add(1))) {
+                return Step::StartAt(moment);
+            }
+        }
+        Step::Start
+    }
+
+    /// The ledger's close, once no batch is left to hand in.
+    fn draw_ending(&mut self) -> Draw {
+        if self.batches_done {
+            Draw::Step(Step::CloseLedger)
+        } else {
+            Draw::Batch
+        }
+    }
+
+    /// A fault.
+    fn draw_fault(&mut self, world: &World<MemoryStore>) -> Draw {
+        let i = self.subscriber(world);
+        let number = i as u64;
+        match self.below(9) {
+            0 => Draw::Step(Step::Crash),
+            1 => Draw::LosePacket,
+            2 => Draw::LoseConfirm,
+            3 => Draw::Step(Step::Arrive(self.one_of(world.packets()))),
+            4 => Draw::Step(Step::Answer(self.one_of(world.confirms()))),
+            5 => Draw::Step(Step::Rewind(number)),
+            6 => Draw::Step(Step::Break(number)),
+            7 => Draw::Step(Step::Ack(number, self.one_of(acks_of(world, i) as usize))),
+            _ => self.draw_close(number),
+        }
+    }
+
+    /// A number from 1 to this one; 0 where that is 0.
+    fn one_of(&mut self, count: usize) -> u64 {
+        match count as u64 {
+            0 => 0,
+            count => self.below(count) + 1,
+        }
+    }
+
+    /// A subscriber's close, which is rarer than other faults: after it there is little to see of it.
+    fn draw_close(&mut self, number: u64) -> Draw {
+        if self.below(4) == 0 {
+            Draw::Step(Step::Close(number))
+        } else {
+            Draw::Step(Step::Rewind(number))
+        }
+    }
+
+    /// Takes what was drawn, where the world takes it, and writes it down. Answers whether it did.
+    fn try_draw(
+        &mut self,
+        alloc: Global,
+        world: &mut World<MemoryStore>,
+        draw: Draw,
+    ) -> Result<bool, AllocError> {
+        match draw {
+            Draw::Step(step) => self.try_step(alloc, world, &step),
+            Draw::Batch => self.try_batch(alloc, world),
+            Draw::LosePacket => self.lose_packet(world.packets() as u64),
+            Draw::LoseConfirm => self.lose_confirm(world.confirms() as u64),
+        }
+    }
+
+    /// Hands in the next batch, if one is left. After one that the ledger refuses no other is handed in: the play would
+    /// end there.
+    fn try_batch(
+        &mut self,
+        alloc: Global,
+        world: &mut World<MemoryStore>,
+    ) -> Result<bool, AllocError> {
+        if self.batches_done {
+            return Ok(false);
+        }
+        let Some(item) = self.batches.next() else {
+            self.batches_done = true;
+            return Ok(false);
+        };
+        let is_done = self.try_step(alloc, world, &Step::Submit(item.batch))?;
+        self.batches_done = !is_done;
+        Ok(is_done)
+    }
+
+    /// Takes a step, where the world takes it, and writes it down. Answers whether it did.
+    fn try_step(
+        &mut self,
+        alloc: Global,
+        world: &mut World<MemoryStore>,
+        step: &Step,
+    ) -> Result<bool, AllocError> {
+        if matches!(step, Step::CloseLedger) && world.ledger().closed() {
+            return Ok(false);
+        }
+        if world.step(alloc, step).is_err() {
+            return Ok(false);
+        }
+        self.follow(step);
+        let words = step_words(step);
+        done_if(writeln!(self.text, "{words}").is_ok())
+    }
+
+    /// Keeps what a step that was done says of what comes next.
+    fn follow(&mut self, step: &Step) {
+        match step {
+            Step::Start | Step::StartAt(_) => {
+                self.runs = true;
+                self.is_waiting = false;
+            }
+            Step::Crash => self.runs = false,
+            Step::Arrive(k) => self.arrived = self.arrived.max(*k),
+            Step::Answer(k) => self.answered = self.answered.max(*k),
+            _ => {}
+        }
+    }
+
+    /// The next packet of so many never arrives, if there is one.
+    fn lose_packet(&mut self, count: u64) -> Result<bool, AllocError> {
+        if self.arrived >= count {
+            return Ok(false);
+        }
+        self.arrived += 1;
+        self.is_waiting = true;
+        let number = self.arrived;
+        done_if(writeln!(self.text, "# packet {number} is lost").is_ok())
+    }
+
+    /// The next confirm of so many never comes, if there is one.
+    fn lose_confirm(&mut self, count: u64) -> Result<bool, AllocError> {
+        if self.answered >= count {
+            return Ok(false);
+        }
+        self.answered += 1;
+        self.is_waiting = true;
+        let number = self.answered;
+        done_if(writeln!(self.text, "# confirm {number} is lost").is_ok())
+    }
+}
+
+/// That something was done, where its line was written, for which there was no memory else.
+fn done_if(is_written: bool) -> Result<bool, AllocError> {
+    if is_written {
+        Ok(true)
+    } else {
+        Err(AllocError)
+    }
+}
+
+/// How many acknowledgements the subscriber of this number gave; 0 where there is none of this number.
+fn acks_of(world: &World<MemoryStore>, i: usize) -> u64 {
+    if i == 0 || i > world.subscriber_count() {
+        return 0;
+    }
+    world.acks(i) as u64
+}
