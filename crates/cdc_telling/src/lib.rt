@@ -2,27 +2,38 @@
 //! refused, what each step did, and what a bad file has to have. Nothing here reads or writes.
 #![tactic(auto)]
 
+mod bindings;
 mod books;
 mod cargo;
 mod deeds;
 mod diagram;
+mod faults;
+mod fields;
 mod files;
 mod following;
 mod items;
 mod lanes;
+mod letters;
+mod lines;
+mod nearest;
+mod notes;
+mod numbers;
 mod places;
 mod reasons;
 mod rerun;
 mod results;
+mod sayings;
+mod script_lines;
 mod sentences;
 mod sessions;
 mod simulations;
+mod step_lines;
 mod steps;
 mod tally;
 mod texts;
 
 pub use books::books_lines;
-pub use files::{script_sentence, steps_sentence};
-pub use sentences::Sentence;
+pub use faults::{FaultTold, script_fault_told, steps_fault_told};
+pub use notes::{has_one_client, script_notes};
 pub use simulations::{RefusedStep, Told, simulation_told};
 pub use tally::{Tally, count_lines};
