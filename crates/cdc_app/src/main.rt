@@ -6,29 +6,38 @@ ghost use Rattle.cdc_run_command.specs.Plans.{IsPlan};
 
 mod advice;
 mod command_line;
+mod help;
 mod kept;
 mod options;
+mod progress_advice;
 mod run_options;
+mod slips;
 mod sources;
 mod telling;
 
-use advice::{advise, advise_on_run, advise_on_steps};
+use advice::{advise, advise_on_run, advise_on_script, advise_on_steps};
 use cdc_commands::books::books;
 use cdc_commands::check::{check, check_files};
 use cdc_commands::messages::messages;
 use cdc_commands::{Ending, ProgramFault, print_fault, print_text, simulate_command};
-use cdc_progress::{FileStore, MemoryStore};
+use cdc_json::{
+    JsonEnding, books_json_command, check_files_json_command, check_json_command,
+    messages_json_command, run_json_command, simulate_json_command,
+};
+use cdc_progress::{FileStore, MemoryStore, ProgressStore};
 use cdc_run::OpenGate;
 use cdc_run_command::{RunPlan, run_command};
+use cdc_telling::{Tally, count_lines};
 use kept::Kept;
-use options::{Options, OptionsFault, STANDARD_ERROR, Telling, options};
-use sources::{STANDARD_INPUT, Source};
+use options::{Form, Options, OptionsFault, STANDARD_ERROR, Telling, options};
+use sources::Source;
 use std::alloc::AllocError;
+use std::io::IsTerminal;
 use std::process::ExitCode;
 use std::sync::Wait;
 use std::thread::Threads;
 use std::{env, io};
-use telling::{EXPLAIN, Inputs, explain_books, hint, may_draw, tell_simulation};
+use telling::{EXPLAIN, Inputs, explain_books, hint, may_draw, note, tell_simulation};
 
 fn main(rt: HostRuntime) -> ExitCode {
     let ending = match words_of(&rt) {
@@ -56,49 +65,119 @@ fn run_words<T: Threads + Wait + Sync>(rt: &HostRuntime, threads: &T, words: &[S
     let Ok(texts) = texts else {
         return give_up(rt, ProgramFault::OutOfMemory);
     };
+    if texts.is_empty() && rt.reader().is_terminal() {
+        let _ = eprintln!(rt;
+            "relayplum: a script is read from standard input, up to its end; --help says what it is"
+        );
+    }
     match options(rt.alloc(), texts.as_slice()) {
-        Ok(Options::Books { file, explain }) => run_books(rt, file, explain),
-        Ok(Options::Messages { file }) => run_messages(rt, file),
+        Ok(
+            Options::Books {
+                file,
+                explain,
+                form,
+            },
+        ) => run_books(rt, file, explain, form),
+        Ok(Options::Messages { file, form }) => run_messages(rt, file, form),
         Ok(
             Options::Simulate {
                 file,
                 steps,
                 window,
                 telling,
+                form,
             },
-        ) => run_simulation(rt, file, steps, window, telling),
+        ) => run_simulation(rt, file, steps, window, telling, form),
         Ok(
             Options::Run {
                 file,
                 plan,
                 progress,
+                form,
             },
-        ) => run_on_threads(rt, threads, file, plan, progress),
-        Ok(Options::Check { file, steps }) => run_check(rt, file, steps),
+        ) => run_on_threads(rt, threads, file, plan, progress, form),
+        Ok(
+            Options::Check {
+                file,
+                steps,
+                has_diagram,
+                form,
+            },
+        ) => run_check(rt, file, steps, has_diagram, form),
         Ok(Options::Explain { text }) => explain(rt, text.as_str()),
         Err(OptionsFault::BadWords { message }) => refuse_words(rt, message.as_str()),
         Err(OptionsFault::OutOfMemory) => give_up(rt, ProgramFault::OutOfMemory),
     }
 }
 
-/// Runs `books` over the script of this name, and says on standard error why it gave up, or what wasn't accepted.
-fn run_books(rt: &HostRuntime, file: &str, explain: bool) -> Ending {
-    let mut script = Kept::new(rt.alloc(), Source::of_script(rt, file));
-    let mut printed = Kept::new(rt.alloc(), io::writer(rt));
-    let ending = books(rt.alloc(), &mut script, &mut printed);
-    match (ending, script.bytes(), printed.bytes()) {
-        (Ending::Done, Some(script), _) if explain => explain_books(rt, file, script),
-        (Ending::Done, _, Some(printed)) => hint(rt, printed, EXPLAIN),
-        _ => advise(rt, file, ending),
+/// How a command has ended, and how much wasn't accepted, where that is known.
+#[derive(Clone, Copy)]
+struct Ended {
+    ending: Ending,
+    tally: Option<Tally>,
+}
+
+impl Ended {
+    /// Of a command that has printed this text.
+    fn of_text(ending: Ending, printed: Option<&[u8]>) -> Ended {
+        Ended {
+            ending,
+            tally: printed.map(count_lines),
+        }
     }
+
+    /// Of a command that has printed objects.
+    fn of_json(ended: JsonEnding) -> Ended {
+        Ended {
+            ending: ended.ending,
+            tally: Some(ended.tally),
+        }
+    }
+}
+
+/// Runs `books` over the script of this name, and says on standard error why it gave up, or what wasn't accepted.
+fn run_books(rt: &HostRuntime, file: &str, explain: bool, form: Form) -> Ending {
+    let mut script = Kept::new(rt.alloc(), Source::of_script(rt, file));
+    let Ended { ending, tally } = print_books(rt, &mut script, form);
+    let seen = script.seen(file);
+    if let Ending::Done = ending {
+        match (seen.bytes, tally) {
+            (Some(bytes), _) if explain => explain_books(rt, file, bytes),
+            (_, Some(tally)) => hint(rt, tally, EXPLAIN),
+            _ => {}
+        }
+        note(rt, seen, false);
+    }
+    advise_on_script(rt, seen, ending);
     ending
 }
 
+/// Prints what `books` says of a script.
+fn print_books(rt: &HostRuntime, script: &mut Kept<Source>, form: Form) -> Ended {
+    let alloc = rt.alloc();
+    match form {
+        Form::Text => {
+            let mut printed = Kept::new(alloc, io::writer(rt));
+            let ending = books(alloc, script, &mut printed);
+            Ended::of_text(ending, printed.bytes())
+        }
+        Form::Json => Ended::of_json(books_json_command(alloc, script, &mut io::writer(rt))),
+    }
+}
+
 /// Runs `messages` over the script of this name, and says on standard error why it gave up.
-fn run_messages(rt: &HostRuntime, file: &str) -> Ending {
-    let mut script = Source::of_script(rt, file);
-    let ending = messages(rt.alloc(), &mut script, &mut io::writer(rt));
-    advise(rt, file, ending);
+fn run_messages(rt: &HostRuntime, file: &str, form: Form) -> Ending {
+    let mut script = Kept::new(rt.alloc(), Source::of_script(rt, file));
+    let mut writer = io::writer(rt);
+    let ending = match form {
+        Form::Text => messages(rt.alloc(), &mut script, &mut writer),
+        Form::Json => messages_json_command(rt.alloc(), &mut script, &mut writer).ending,
+    };
+    let seen = script.seen(file);
+    if let Ending::Done = ending {
+        note(rt, seen, false);
+    }
+    advise_on_script(rt, seen, ending);
     ending
 }
 
@@ -110,11 +189,12 @@ fn run_simulation(
     steps: &str,
     window: usize,
     telling: Telling<'_>,
+    form: Form,
 ) -> Ending
     requires { IsWindow window }
 {
     if let Some(out) = telling.diagram {
-        if out != STANDARD_ERROR && !may_draw(rt, out) {
+        if out == file || out == steps || out != STANDARD_ERROR && !may_draw(rt, out) {
             let _ = eprintln!(rt;
                 "error: --diagram={out}: this file holds something else than a diagram, which would be lost; name another one"
             );
@@ -123,14 +203,7 @@ fn run_simulation(
     }
     let mut script = Kept::new(rt.alloc(), Source::of_script(rt, file));
     let mut step_file = Kept::new(rt.alloc(), Source::of_file(rt, steps));
-    let mut printed = Kept::new(rt.alloc(), io::writer(rt));
-    let ending = simulate_command(
-        rt.alloc(),
-        &mut script,
-        &mut step_file,
-        window,
-        &mut printed,
-    );
+    let Ended { ending, tally } = print_simulation(rt, &mut script, &mut step_file, window, form);
     let mut said = false;
     if let (Some(script), Some(step_bytes)) = (script.bytes(), step_file.bytes()) {
         let inputs = Inputs {
@@ -142,17 +215,44 @@ fn run_simulation(
         };
         said = is_told(ending, telling) && tell_simulation(rt, inputs, telling);
     }
+    let seen = script.seen(file);
     if !said {
-        advise_on_steps(rt, file, steps, ending);
+        advise_on_steps(rt, seen, step_file.seen(steps), ending);
     }
-    if let (Ending::Done | Ending::Refused(_), Some(printed), false) = (
-        ending,
-        printed.bytes(),
-        telling.explain,
-    ) {
-        hint(rt, printed, EXPLAIN);
+    if let Ending::Done | Ending::Refused(_) = ending {
+        if let (Some(tally), false) = (tally, telling.explain) {
+            hint(rt, tally, EXPLAIN);
+        }
+        note(rt, seen, false);
     }
     ending
+}
+
+/// Prints what `simulate` says of a script and a step file.
+fn print_simulation(
+    rt: &HostRuntime,
+    script: &mut Kept<Source>,
+    step_file: &mut Kept<Source>,
+    window: usize,
+    form: Form,
+) -> Ended
+    requires { IsWindow window }
+{
+    let alloc = rt.alloc();
+    match form {
+        Form::Text => {
+            let mut printed = Kept::new(alloc, io::writer(rt));
+            let ending = simulate_command(alloc, script, step_file, window, &mut printed);
+            Ended::of_text(ending, printed.bytes())
+        }
+        Form::Json => Ended::of_json(simulate_json_command(
+            alloc,
+            script,
+            step_file,
+            window,
+            &mut io::writer(rt),
+        )),
+    }
 }
 
 /// Runs the script of this name on threads, with its progress in the file of that name or in memory, and says on
@@ -163,43 +263,60 @@ fn run_on_threads<T: Threads + Wait + Sync>(
     file: &str,
     plan: RunPlan,
     progress: Option<&str>,
+    form: Form,
 ) -> Ending
     requires { IsPlan plan }
 {
-    let alloc = rt.alloc();
-    let mut script = Source::of_script(rt, file);
-    let mut printed = Kept::new(alloc, io::writer(rt));
-    let ending = match progress {
-        None => {
-            let store = MemoryStore::new();
-            run_command(
-                threads,
-                alloc,
-                &mut script,
-                plan,
-                store,
-                &OpenGate,
-                &mut printed,
-            )
-        }
-        Some(path) => {
-            let store = FileStore::at(rt, path);
-            run_command(
-                threads,
-                alloc,
-                &mut script,
-                plan,
-                store,
-                &OpenGate,
-                &mut printed,
-            )
-        }
+    let mut script = Kept::new(rt.alloc(), Source::of_script(rt, file));
+    let Ended { ending, tally } = match progress {
+        None => print_run(rt, threads, &mut script, plan, MemoryStore::new(), form),
+        Some(path) => print_run(
+            rt,
+            threads,
+            &mut script,
+            plan,
+            FileStore::at(rt, path),
+            form,
+        ),
     };
-    match (ending, printed.bytes()) {
-        (Ending::Done, Some(printed)) => hint(rt, printed, ""),
-        _ => advise_on_run(rt, file, progress, ending),
+    let seen = script.seen(file);
+    if let Ending::Done = ending {
+        if let Some(tally) = tally {
+            hint(rt, tally, "");
+        }
+        note(rt, seen, true);
     }
+    advise_on_run(rt, seen, progress, ending);
     ending
+}
+
+/// Prints what `run` says of a run of a script.
+fn print_run<T: Threads + Wait + Sync, S: ProgressStore + Send + Drop>(
+    rt: &HostRuntime,
+    threads: &T,
+    script: &mut Kept<Source>,
+    plan: RunPlan,
+    store: S,
+    form: Form,
+) -> Ended
+    requires { IsPlan plan }
+{
+    let alloc = rt.alloc();
+    match form {
+        Form::Text => {
+            let mut printed = Kept::new(alloc, io::writer(rt));
+            let ending = run_command(threads, alloc, script, plan, store, &OpenGate, &mut printed);
+            Ended::of_text(ending, printed.bytes())
+        }
+        Form::Json => Ended::of_json(run_json_command(
+            threads,
+            alloc,
+            script,
+            plan,
+            store,
+            &mut io::writer(rt),
+        )),
+    }
 }
 
 /// Whether a simulation that ended so is to be told: a step was refused, or something was asked for and it was done.
@@ -212,35 +329,48 @@ fn is_told(ending: Ending, telling: Telling<'_>) -> bool {
 }
 
 /// Judges the script of this name, and the step file, and says on standard error what is wrong.
-fn run_check(rt: &HostRuntime, file: &str, steps: Option<&str>) -> Ending {
-    let mut script = Source::of_script(rt, file);
-    let mut writer = io::writer(rt);
-    match steps {
-        None => {
-            let ending = check(rt.alloc(), &mut script, &mut writer);
-            advise(rt, file, ending);
-            ending
-        }
-        Some(steps) => {
-            let mut step_file = Source::of_file(rt, steps);
-            let ending = check_files(rt.alloc(), &mut script, &mut step_file, &mut writer);
-            advise_on_steps(rt, file, steps, ending);
-            ending
-        }
+fn run_check(
+    rt: &HostRuntime,
+    file: &str,
+    steps: Option<&str>,
+    has_diagram: bool,
+    form: Form,
+) -> Ending {
+    if has_diagram {
+        let _ = eprintln!(rt; "relayplum: note: nothing is drawn with --check");
     }
+    let mut script = Kept::new(rt.alloc(), Source::of_script(rt, file));
+    let mut writer = io::writer(rt);
+    let Some(steps) = steps else {
+        let ending = match form {
+            Form::Text => check(rt.alloc(), &mut script, &mut writer),
+            Form::Json => check_json_command(rt.alloc(), &mut script, &mut writer).ending,
+        };
+        advise_on_script(rt, script.seen(file), ending);
+        return ending;
+    };
+    let mut step_file = Kept::new(rt.alloc(), Source::of_file(rt, steps));
+    let ending = match form {
+        Form::Text => check_files(rt.alloc(), &mut script, &mut step_file, &mut writer),
+        Form::Json => {
+            check_files_json_command(rt.alloc(), &mut script, &mut step_file, &mut writer).ending
+        }
+    };
+    advise_on_steps(rt, script.seen(file), step_file.seen(steps), ending);
+    ending
 }
 
 /// Prints what was asked about the program itself.
 fn explain(rt: &HostRuntime, text: &str) -> Ending {
     let ending = print_text(&mut io::writer(rt), text.as_bytes(), Ending::Done);
-    advise(rt, STANDARD_INPUT, ending);
+    advise(rt, ending);
     ending
 }
 
 /// Prints the fault of a command that didn't come as far as a file.
 fn give_up(rt: &HostRuntime, fault: ProgramFault) -> Ending {
     let ending = print_fault(&mut io::writer(rt), fault);
-    advise(rt, STANDARD_INPUT, ending);
+    advise(rt, ending);
     ending
 }
 
