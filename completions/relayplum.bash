@@ -11,11 +11,11 @@ _relayplum() {
         words='1 2 8 64'
     elif [[ $word == -* ]]; then
         case ${COMP_WORDS[1]} in
-            books) words='--explain --check -h --help' ;;
-            messages) words='--check -h --help' ;;
-            simulate) words='--random --steps --faults --window --explain --trace --diagram --check -h --help' ;;
+            books) words='--explain --json --check -h --help' ;;
+            messages) words='--json --check -h --help' ;;
+            simulate) words='--random --steps --faults --window --explain --trace --diagram --json --check -h --help' ;;
             run)
-                words='--window --prefetch --lose-confirm --lose-publish --restart-after --repeat --close --start-after --progress --explain --trace -h --help'
+                words='--window --prefetch --lose-confirm --lose-publish --restart-after --repeat --close --start-after --progress --explain --trace --json -h --help'
                 ;;
         esac
     fi

@@ -8,6 +8,7 @@ complete -c relayplum -n __fish_use_subcommand -s V -l version -d 'Print the ver
 complete -c relayplum -n 'not __fish_seen_subcommand_from help' -s h -l help -d 'Print help'
 complete -c relayplum -n '__fish_seen_subcommand_from help' -f -a 'books messages simulate run help'
 complete -c relayplum -n '__fish_seen_subcommand_from books simulate run' -l explain -d 'Say on standard error why each item was not accepted'
+complete -c relayplum -n '__fish_seen_subcommand_from books messages simulate run' -l json -d 'Print a JSON object in each line'
 complete -c relayplum -n '__fish_seen_subcommand_from books messages simulate' -l check -d 'Judge the files alone'
 complete -c relayplum -n '__fish_seen_subcommand_from simulate' -l trace -d 'Say on standard error what each step did'
 complete -c relayplum -n '__fish_seen_subcommand_from run' -l trace -d 'Say on standard error what came to each subscriber'

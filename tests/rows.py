@@ -49,6 +49,14 @@ def first_difference(wanted, found):
     return "one of them is longer"
 
 
+def paths_of(name, parts, folder):
+    """Returns the paths that words of a row stand for; what it holds of progress is copied to the folder."""
+    saved = f"{folder}/{name}.progress"
+    if "progress" in parts:
+        shutil.copyfile(f"{ROWS}/{name}.progress", saved)
+    return {"FILE": f"{ROWS}/{name}.script", "STEPS": f"{ROWS}/{name}.steps", "PROGRESS": saved}
+
+
 def complaint(program, name, parts, folder):
     """Returns what is wrong with a row, or None."""
     words = read(name, "args").decode().splitlines()
@@ -56,10 +64,7 @@ def complaint(program, name, parts, folder):
         if word in words and part not in parts:
             return f"it has no file .{part}"
     given = read(name, "script") if "script" in parts and ("-" in words or not words) else b""
-    saved = f"{folder}/{name}.progress"
-    if "progress" in parts:
-        shutil.copyfile(f"{ROWS}/{name}.progress", saved)
-    paths = {"FILE": f"{ROWS}/{name}.script", "STEPS": f"{ROWS}/{name}.steps", "PROGRESS": saved}
+    paths = paths_of(name, parts, folder)
     words = [paths.get(it, it) for it in words]
     try:
         ran = subprocess.run([program, *words], input=given, capture_output=True, timeout=SECONDS, cwd=folder)

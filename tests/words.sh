@@ -96,7 +96,9 @@ for words in '--help' '-h' 'help' 'books --help' 'messages --help' 'simulate --h
     ends_well "words '$words'"
     has "words '$words': usage" 'Usage: ' "$out"
     has "words '$words': FILE" 'FILE is a script, and - is standard input' "$out"
-    has "words '$words': example" 'relayplum books ' "$out"
+    command=${words/--help/}
+    command=${command/help/}
+    case $command in *[a-z]*) has "words '$words': example" "  relayplum ${command// /} examples/" "$out" ;; esac
     has "words '$words': statuses" 'Exit status' "$out"
 done
 for words in '--help' 'help'; do
@@ -105,6 +107,10 @@ for words in '--help' 'help'; do
     has "words '$words': messages" '  messages ' "$out"
     has "words '$words': simulate" '  simulate ' "$out"
     has "words '$words': run" '  run ' "$out"
+done
+for words in 'books --help' 'messages --help' 'run --help'; do
+    run $words
+    same "words '$words': its own words alone" 0 "$(grep -c STEPS output)"
 done
 for words in 'books --help' 'messages --help' 'simulate --help'; do
     run $words
@@ -246,9 +252,12 @@ same 'a run of no file: standard output' 'fault: read_fault
 has 'a run of no file: standard error' 'no-such.script: read_fault: No such file' "$err"
 printf '%stransfer id=1\n' "$one_transfer" >refused.script
 run run refused.script
-counts 'a run that refuses' 1 0
+same 'a run that refuses: standard error' 'relayplum: items not accepted: 1, batches refused: 0; --explain says why
+refused.script:7: note: a transfer with no amount moves 0 (1 in this script)
+' "$err"
 run run --explain refused.script
 same 'a run that refuses, explained' 'refused.script:7: batch 2 transfer 2 (id 1): 12 exists_with_different_fields: transfer 1 is there already, with other fields
+refused.script:7: note: a transfer with no amount moves 0 (1 in this script)
 ' "$err"
 same 'a run that refuses, explained: status' 0 "$status"
 run run --explain one.script
@@ -258,7 +267,7 @@ printf 'subscriber all\nclient 5\n' >fifth.script
 run run fifth.script
 same 'a run of a fifth client: standard output' 'fault: script line 2: bad_client
 ' "$out"
-same 'a run of a fifth client: standard error' "fifth.script:2: bad_client: a client's number is 1 to 4
+same 'a run of a fifth client: standard error' "fifth.script:2:8: bad_client: \`5\` is no client's number, which is 1 to 4
 " "$err"
 
 # Faults that never came, and what came to each subscriber. There are 7 events, 2 of which are the second subscriber's
@@ -385,41 +394,52 @@ done
 
 # A bad script: the fault's line on standard output, and one line for a person on standard error.
 bad_script() {
-    local name=$1 line=$2 fault=$3 expected=$4 script=$5 place
+    local name=$1 line=$2 fault=$3 script=$4 place
     printf '%b' "$script" >"$name"
-    place=$name:$line
-    [ "$line" != 0 ] || place=$name
+    place=$name:$line:
+    [ "$line" != 0 ] || place="$name: $fault: the file has "
     for command in books messages; do
         run "$command" "$name"
         same "$command, $fault: status" 2 "$status"
         same "$command, $fault: standard output" "fault: script line $line: $fault
 " "$out"
         same "$command, $fault: lines of standard error" 1 "$(wc -l <errors)"
-        has "$command, $fault: place and name" "$place: $fault: " "$err"
-        has "$command, $fault: what was expected" "$expected" "$err"
+        has "$command, $fault: place" "$place" "$err"
+        has "$command, $fault: name" ": $fault: " "$err"
     done
 }
-bad_script tab.script 2 bad_text 'printable ASCII' 'subscriber all\naccounts\t5\n'
-bad_script word.script 3 unknown_word 'transfers, transfer or pulse' 'subscriber all\n\naccount5\n'
-bad_script count.script 2 wrong_count 'one number' 'subscriber all\npulse 5 6\n'
-bad_script number.script 2 bad_number 'a number is one or more digits from 0 to 9' 'subscriber all\naccounts x\n'
-bad_script range.script 3 number_out_of_range '16 for code and flags' 'subscriber all\naccounts 5\naccount code=65536\n'
-bad_script key.script 3 unknown_key 'key=value' 'subscriber all\naccounts 5\naccount amount=1\n'
-bad_script twice.script 3 key_twice 'once' 'subscriber all\naccounts 5\naccount id=1 id=2\n'
-bad_script batch.script 2 no_open_batch 'accounts NOW' 'subscriber all\naccount id=1\n'
-bad_script binding.script 1 bad_binding 'all' 'subscriber some\n'
-bad_script client.script 2 bad_client '1 to 4' 'subscriber all\nclient 9\n'
-bad_script none.script 0 no_subscriber 'subscriber all' ''
+bad_script tab.script 2 bad_text 'subscriber all\naccounts\t5\n'
+bad_script word.script 3 unknown_word 'subscriber all\n\naccount5\n'
+bad_script count.script 2 wrong_count 'subscriber all\npulse 5 6\n'
+bad_script number.script 2 bad_number 'subscriber all\naccounts x\n'
+bad_script range.script 3 number_out_of_range 'subscriber all\naccounts 5\naccount code=65536\n'
+bad_script key.script 3 unknown_key 'subscriber all\naccounts 5\naccount amount=1\n'
+bad_script twice.script 3 key_twice 'subscriber all\naccounts 5\naccount id=1 id=2\n'
+bad_script batch.script 2 no_open_batch 'subscriber all\naccount id=1\n'
+bad_script binding.script 1 bad_binding 'subscriber some\n'
+bad_script client.script 2 bad_client 'subscriber all\nclient 9\n'
+bad_script none.script 0 no_subscriber ''
+
+# What is said of each mistake: tests/words/faults.rows has a row for each, of the kind of the file, its text and what
+# standard error says behind the file's name.
+while IFS=$'\t' read -r kind text wanted; do
+    printf '%b' "$text" >mistaken
+    if [ "$kind" == script ]; then run books --check mistaken; else run simulate --check one.script mistaken; fi
+    same "the mistake '$text': status" 2 "$status"
+    same "the mistake '$text'" "mistaken:$wanted
+" "$err"
+done <"$top/tests/words/faults.rows"
+
 for _ in 1 2 3 4 5 6 7 8 9; do echo 'subscriber all'; done >many
 "$program" books many >output 2>errors
 has 'too many subscribers: standard output' 'too_many_subscribers' "$(cat output)"
-has 'too many subscribers: standard error' 'too_many_subscribers: a script has' "$(cat errors)"
+has 'too many subscribers: standard error' 'too_many_subscribers: this is a line' "$(cat errors)"
 head -c 1048577 /dev/zero | tr '\0' ' ' >long.script
 run books long.script
 same 'too long: status' 2 "$status"
 same 'too long: standard output' 'fault: script line 0: too_long
 ' "$out"
-has 'too long: standard error' 'long.script: too_long: ' "$err"
+has 'too long: standard error' 'long.script: too_long: the file has more bytes' "$err"
 has 'too long: how long' '1048576' "$err"
 head -c 1048576 /dev/zero | tr '\0' ' ' >long.script
 run books long.script
@@ -428,7 +448,7 @@ same 'as long as a script may be: standard output' 'fault: script line 0: no_sub
 ' "$out"
 printf 'subscriber all\naccounts x\n' >input
 run books -
-has 'a bad script on standard input' 'standard input:2: bad_number: ' "$err"
+has 'a bad script on standard input' 'standard input:2:10: bad_number: ' "$err"
 
 # A file that can't be read, or a place that can't be written: which, and why.
 bad_file() {
@@ -563,26 +583,26 @@ same 'a refused batch: standard error' \
 
 # A bad step file, and one that isn't there: the script is judged first.
 bad_steps() {
-    local line=$1 fault=$2 expected=$3 place
-    printf '%b' "$4" >bad.steps
-    place=bad.steps:$line
-    [ "$line" != 0 ] || place=bad.steps
+    local line=$1 fault=$2 place
+    printf '%b' "$3" >bad.steps
+    place=bad.steps:$line:
+    [ "$line" != 0 ] || place="bad.steps: $fault: the file has "
     run simulate one.script bad.steps
     same "steps, $fault: status" 2 "$status"
     same "steps, $fault: standard output" "fault: steps line $line: $fault
 " "$out"
     same "steps, $fault: lines of standard error" 1 "$(wc -l <errors)"
-    has "steps, $fault: place and name" "$place: $fault: " "$err"
-    has "steps, $fault: what was expected" "$expected" "$err"
+    has "steps, $fault: place" "$place" "$err"
+    has "steps, $fault: name" ": $fault: " "$err"
 }
-bad_steps 2 bad_text 'printable ASCII' 'start\npoll\t\n'
-bad_steps 1 unknown_word 'ack or close' 'jump\n'
-bad_steps 1 wrong_count 'have one number' 'arrive\n'
-bad_steps 1 bad_number 'a number is one or more digits from 0 to 9' 'arrive x\n'
-bad_steps 1 wrong_count 'start at have one number' 'start at\n'
-bad_steps 1 number_out_of_range '64 bits' 'answer 18446744073709551616\n'
-bad_steps 1 number_out_of_range 'at most 9223372036854775807' 'start at 9223372036854775808\n'
-bad_steps 0 too_long '1048576' "$(head -c 1048577 /dev/zero | tr '\0' ' ')"
+bad_steps 2 bad_text 'start\npoll\t\n'
+bad_steps 1 unknown_word 'jump\n'
+bad_steps 1 wrong_count 'arrive\n'
+bad_steps 1 bad_number 'arrive x\n'
+bad_steps 1 wrong_count 'start at\n'
+bad_steps 1 number_out_of_range 'answer 18446744073709551616\n'
+bad_steps 1 number_out_of_range 'start at 9223372036854775808\n'
+bad_steps 0 too_long "$(head -c 1048577 /dev/zero | tr '\0' ' ')"
 head -c 1048576 /dev/zero | tr '\0' ' ' >long.steps
 printf 'subscriber all\n' >alone.script
 run simulate alone.script long.steps
@@ -595,12 +615,13 @@ run simulate one.script no-such.steps
 same 'no step file: status' 1 "$status"
 same 'no step file: standard output' 'fault: read_fault
 ' "$out"
-has 'no step file: standard error' 'one.script or no-such.steps: read_fault: No such file' "$err"
+has 'no step file: standard error' 'no-such.steps: read_fault: No such file' "$err"
+same 'no step file: the script is not named' '' "$(grep one.script errors)"
 run simulate number.script no-such.steps
 same 'a bad script without a step file: status' 2 "$status"
 same 'a bad script without a step file: standard output' 'fault: script line 2: bad_number
 ' "$out"
-has 'a bad script without a step file: standard error' 'number.script:2: bad_number: ' "$err"
+has 'a bad script without a step file: standard error' 'number.script:2:10: bad_number: ' "$err"
 
 # A file name of every length up to 200 bytes.
 for ((length = 1; length <= 200; length++)); do
@@ -692,20 +713,112 @@ crowded.script:1010: batch 5 refused: 3 timestamps_exhausted: the timestamps of 
 # Each result in words: tests/words/results.errors has them all, and nothing else stands on standard error. Standard output
 # and the status are as without the flag.
 cp "$top/tests/words/results.script" .
+# (its requests that are refused for other reasons leave their amount out, which is noted)
+its_notes='results.script:38: note: a post with no amount takes 0; the whole is 340282366920938463463374607431768211455 (5 in this script)
+results.script:35: note: a transfer with no amount moves 0 (7 in this script)
+'
 run books results.script
-counts 'each result' 49 0
+same 'each result: standard error' "relayplum: items not accepted: 49, batches refused: 0; --explain says why
+$its_notes" "$err"
 plain=$out
 run books --explain results.script
 same 'each result, explained: status' 0 "$status"
 same 'each result, explained: standard output' "$plain" "$out"
 same 'each result, explained' "$(cat "$top/tests/words/results.errors")
-" "$err"
+$its_notes" "$err"
 run books --explain one.script
 same 'nothing to explain: standard output' "$its_book" "$out"
 ends_well 'nothing to explain'
 cp results.script input
 run books --explain -
 has 'a script on standard input, explained' 'standard input:24: batch 3 account 1 (id 20): 1 reserved_flag: ' "$err"
+
+# What a good script may not mean: one line for each kind, with how often. A void without an amount is of the whole.
+{
+    printf '%s' "$one_transfer"
+    printf '%s\n' 'transfers 1000' 'transfer id=2 debit_account_id=1 credit_account_id=2 amount=70 ledger=700 code=1 flags=2' \
+        'transfer id=3 debit_account_id=1 credit_account_id=2 amount=80 ledger=700 code=1 flags=2' \
+        'transfers 1500' 'transfer id=4 pending_id=2 flags=4' 'transfer id=5 pending_id=3 flags=8' \
+        'transfer id=6 debit_account_id=1 credit_account_id=2 ledger=700 code=1' 'pulse 9'
+} >slips.script
+its_notes='slips.script:11: note: a post with no amount takes 0; the whole is 340282366920938463463374607431768211455 (1 in this script)
+slips.script:13: note: a transfer with no amount moves 0 (1 in this script)
+slips.script:7: note: 1000 is before 2000: its items count from 2001 (2 in this script)
+'
+printf 'batch\n' >one.steps
+for words in 'books slips.script' 'messages slips.script' 'simulate slips.script one.steps' 'run slips.script' \
+    'books --json slips.script'; do
+    run $words
+    same "words '$words': status" 0 "$status"
+    same "words '$words': notes" "$its_notes" "$err"
+done
+printf 'client 2\n' >>slips.script
+run run slips.script
+same 'notes of a run of several clients' "${its_notes%slips.script:7*}" "$err"
+run simulate --check --diagram one.script three.steps
+same 'a check draws nothing: status' 0 "$status"
+same 'a check draws nothing' 'relayplum: note: nothing is drawn with --check
+' "$err"
+printf '' >empty.steps
+for out in one.script empty.steps; do
+    run simulate --diagram=$out one.script empty.steps
+    same "a diagram in the place of $out: status" 2 "$status"
+    has "a diagram in the place of $out: why" "error: --diagram=$out: " "$err"
+done
+same 'a diagram in the place of an empty step file' '' "$(cat empty.steps)"
+
+# Words that were meant otherwise.
+run one.script
+has 'a script without a command' "Did you mean 'relayplum books one.script'?" "$err"
+run boks one.script
+has 'a misspelt command' "'books'" "$err"
+run books one.script --trace
+has 'a flag of one other command' "'--trace' is a flag of simulate." "$err"
+run messages one.script --window=1
+has 'a flag of two other commands' "'--window' is a flag of simulate and run." "$err"
+
+# A file of progress that can't be one: what is wrong, and what to do.
+printf '' >empty.saved
+printf 'tb-cdc 2 3 2000\n' >part.saved
+cp one.script script.saved
+mkdir folder.saved
+saved_is() {
+    run run one.script --progress "$1"
+    same "progress in $1: status" 1 "$status"
+    same "progress in $1: standard output" 'fault: store
+' "$out"
+    has "progress in $1: which file" "$1: store: " "$err"
+    has "progress in $1: why" "$2" "$err"
+}
+saved_is empty.saved 'it is empty, and no record of progress: name another file, or take it away to begin anew'
+saved_is part.saved "it begins as a record of progress, and isn't a whole one: restore it, or take it away"
+saved_is script.saved 'it holds something else than a record of progress: name another file'
+saved_is folder.saved 'it is no regular file: name another one'
+saved_is no-folder/saved "can't be"
+
+# Objects in the place of text: tests/json_text.py has all rows; here what stays as it is.
+run books --json no-such.script
+same 'objects of no file: status' 1 "$status"
+same 'objects of no file' '{"kind":"fault","name":"read_fault"}
+' "$out"
+has 'objects of no file: standard error' 'no-such.script: read_fault: No such file' "$err"
+for words in 'books --json --check number.script' 'messages --json number.script' 'run --json number.script' \
+    'simulate --json number.script three.steps'; do
+    run $words
+    same "words '$words': status" 2 "$status"
+    same "words '$words'" '{"kind":"file_fault","file":"script","line":2,"column":10,"word":"x","name":"bad_number"}
+' "$out"
+    has "words '$words': standard error" 'number.script:2:10: bad_number: ' "$err"
+done
+run books --json --explain results.script
+has 'objects, explained' 'results.script:24: batch 3 account 1 (id 20): 1 reserved_flag: ' "$err"
+run books --json results.script
+has 'objects, with items that are not accepted' 'relayplum: items not accepted: 49, batches refused: 0; --explain says why' "$err"
+if [ -w /dev/full ]; then
+    "$program" books --json one.script >/dev/full 2>errors
+    same 'objects to a full disk: status' 1 $?
+    has 'objects to a full disk: why' 'standard output: write_fault: No space left' "$(cat errors)"
+fi
 
 # What each step did, line by line, and as a diagram. Standard output is as without the flags.
 run simulate "$top/examples/two-phase.script" "$top/tests/words/repeats.steps"
@@ -819,7 +932,7 @@ for words in 'books --check number.script' 'messages --check number.script' 'sim
     same "words '$words': status" 2 "$status"
     same "words '$words': standard output" 'fault: script line 2: bad_number
 ' "$out"
-    same "words '$words': standard error" 'number.script:2: bad_number: a number is one or more digits from 0 to 9
+    same "words '$words': standard error" 'number.script:2:10: bad_number: `x` as `accounts` is no number; a number is one or more digits from 0 to 9
 ' "$err"
 done
 printf 'start\njump\n' >bad.steps
@@ -827,7 +940,7 @@ run simulate --check one.script bad.steps
 same 'a check of bad steps: status' 2 "$status"
 same 'a check of bad steps: standard output' 'fault: steps line 2: unknown_word
 ' "$out"
-has 'a check of bad steps: standard error' 'bad.steps:2: unknown_word: ' "$err"
+has 'a check of bad steps: standard error' 'bad.steps:2:1: unknown_word: ' "$err"
 run books --check no-such.script
 same 'a check of no file: status' 1 "$status"
 same 'a check of no file: standard output' 'fault: read_fault
@@ -850,7 +963,7 @@ done
 {
     printf '%s\n' 'subscriber all' 'accounts 1000' 'account id=1 ledger=700 code=10' 'account id=2 ledger=700 code=10'
     for batch in {0..9}; do
-        echo "transfers $((2000 + batch))"
+        echo "transfers $((2000 + 1000 * batch))"
         for i in {1..1000}; do
             echo "transfer id=$((batch * 1000 + i)) debit_account_id=1 credit_account_id=2 amount=1 ledger=700 code=1"
         done

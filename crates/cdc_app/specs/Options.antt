@@ -6,6 +6,7 @@ use Rattle.cdc_run_command.specs.Plans.{IsPlan}
 use Rattle.cdc_run_command.specs.declared.plans.RunPlan.{RunPlan}
 use Rattle.cdc_app.specs.declared.command_line.Options.{Options}
 use Rattle.cdc_app.specs.declared.command_line.Options.TheVariants.{Books, Messages, Simulate, Random, Run, Check, Explain}
+use Rattle.cdc_app.specs.declared.command_line.Form.TheVariants.{Text}
 use Rattle.cdc_app.specs.declared.command_line.OptionsFault.{OptionsFault}
 use Rattle.cdc_app.specs.declared.command_line.OptionsFault.TheVariants.{BadWords, OutOfMemory}
 
@@ -16,24 +17,25 @@ pub record IsDefaultPlan (plan : RunPlan) : Type 0 where
   pub faults : HasNoFaults plan.faults
   pub start : plan.start ≡ None
 
--- the command `run` over the file of this name, by the default plan, with its progress in memory
+-- the command `run` over the file of this name, by the default plan, with its progress in memory, printed as text
 abbrev pub IsRun : List ℕ → Options → Type 0
-IsRun name (Books file explain) = ⊥
-IsRun name (Messages file) = ⊥
-IsRun name (Simulate file steps window telling) = ⊥
-IsRun name (Random file window chances telling) = ⊥
-IsRun name (Run file plan progress telling) = (file.now ≡ name) × (IsDefaultPlan plan × (progress ≡ None))
-IsRun name (Check file steps) = ⊥
+IsRun name (Books file explain form) = ⊥
+IsRun name (Messages file form) = ⊥
+IsRun name (Simulate file steps window telling form) = ⊥
+IsRun name (Random file window chances telling form) = ⊥
+IsRun name (Run file plan progress telling form) =
+    (file.now ≡ name) × (IsDefaultPlan plan × ((progress ≡ None) × (form ≡ Text)))
+IsRun name (Check file steps has_diagram form) = ⊥
 IsRun name (Explain text) = ⊥
 
 -- the numbers that are asked for are within their limits
 abbrev pub IsWithinLimits : Options → Type 0
-IsWithinLimits (Books file explain) = Unit {0}
-IsWithinLimits (Messages file) = Unit {0}
-IsWithinLimits (Simulate file steps window telling) = IsWindow window
-IsWithinLimits (Random file window chances telling) = IsWindow window
-IsWithinLimits (Run file plan progress telling) = IsPlan plan
-IsWithinLimits (Check file steps) = Unit {0}
+IsWithinLimits (Books file explain form) = Unit {0}
+IsWithinLimits (Messages file form) = Unit {0}
+IsWithinLimits (Simulate file steps window telling form) = IsWindow window
+IsWithinLimits (Random file window chances telling form) = IsWindow window
+IsWithinLimits (Run file plan progress telling form) = IsPlan plan
+IsWithinLimits (Check file steps has_diagram form) = Unit {0}
 IsWithinLimits (Explain text) = Unit {0}
 
 -- the place of a fault in the list of them

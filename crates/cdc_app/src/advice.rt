@@ -1,37 +1,60 @@
 //! What standard error says to a person, beside the fault's line on standard output.
 
+use crate::kept::Seen;
+use crate::progress_advice::trouble;
 use crate::sources::STANDARD_INPUT;
 use cdc_commands::{Ending, ProgramFault};
 use cdc_script::ScriptFault;
-use cdc_telling::{Sentence, script_sentence, steps_sentence};
+use cdc_telling::{FaultTold, script_fault_told, steps_fault_told};
+use std::alloc::AllocError;
 use std::io;
 
-/// Says why a command over a file gave up or refused the file's script: the place, the fault's name, and what was
-/// expected or what the system said. Where that can't be said the exit status still tells.
-pub fn advise(rt: &HostRuntime, file: &str, ending: Ending) {
-    let _ = advice(rt, shown_name(file), ending);
+/// Says why a command gave up that has read no file. Where that can't be said the exit status still tells.
+pub fn advise(rt: &HostRuntime, ending: Ending) {
+    let _ = advice(rt, shown_name(STANDARD_INPUT), ending);
+}
+
+/// Says why a command over a script gave up or refused it: the place, the fault's name, and what is wrong there or what
+/// the system said.
+pub fn advise_on_script(rt: &HostRuntime, script: Seen<'_>, ending: Ending) {
+    let _ = match ending {
+        Ending::BadScript(fault) => {
+            let told = match script.bytes {
+                Some(bytes) => script_fault_told(rt.alloc(), bytes, fault),
+                None => Err(AllocError),
+            };
+            advice_on_file(rt, shown_name(script.name), fault, told)
+        }
+        _ => advice(rt, shown_name(script.name), ending),
+    };
 }
 
 /// The same of a command over a script and a step file.
-pub fn advise_on_steps(rt: &HostRuntime, file: &str, steps: &str, ending: Ending) {
+pub fn advise_on_steps(rt: &HostRuntime, script: Seen<'_>, steps: Seen<'_>, ending: Ending) {
     match ending {
-        Ending::BadSteps(_) => advise(rt, steps, ending),
-        Ending::Failed(ProgramFault::ReadFault(error)) => {
-            let script = shown_name(file);
-            let _ = eprintln!(rt; "{script} or {steps}: read_fault: {error}");
+        Ending::BadSteps(fault) => {
+            let told = match steps.bytes {
+                Some(bytes) => steps_fault_told(rt.alloc(), bytes, fault),
+                None => Err(AllocError),
+            };
+            let _ = advice_on_file(rt, steps.name, fault, told);
         }
-        _ => advise(rt, file, ending),
+        Ending::Failed(ProgramFault::ReadFault(_)) if steps.failed && !script.failed => {
+            let _ = advice(rt, steps.name, ending);
+        }
+        _ => advise_on_script(rt, script, ending),
     }
 }
 
 /// The same of a run, whose progress is in the file of that name, or in memory.
-pub fn advise_on_run(rt: &HostRuntime, file: &str, progress: Option<&str>, ending: Ending) {
+pub fn advise_on_run(rt: &HostRuntime, script: Seen<'_>, progress: Option<&str>, ending: Ending) {
     match (ending, progress) {
         (Ending::Failed(ProgramFault::Store(error)), Some(saved)) => {
             let name = error.name();
-            let _ = eprintln!(rt; "{saved}: store: {name}: {error}");
+            let why = trouble(rt, saved, error);
+            let _ = eprintln!(rt; "{saved}: store: {name}: {why}");
         }
-        _ => advise(rt, file, ending),
+        _ => advise_on_script(rt, script, ending),
     }
 }
 
@@ -48,8 +71,9 @@ pub fn shown_name(file: &str) -> &str {
 fn advice(rt: &HostRuntime, place: &str, ending: Ending) -> io::Result<()> {
     match ending {
         Ending::Done | Ending::BadWords => Ok(()),
-        Ending::BadScript(fault) => advice_on_file(rt, place, fault, script_sentence(fault.kind)),
-        Ending::BadSteps(fault) => advice_on_file(rt, place, fault, steps_sentence(fault.kind)),
+        Ending::BadScript(fault) | Ending::BadSteps(fault) => {
+            advice_on_file(rt, place, fault, Err(AllocError))
+        }
         Ending::Refused(refusal) => {
             let name = refusal.name();
             eprintln!(rt; "relayplum: a step was refused: {name}")
@@ -90,18 +114,25 @@ fn advice(rt: &HostRuntime, place: &str, ending: Ending) -> io::Result<()> {
     }
 }
 
-/// The place and the name of a file's fault, and what was expected there.
+/// The place and the name of a file's fault, and what is told of it, where there was memory for that.
 fn advice_on_file(
     rt: &HostRuntime,
     place: &str,
     fault: ScriptFault,
-    expected: Sentence,
+    told: Result<FaultTold, AllocError>,
 ) -> io::Result<()> {
     let ScriptFault { line, kind } = fault;
     let name = kind.name();
-    if line == 0 {
-        eprintln!(rt; "{place}: {name}: {expected}")
-    } else {
-        eprintln!(rt; "{place}:{line}: {name}: {expected}")
+    match told {
+        Ok(
+            FaultTold {
+                column,
+                sentence,
+                ..
+            },
+        ) if line != 0 => eprintln!(rt; "{place}:{line}:{column}: {name}: {sentence}"),
+        Ok(FaultTold { sentence, .. }) => eprintln!(rt; "{place}: {name}: {sentence}"),
+        Err(_) if line != 0 => eprintln!(rt; "{place}:{line}: {name}"),
+        Err(_) => eprintln!(rt; "{place}: {name}"),
     }
 }

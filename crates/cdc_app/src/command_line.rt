@@ -17,10 +17,12 @@ pub enum Options<'a> {
         file: &'a str,
         /// Whether standard error says why each item wasn't accepted.
         explain: bool,
+        form: Form,
     },
     /// The messages of a script's events, of the script in this file; `-` is standard input.
     Messages {
         file: &'a str,
+        form: Form,
     },
     /// The world that the steps of the second file lead to, over the batches of the script in the first; `-` as the
     /// script is standard input. A session waits for so many events at a time.
@@ -29,6 +31,7 @@ pub enum Options<'a> {
         steps: &'a str,
         window: usize,
         telling: Telling<'a>,
+        form: Form,
     },
     /// The same of steps that are made by chance.
     Random {
@@ -36,6 +39,7 @@ pub enum Options<'a> {
         window: usize,
         chances: Chances,
         telling: Telling<'a>,
+        form: Form,
     },
     /// The results of a script's batches and the books of its subscribers, of the script in this file, which is run on
     /// threads; `-` is standard input. The connector saves its progress in the second file, or, where none is named, in
@@ -45,17 +49,30 @@ pub enum Options<'a> {
         plan: RunPlan,
         progress: Option<&'a str>,
         telling: RunTelling,
+        form: Form,
     },
     /// Whether the script in the first file is good, and the step file, where one is named; `-` as the script is
     /// standard input.
     Check {
         file: &'a str,
         steps: Option<&'a str>,
+        /// Whether a diagram is asked for, which a check doesn't draw.
+        has_diagram: bool,
+        form: Form,
     },
     /// A text on the program itself: help, or its version.
     Explain {
         text: String,
     },
+}
+
+/// The form of what is printed.
+#[derive(Clone, Copy, PartialEq, Eq)]
+pub enum Form {
+    /// Lines of text.
+    Text,
+    /// A JSON object in each line.
+    Json,
 }
 
 /// What standard error tells of a simulation, beside its fault or the step that was refused.

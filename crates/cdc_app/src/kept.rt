@@ -13,6 +13,19 @@ pub struct Kept<T> {
     bytes: Vec<u8>,
     /// Whether there was memory for all of them.
     whole: bool,
+    /// Whether it has failed.
+    failed: bool,
+}
+
+/// A file that a command has read.
+#[derive(Clone, Copy)]
+pub struct Seen<'a> {
+    /// Its name, as a person gave it.
+    pub name: &'a str,
+    /// Its bytes; nothing where there was no memory for all of them.
+    pub bytes: Option<&'a [u8]>,
+    /// Whether a read failed.
+    pub failed: bool,
 }
 
 impl<T> Kept<T> {
@@ -22,6 +35,16 @@ impl<T> Kept<T> {
             inner,
             bytes: Vec::new(alloc),
             whole: true,
+            failed: false,
+        }
+    }
+
+    /// What was read, of the file of this name.
+    pub fn seen<'a>(&'a self, name: &'a str) -> Seen<'a> {
+        Seen {
+            name,
+            bytes: self.bytes(),
+            failed: self.failed,
         }
     }
 
@@ -40,11 +63,26 @@ impl<T> Kept<T> {
     }
 }
 
+impl<T: Drop> Kept<T> {
+    /// The same, once it is used no more.
+    pub fn into_bytes(self) -> Option<Vec<u8>> {
+        let Kept { bytes, whole, .. } = self;
+        if whole { Some(bytes) } else { None }
+    }
+}
+
 impl<R: Read> Read for Kept<R> {
     fn read(&mut self, buf: &mut [u8]) -> io::Result<usize> {
-        let count = self.inner.read(buf)?;
-        self.keep(&buf[..count]);
-        Ok(count)
+        match self.inner.read(buf) {
+            Ok(count) => {
+                self.keep(&buf[..count]);
+                Ok(count)
+            }
+            Err(error) => {
+                self.failed = true;
+                Err(error)
+            }
+        }
     }
 }
 

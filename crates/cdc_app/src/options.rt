@@ -4,9 +4,11 @@ ghost use Rattle.std.specs.Prelude.{◌≡◌, length, codes, IfOk, IfSome, IsOk
 ghost use Rattle.cdc_types.specs.Windows.{IsWindow};
 ghost use Rattle.cdc_app.specs.Options.{IsRun, IsWithinLimits};
 
-pub use crate::command_line::{Options, OptionsFault, RunTelling, Telling};
+pub use crate::command_line::{Form, Options, OptionsFault, RunTelling, Telling};
+use crate::help;
 use crate::random_options::{asked_chances, faults_option, random_option, steps_option};
 use crate::run_options::{default_plan, run_plan, run_words};
+use crate::slips::push_tip;
 use crate::sources::STANDARD_INPUT;
 use cdc_message::decimal_up_to;
 use cdc_types::Limits;
@@ -22,7 +24,7 @@ const ABOUT: &str =
     "Change data capture: a script's batches go to a double-entry ledger, and its events are reported";
 
 /// What else a newcomer has to know.
-pub const MORE: &str = "\
+const MORE: &str = "\
 FILE is a script, and - is standard input. Without words the program acts as `run -`.
 
 A script is a text of lines:
@@ -69,11 +71,12 @@ pub fn options<'a>(alloc: Global, words: &'a [&'a str]) -> Result<Options<'a>, O
                 explain: false,
                 trace: false,
             },
+            form: Form::Text,
         });
     }
     match read_words(alloc, words) {
         Ok(matches) => asked_by(alloc, &matches),
-        Err(error) => answer_to(alloc, &error),
+        Err(error) => answer_to(alloc, words, &error),
     }
 }
 
@@ -97,9 +100,10 @@ fn read_words<'a>(alloc: Global, words: &'a [&'a str]) -> Result<ArgMatches<'a>,
 fn books_words<'a>(alloc: Global) -> Result<Command<'a>, AllocError> {
     Command::new(alloc, "books")
         .about("Print the results of a script's batches and the books of its subscribers")
-        .after_help(MORE)
+        .after_help(help::BOOKS)
         .arg(script_argument(alloc))?
         .arg(explain_flag(alloc))?
+        .arg(json_flag(alloc))?
         .arg(check_flag(alloc))
 }
 
@@ -109,8 +113,9 @@ fn messages_words<'a>(alloc: Global) -> Result<Command<'a>, AllocError> {
         .about(
             "Print two lines for each event of a script: what its message is routed by, and its JSON body",
         )
-        .after_help(MORE)
+        .after_help(help::MESSAGES)
         .arg(script_argument(alloc))?
+        .arg(json_flag(alloc))?
         .arg(check_flag(alloc))
 }
 
@@ -124,7 +129,7 @@ fn simulate_words<'a>(alloc: Global) -> Result<Command<'a>, AllocError> {
         .about(
             "Take a script's batches and a session's packets step by step, and print the world that the steps lead to",
         )
-        .after_help(MORE)
+        .after_help(help::SIMULATE)
         .arg(script_argument(alloc))?
         .arg(steps)?
         .arg(random_option(alloc)?)?
@@ -134,6 +139,7 @@ fn simulate_words<'a>(alloc: Global) -> Result<Command<'a>, AllocError> {
         .arg(explain_flag(alloc))?
         .arg(trace_flag(alloc))?
         .arg(diagram_option(alloc))?
+        .arg(json_flag(alloc))?
         .arg(check_flag(alloc))
 }
 
@@ -168,6 +174,23 @@ fn check_flag<'a>(alloc: Global) -> Arg<'a> {
         .long("check")
         .action(ArgAction::SetTrue)
         .help("Judge the files alone: print the first fault, or nothing")
+}
+
+/// The flag `--json`.
+pub fn json_flag<'a>(alloc: Global) -> Arg<'a> {
+    Arg::new(alloc, "json")
+        .long("json")
+        .action(ArgAction::SetTrue)
+        .help("Print a JSON object in each line in the place of text")
+}
+
+/// The form that the words ask for.
+fn asked_form(arguments: &ArgMatches<'_>) -> Form {
+    if arguments.get_flag("json") {
+        Form::Json
+    } else {
+        Form::Text
+    }
 }
 
 /// The flag `--trace`.
@@ -213,17 +236,24 @@ fn asked_of<'a>(
 ) -> Result<Options<'a>, OptionsFault>
     ensures { IfOk result IsWithinLimits }
 {
+    let form = asked_form(arguments);
     match (command, arguments.get_str("STEPS")) {
         ("simulate", Some(steps)) => simulation(alloc, file, steps, arguments),
         ("simulate", None) => random_simulation(alloc, file, arguments),
         ("books" | "messages", _) if arguments.get_flag("check") => {
-            Ok(Options::Check { file, steps: None })
+            Ok(Options::Check {
+                file,
+                steps: None,
+                has_diagram: false,
+                form,
+            })
         }
         ("books", _) => Ok(Options::Books {
             file,
             explain: arguments.get_flag("explain"),
+            form,
         }),
-        ("messages", _) => Ok(Options::Messages { file }),
+        ("messages", _) => Ok(Options::Messages { file, form }),
         ("run", _) => Ok(Options::Run {
             file,
             plan: run_plan(alloc, arguments)?,
@@ -232,6 +262,7 @@ fn asked_of<'a>(
                 explain: arguments.get_flag("explain"),
                 trace: arguments.get_flag("trace"),
             },
+            form,
         }),
         _ => Err(bad_words(alloc, "error: no command has such words\n")?),
     }
@@ -252,6 +283,8 @@ fn simulation<'a>(
         return Ok(Options::Check {
             file,
             steps: Some(steps),
+            has_diagram: arguments.get_str("diagram").is_some(),
+            form: asked_form(arguments),
         });
     }
     Ok(Options::Simulate {
@@ -259,6 +292,7 @@ fn simulation<'a>(
         steps,
         window,
         telling: asked_telling(arguments),
+        form: asked_form(arguments),
     })
 }
 
@@ -276,6 +310,7 @@ fn random_simulation<'a>(
         window,
         chances: asked_chances(alloc, arguments)?,
         telling: asked_telling(arguments),
+        form: asked_form(arguments),
     })
 }
 
@@ -322,15 +357,32 @@ pub fn bad_words(alloc: Global, message: &str) -> Result<OptionsFault, AllocErro
     Ok(OptionsFault::BadWords { message })
 }
 
+/// The commands, each with its flags.
+fn all_commands(alloc: Global) -> Result<Vec<Command<'static>>, AllocError> {
+    let mut commands = Vec::new(alloc);
+    commands.push(books_words(alloc)?)?;
+    commands.push(messages_words(alloc)?)?;
+    commands.push(simulate_words(alloc)?)?;
+    commands.push(run_words(alloc)?)?;
+    Ok(commands)
+}
+
 /// What clap answers where it finds no command: help or the version, where the words ask for it, or what is wrong.
-fn answer_to<'a>(alloc: Global, error: &Error) -> Result<Options<'a>, OptionsFault>
+fn answer_to<'a>(alloc: Global, words: &[&str], error: &Error) -> Result<Options<'a>, OptionsFault>
     ensures { IfOk result IsWithinLimits }
 {
     if error.kind() == ErrorKind::OutOfMemory {
         return Err(OptionsFault::OutOfMemory);
     }
-    let text = error.to_string(alloc)?;
+    let mut text = error.to_string(alloc)?;
     if error.use_stderr() {
+        push_tip(
+            alloc,
+            &mut text,
+            words,
+            all_commands(alloc)?.as_slice(),
+            error,
+        )?;
         Err(OptionsFault::BadWords { message: text })
     } else {
         Ok(Options::Explain { text })

@@ -3,16 +3,18 @@
 
 ghost use Rattle.cdc_types.specs.Windows.{IsWindow};
 
-use crate::advice::{advise, shown_name};
-use crate::kept::Kept;
-use crate::options::{STANDARD_ERROR, Telling};
+use crate::advice::{advise_on_script, shown_name};
+use crate::ended::Ended;
+use crate::kept::{Kept, Seen};
+use crate::options::{Form, STANDARD_ERROR, Telling};
 use crate::sources::Source;
 use crate::telling::{can_draw, draw};
 use cdc_commands::simulate::simulation_of;
 use cdc_commands::{Ending, ProgramFault, print_fault, print_output};
+use cdc_json::{print_fault_json, print_simulation_json};
 use cdc_random_steps::{Chances, random_steps};
 use cdc_script::read_text;
-use cdc_telling::{RefusedStep, Tally, count_lines, simulation_told};
+use cdc_telling::{RefusedStep, Tally, script_notes, simulation_told};
 use std::io;
 
 /// Makes steps for the script of this name, prints them as a step file on standard error, and simulates the script by
@@ -23,55 +25,68 @@ pub fn run_random(
     window: usize,
     chances: Chances,
     telling: Telling<'_>,
+    form: Form,
 ) -> Ending
     requires { IsWindow window }
 {
-    if !can_draw(rt, telling) {
+    if !can_draw(rt, telling, &[file]) {
         return Ending::BadWords;
     }
-    let script = match read_text(rt.alloc(), &mut Source::of_script(rt, file)) {
+    let mut source = Kept::new(rt.alloc(), Source::of_script(rt, file));
+    let read = read_text(rt.alloc(), &mut source);
+    let seen = source.seen(file);
+    let script = match read {
         Ok(script) => script,
-        Err(error) => return give_up(rt, file, error.into()),
+        Err(error) => return give_up(rt, seen, error.into(), form),
     };
     let Ok(steps) = random_steps(rt.alloc(), &script, window, chances) else {
-        return give_up(rt, file, ProgramFault::OutOfMemory);
+        return give_up(rt, seen, ProgramFault::OutOfMemory, form);
     };
-    simulate(rt, file, &script, window, chances, steps.as_str(), telling)
+    let Ended { ending, tally } = simulate(rt, &script, window, steps.as_str(), form);
+    match ending {
+        Ending::Done | Ending::Refused(_) => {
+            print_steps(rt, window, chances, steps.as_str());
+            tell(rt, file, &script, steps.as_str(), window, telling);
+            if let (Some(tally), false) = (tally, telling.explain) {
+                hint(rt, tally);
+            }
+            if let Some(text) = script_notes(rt.alloc(), shown_name(file), &script, true) {
+                comment(rt, text.as_str());
+            }
+        }
+        _ => advise_on_script(rt, seen, ending),
+    }
+    ending
 }
 
 /// Prints the fault of a command that gave up, and says on standard error why.
-fn give_up(rt: &HostRuntime, file: &str, fault: ProgramFault) -> Ending {
-    let ending = print_fault(&mut io::writer(rt), fault);
-    advise(rt, file, ending);
+fn give_up(rt: &HostRuntime, script: Seen<'_>, fault: ProgramFault, form: Form) -> Ending {
+    let mut writer = io::writer(rt);
+    let ending = match form {
+        Form::Text => print_fault(&mut writer, fault),
+        Form::Json => print_fault_json(&mut writer, fault),
+    };
+    advise_on_script(rt, script, ending);
     ending
 }
 
-/// Simulates a script by these steps, and tells both.
-fn simulate(
-    rt: &HostRuntime,
-    file: &str,
-    script: &[u8],
-    window: usize,
-    chances: Chances,
-    steps: &str,
-    telling: Telling<'_>,
-) -> Ending
+/// Prints what `simulate` says of a script and these steps.
+fn simulate(rt: &HostRuntime, script: &[u8], window: usize, steps: &str, form: Form) -> Ended
     requires { IsWindow window }
 {
-    let mut printed = Kept::new(rt.alloc(), io::writer(rt));
-    let made = simulation_of(rt.alloc(), script, steps.as_bytes(), window);
-    let ending = print_output(&mut printed, made);
-    match ending {
-        Ending::Done | Ending::Refused(_) => {
-            print_steps(rt, window, chances, steps);
-            tell(rt, file, script, steps, window, telling);
-            if let (Some(printed), false) = (printed.bytes(), telling.explain) {
-                hint(rt, printed);
-            }
+    let alloc = rt.alloc();
+    let steps = steps.as_bytes();
+    match form {
+        Form::Text => {
+            let mut printed = Kept::new(alloc, io::writer(rt));
+            let ending = print_output(&mut printed, simulation_of(alloc, script, steps, window));
+            Ended::of_text(ending, printed.bytes())
         }
-        _ => advise(rt, file, ending),
+        Form::Json => {
+            let mut writer = io::writer(rt);
+            Ended::of_json(print_simulation_json(alloc, script, steps, window, &mut writer))
+        }
     }
-    ending
 }
 
 /// Prints steps as a step file, with the words that make them.
@@ -118,8 +133,8 @@ fn tell(
 }
 
 /// Says how many items weren't accepted and how many batches were refused, if any was.
-fn hint(rt: &HostRuntime, printed: &[u8]) {
-    let Tally { items, batches } = count_lines(printed);
+fn hint(rt: &HostRuntime, tally: Tally) {
+    let Tally { items, batches } = tally;
     if items != 0 || batches != 0 {
         let _ = eprintln!(rt;
             "# relayplum: items not accepted: {items}, batches refused: {batches}; --explain says why"

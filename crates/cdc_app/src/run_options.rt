@@ -5,7 +5,10 @@ ghost use Rattle.cdc_run_command.specs.Plans.{AreCounts, IsPlan, IsPrefetch};
 ghost use Rattle.cdc_app.specs.Options.{IsDefaultPlan};
 
 use crate::command_line::OptionsFault;
-use crate::options::{MORE, asked_window, bad_words, explain_flag, script_argument, window_option};
+use crate::help;
+use crate::options::{
+    asked_window, bad_words, explain_flag, json_flag, script_argument, window_option,
+};
 use cdc_message::decimal_up_to;
 use cdc_run::Faults;
 use cdc_run_command::RunPlan;
@@ -22,7 +25,7 @@ pub fn run_words<'a>(alloc: Global) -> Result<Command<'a>, AllocError> {
         .about(
             "Run a script on threads, and print the results of its batches and the books of its subscribers",
         )
-        .after_help(MORE)
+        .after_help(help::RUN)
         .arg(script_argument(alloc))?
         .arg(window_option(alloc))?
         .arg(prefetch_option(alloc))?
@@ -56,7 +59,8 @@ pub fn run_words<'a>(alloc: Global) -> Result<Command<'a>, AllocError> {
         .arg(start_option(alloc))?
         .arg(progress_option(alloc))?
         .arg(explain_flag(alloc))?
-        .arg(trace_flag(alloc))
+        .arg(trace_flag(alloc))?
+        .arg(json_flag(alloc))
 }
 
 /// The flag `--trace`.

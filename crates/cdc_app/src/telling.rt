@@ -5,9 +5,11 @@
 ghost use Rattle.cdc_types.specs.Windows.{IsWindow};
 
 use crate::advice::shown_name;
+use crate::kept::Seen;
 use crate::options::{STANDARD_ERROR, Telling};
 use cdc_telling::{
-    RefusedStep, RunTold, Tally, books_lines, count_lines, run_told, simulation_told,
+    RefusedStep, RunTold, Tally, books_lines, has_one_client, run_told, script_notes,
+    simulation_told,
 };
 use std::fs;
 use std::fs::OpenOptions;
@@ -61,14 +63,26 @@ pub fn explain_run(rt: &HostRuntime, file: &str, script: &[u8], printed: &[u8]) 
 pub const EXPLAIN: &str = "; --explain says why";
 
 /// Says how many items weren't accepted and how many batches were refused, if any was, and then how to hear why.
-pub fn hint(rt: &HostRuntime, printed: &[u8], why: &str) {
-    let Tally { items, batches } = count_lines(printed);
+pub fn hint(rt: &HostRuntime, tally: Tally, why: &str) {
+    let Tally { items, batches } = tally;
     if items == 0 && batches == 0 {
         return;
     }
     let _ = eprintln!(rt;
         "relayplum: items not accepted: {items}, batches refused: {batches}{why}"
     );
+}
+
+/// Notes what a good script says that may not be meant. Where it is run on threads, the batches of several clients come
+/// in any order, and nothing is said of their moments.
+pub fn note(rt: &HostRuntime, script: Seen<'_>, is_run: bool) {
+    let Some(bytes) = script.bytes else {
+        return;
+    };
+    let is_in_order = !is_run || has_one_client(bytes);
+    if let Some(text) = script_notes(rt.alloc(), shown_name(script.name), bytes, is_in_order) {
+        let _ = eprint!(rt; "{text}");
+    }
 }
 
 /// Tells a simulation as it is asked for, and why a step was refused, where one was. Says whether it could tell the
@@ -110,12 +124,13 @@ pub fn tell_simulation(rt: &HostRuntime, inputs: Inputs<'_>, telling: Telling<'_
 /// What a diagram begins with (Mermaid).
 const DIAGRAM: &[u8; 15] = b"sequenceDiagram";
 
-/// Whether the diagram that is asked for can be drawn without the loss of anything else; says where it can't.
-pub fn can_draw(rt: &HostRuntime, telling: Telling<'_>) -> bool {
+/// Whether the diagram that is asked for can be drawn without the loss of anything else, as of a file that the command
+/// reads; says where it can't.
+pub fn can_draw(rt: &HostRuntime, telling: Telling<'_>, inputs: &[&str]) -> bool {
     let Some(out) = telling.diagram else {
         return true;
     };
-    if out == STANDARD_ERROR || may_draw(rt, out) {
+    if out == STANDARD_ERROR || !inputs.contains(&out) && may_draw(rt, out) {
         return true;
     }
     let _ = eprintln!(rt;
@@ -124,8 +139,8 @@ pub fn can_draw(rt: &HostRuntime, telling: Telling<'_>) -> bool {
     false
 }
 
-/// Whether a diagram may be written to the file of this name without the loss of anything else: there is none, it is empty
-/// or holds a diagram, or it is no regular file, as a pipe.
+/// Whether a diagram may be written to the file of this name without the loss of anything else: there is none, it is
+/// empty or holds a diagram, or it is no regular file, as a pipe.
 fn may_draw(rt: &HostRuntime, file: &str) -> bool {
     // (a file that can't be opened is missed when it is written)
     let Ok(mut file) = OpenOptions::new().read(true).write(true).open(rt, file) else {

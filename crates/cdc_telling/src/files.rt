@@ -1,11 +1,12 @@
-//! What a script or a step file has to have where it has a fault: a sentence for each kind of fault.
+//! What a script or a step file has to have where it has a fault: a sentence for each kind of fault, for where no word
+//! is at fault.
 
 use crate::sentences::Sentence;
 use cdc_script::FaultKind;
 use cdc_types::Limits;
 
 /// What a script has to have where it has this fault.
-pub fn script_sentence(kind: FaultKind) -> Sentence {
+pub(crate) fn script_sentence(kind: FaultKind) -> Sentence {
     match kind {
         FaultKind::BadText => Sentence::Plain(
             "a line is printable ASCII characters, bytes 32 to 126, and ends with a line feed",
@@ -39,18 +40,18 @@ pub fn script_sentence(kind: FaultKind) -> Sentence {
             Sentence::One("a client's number is 1 to ", Limits::CLIENTS as u128, "")
         }
         FaultKind::NoSubscriber => Sentence::Plain(
-            "a script has a line subscriber BINDING, as subscriber all",
+            "the file has no line that begins with subscriber, as subscriber all",
         ),
         FaultKind::TooLong => Sentence::One(
-            "a script has ",
+            "the file has more bytes than a script may have, which is ",
             Limits::SCRIPT_BYTES as u128,
-            " bytes at most",
+            "",
         ),
     }
 }
 
 /// What a step file has to have where it has this fault. It has the faults of words and numbers alone.
-pub fn steps_sentence(kind: FaultKind) -> Sentence {
+pub(crate) fn steps_sentence(kind: FaultKind) -> Sentence {
     match kind {
         FaultKind::UnknownWord => Sentence::Plain(
             "a line begins with batch, close_ledger, start, crash, poll, publish, arrive, answer, save, send, rewind, break, take, ack or close",
@@ -64,9 +65,9 @@ pub fn steps_sentence(kind: FaultKind) -> Sentence {
             "",
         ),
         FaultKind::TooLong => Sentence::One(
-            "a step file has ",
+            "the file has more bytes than a step file may have, which is ",
             Limits::SCRIPT_BYTES as u128,
-            " bytes at most",
+            "",
         ),
         _ => script_sentence(kind),
     }

@@ -2,30 +2,42 @@
 //! refused, what each step did, and what a bad file has to have. Nothing here reads or writes.
 #![tactic(auto)]
 
+mod bindings;
 mod books;
 mod cargo;
 mod deeds;
 mod diagram;
+mod faults;
+mod fields;
 mod files;
 mod following;
 mod items;
 mod lanes;
+mod letters;
+mod lines;
 mod movements;
+mod nearest;
+mod notes;
+mod numbers;
 mod orders;
 mod places;
 mod reasons;
 mod rerun;
 mod results;
 mod runs;
+mod sayings;
+mod script_lines;
 mod sentences;
 mod sessions;
 mod simulations;
+mod step_lines;
 mod steps;
 mod tally;
 mod texts;
 
 pub use books::books_lines;
-pub use files::{script_sentence, steps_sentence};
+pub use faults::{FaultTold, script_fault_told, steps_fault_told};
+pub use notes::{has_one_client, script_notes};
 pub use runs::{RunTold, run_told};
 pub use sentences::Sentence;
 pub use simulations::{RefusedStep, Told, simulation_told};

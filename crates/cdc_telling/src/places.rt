@@ -83,7 +83,7 @@ pub(crate) fn step_line(steps: &[u8], place: usize) -> u64 {
 }
 
 /// The first word of a line, unless it is blank or a comment.
-fn first_word(line: &[u8]) -> Option<&[u8]> {
+pub(crate) fn first_word(line: &[u8]) -> Option<&[u8]> {
     if line.starts_with(b"#") {
         return None;
     }

@@ -2,12 +2,17 @@
 
 ghost use Rattle.std.specs.Prelude.{◌≡◌, ◌++◌, if◌then◌else◌, Err, IsFalse, IsTrue, Ok, [], alloc_error, string_bytes};
 
+use crate::letters::is_printable;
 use crate::sentences::Sentence;
 use itoa::Buffer;
 use std::alloc::{AllocError, Global};
+use std::str;
 
-/// A text so far. Where memory runs out for a piece, nothing more is added, and who ends the text hears of it: so whoever
-/// adds to it needn't ask each time.
+/// How many bytes of a word of a file are shown.
+const MOST_SHOWN: usize = 60;
+
+/// A text so far. Where memory runs out for a piece, nothing more is added, and who ends the text hears of it: so
+/// whoever adds to it needn't ask each time.
 #[derive(Drop)]
 pub(crate) struct Text {
     /// Its pieces, up to the one that memory ran out for.
@@ -46,6 +51,25 @@ impl Text {
     pub(crate) fn push_number(&mut self, number: u128) {
         let mut buffer = Buffer::new();
         self.push(buffer.format(number));
+    }
+
+    /// Adds a name or a word of a file, between grave accents. Of a long one its beginning is shown, and a question
+    /// mark in the place of each byte that can't be.
+    pub(crate) fn push_name(&mut self, name: &str) {
+        self.push("`");
+        self.push_bytes(name.as_bytes());
+        self.push("`");
+    }
+
+    /// Adds the beginning of a word of a file.
+    pub(crate) fn push_bytes(&mut self, bytes: &[u8]) {
+        for byte in bytes.iter().take(MOST_SHOWN) {
+            let shown = if is_printable(*byte) { *byte } else { b'?' };
+            self.push(str::from_utf8(&[shown]).unwrap_or("?"));
+        }
+        if bytes.len() > MOST_SHOWN {
+            self.push("..");
+        }
     }
 
     /// Adds a sentence.
