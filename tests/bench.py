@@ -4,13 +4,14 @@
     tests/bench.py [--program PATH] [--times N] [--jobs N] [--only SCRIPT].. [--write]
 
 The scripts have 1,000 events, as many as a script has room for, as many between 5,000 accounts, and as many for eight
-subscribers. Of each command that works on one thread Valgrind counts the instructions, which other work on the machine doesn't
-change; `run` looks for messages for as long as it waits, so its instructions say nothing. The most memory is what the system
-says of a run. By the clock the commands of a script are run in turn, --times times (15, and no fewer count as a measure): the
-least and the middle.
+subscribers. Of each command that works on one thread Valgrind counts the instructions, which other work on the machine
+doesn't change; `run` looks for messages while it waits, so its instructions say nothing. The most memory is what the
+system says of a run (spent.c, which wants `cc`). By the clock the commands of a script are run in turn, --times times
+(15, and no fewer count as a measure): the least and the middle, with the load before and after.
 
-The table is compared with the last one of docs/MEASURED.md: what takes a fiftieth more instructions or memory is named. With
---write it is put there, at the top, with the commit. Limits that fail are those of tests/cost.py, which the gate runs.
+The table is compared with the last one of docs/MEASURED.md: what takes a fiftieth more instructions or memory is named.
+With --write it is put there, at the top, with the commit. Limits that fail are those of tests/cost.py, which the gate
+runs.
 """
 import concurrent.futures
 import datetime
@@ -21,10 +22,10 @@ import statistics
 import subprocess
 import sys
 import tempfile
-import time
 
 import cost
 import rooms
+import spent
 
 MEASURED = rooms.PROGRAM.parents[3] / 'docs/MEASURED.md'
 HEAD = '| Script | Command | Instructions | of each event | Memory, MB | Least, s | Middle, s | Processors, s |'
@@ -89,22 +90,12 @@ def instructions(program, words, folder):
         return cost.total_of(out.name)
 
 
-def timed(program, words, folder):
-    """The time by the clock, the processor time and the most memory of a run, in seconds and bytes."""
-    begun = time.monotonic()
-    ran = subprocess.Popen([program, *words], cwd=folder, stdout=subprocess.DEVNULL)
-    _, status, used = os.wait4(ran.pid, 0)
-    ran.returncode = status
-    if status:
-        sys.exit(f'bench: {" ".join(words)}: status {status}')
-    return time.monotonic() - begun, used.ru_utime + used.ru_stime, 1024 * used.ru_maxrss
-
-
 class Bench:
     """The rows of the table, as they are measured."""
 
     def __init__(self, program, folder, times, jobs):
         self.program, self.folder, self.times = program, folder, times
+        self.meter = spent.Meter(folder)
         self.pool = concurrent.futures.ThreadPoolExecutor(jobs)
         self.rows = {}
 
@@ -124,7 +115,7 @@ class Bench:
         runs = {it: [] for it in commands}
         for _ in range(self.times):
             for it, words in commands.items():
-                runs[it].append(timed(self.program, words, folder))
+                runs[it].append(self.meter.run([self.program, *words], folder))
         for it, found in runs.items():
             walls, used, memory = zip(*found)
             self.rows[name, it] = (
@@ -185,7 +176,7 @@ def main(words):
     parser.add_argument('--only', action='append', choices=[*scripts()])
     parser.add_argument('--write', action='store_true')
     options = rooms.options_of(parser, words)
-    load = os.getloadavg()[0]
+    before = os.getloadavg()[0]
     with rooms.room('bench-') as folder:
         bench = Bench(options.program, folder, options.times, options.jobs)
         for name, (text, events, subscribers) in scripts().items():
@@ -193,7 +184,8 @@ def main(words):
                 bench.measure(name, text, events, subscribers)
     processors = len(os.sched_getaffinity(0))
     title = f'## `{commit()}`, {datetime.date.today()}: the benchmark\n'
-    about = f'By `tests/bench.py`, {options.times} runs of each by the clock, {processors} processors, a load of {load:.1f} at its beginning.\n'
+    load = f'a load of {before:.1f} before and {os.getloadavg()[0]:.1f} after'
+    about = f'By `tests/bench.py`, {options.times} runs of each by the clock, {processors} processors, {load}.\n'
     print(bench.table(), end='')
     more = [*changes(bench.rows, last_table())]
     print('\n'.join(['bench: more than in the last table:', *more] if more else ['bench: nothing takes more than in the last table']))
