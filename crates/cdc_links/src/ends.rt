@@ -15,6 +15,7 @@ use crate::rule::{
 };
 use crossbeam_channel::{Pass, RecvError, RuledReceiver, RuledSender, TryRecvError, bounded_with};
 use std::alloc::{AllocError, Global};
+use std::hint::spin_loop;
 use std::marker::Model;
 use std::sync::Wait;
 
@@ -230,7 +231,7 @@ impl<M: Message> Model for LinkIn<M> {
     ghost invariant = { λ into. KeepsIn M.may_follow into.receiver into.pass into.received };
 }
 
-// The parcel at the front. Where there is none it looks again, as often as its patience lasts, and then sleeps until
+// The parcel at the front. Where there is none it looks again, as often as that has paid lately, and then sleeps until
 // there is one.
 fn next_parcel<M: Message, R: Wait>(
     rt: &R,
@@ -248,11 +249,13 @@ fn next_parcel<M: Message, R: Wait>(
     for look in 0..patience.looks() {
         match receiver.try_recv_as::<Receives, R>(rt, pass) {
             Ok(parcel) => {
-                patience.note_found(look);
+                if look > 0 {
+                    patience.note_found();
+                }
                 return Ok(parcel);
             }
             Err(TryRecvError::Disconnected) => return Err(RecvError),
-            Err(TryRecvError::Empty) => patience.pause(look),
+            Err(TryRecvError::Empty) => spin_loop(),
         }
     }
     patience.note_sleep();
