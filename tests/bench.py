@@ -33,30 +33,26 @@ HEAD = '| Script | Command | Instructions | of each event | Memory, MB | Least, 
 MORE = 1.02
 
 
-def without_end(text, subscribers):
-    """The script for this many subscribers: one stands in it already."""
-    return 'subscriber all\n' * (subscribers - 1) + text
+def further(subscribers):
+    """The lines of all subscribers but the one that each script has."""
+    return 'subscriber all\n' * (subscribers - 1)
 
 
-def most(accounts, subscribers):
-    """How many transfers a script for this many subscribers has room for."""
-    count = cost.most_transfers(accounts)
-    while len(without_end(cost.script(accounts, count), subscribers)) > cost.SCRIPT_BYTES:
-        count -= 1
-    return count
+# How many accounts, transfers and subscribers a script has; without transfers, as many as there is room for.
+SCRIPTS = {
+    '1,000 events': (2, 1_000, 1),
+    'a full script': (2, None, 1),
+    '5,000 accounts': (5_000, None, 1),
+    'eight subscribers': (2, None, 8),
+}
 
 
-def scripts():
-    """Each script by its name, with its number of events and of subscribers."""
-    found = {}
-    for name, accounts, count, subscribers in (
-        ('1,000 events', 2, 1_000, 1),
-        ('a full script', 2, most(2, 1), 1),
-        ('5,000 accounts', 5_000, most(5_000, 1), 1),
-        ('eight subscribers', 2, most(2, 8), 8),
-    ):
-        found[name] = without_end(cost.script(accounts, count), subscribers), count, subscribers
-    return found
+def script_of(name):
+    """A script, with its number of events and of subscribers."""
+    accounts, count, subscribers = SCRIPTS[name]
+    more = further(subscribers)
+    count = count or cost.most_transfers(accounts, more)
+    return more + cost.script(accounts, count), count, subscribers
 
 
 def steps_of(text, events, subscribers, window=64):
@@ -67,7 +63,7 @@ def steps_of(text, events, subscribers, window=64):
         tags = range(first + 1, min(first + window, events) + 1)
         lines.append('poll')
         lines += [line for tag in tags for line in ('publish', f'arrive {tag + 1}')]
-        lines += [f'answer {tag + 1}' for tag in tags]
+        lines += [f'answer {tag}' for tag in tags]
         for number in range(1, subscribers + 1):
             lines += [line for tag in tags for line in (f'send {number}', f'take {number}', f'ack {number} {tag}')]
     return '\n'.join(lines) + '\n'
@@ -173,15 +169,14 @@ def main(words):
     parser = rooms.parser_of(__doc__)
     parser.add_argument('--times', type=int, default=15)
     parser.add_argument('--jobs', type=int, default=2)
-    parser.add_argument('--only', action='append', choices=[*scripts()])
+    parser.add_argument('--only', action='append', choices=SCRIPTS)
     parser.add_argument('--write', action='store_true')
     options = rooms.options_of(parser, words)
     before = os.getloadavg()[0]
     with rooms.room('bench-') as folder:
         bench = Bench(options.program, folder, options.times, options.jobs)
-        for name, (text, events, subscribers) in scripts().items():
-            if not options.only or name in options.only:
-                bench.measure(name, text, events, subscribers)
+        for name in options.only or SCRIPTS:
+            bench.measure(name, *script_of(name))
     processors = len(os.sched_getaffinity(0))
     title = f'## `{commit()}`, {datetime.date.today()}: the benchmark\n'
     load = f'a load of {before:.1f} before and {os.getloadavg()[0]:.1f} after'
