@@ -51,7 +51,7 @@ def full_script(clients, subscribers):
         count += 1
 
 
-def print_hand_offs(times=50_000, looks=64, yields=64):
+def print_hand_offs(times=50_000, looks=256, yields=64):
     """Prints what a hand-off takes, in microseconds."""
     source = pathlib.Path(__file__).parent / 'handoff.c'
     with rooms.room('handoff-') as folder:
