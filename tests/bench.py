@@ -4,13 +4,14 @@
     tests/bench.py [--program PATH] [--times N] [--jobs N] [--only SCRIPT].. [--write]
 
 The scripts have 1,000 events, as many as a script has room for, as many between 5,000 accounts, and as many for eight
-subscribers. Of each command that works on one thread Valgrind counts the instructions, which other work on the machine doesn't
-change; `run` looks for messages for as long as it waits, so its instructions say nothing. The most memory is what the system
-says of a run. By the clock the commands of a script are run in turn, --times times (15, and no fewer count as a measure): the
-least and the middle.
+subscribers. Of each command that works on one thread Valgrind counts the instructions, which other work on the machine
+doesn't change; `run` looks for messages while it waits, so its instructions say nothing. The most memory is what the
+system says of a run (spent.c, which wants `cc`). By the clock the commands of a script are run in turn, --times times
+(15, and no fewer count as a measure): the least and the middle, with the load before and after.
 
-The table is compared with the last one of docs/MEASURED.md: what takes a fiftieth more instructions or memory is named. With
---write it is put there, at the top, with the commit. Limits that fail are those of tests/cost.py, which the gate runs.
+The table is compared with the last one of docs/MEASURED.md: what takes a fiftieth more instructions or memory is named.
+With --write it is put there, at the top, with the commit. Limits that fail are those of tests/cost.py, which the gate
+runs.
 """
 import concurrent.futures
 import datetime
@@ -21,10 +22,10 @@ import statistics
 import subprocess
 import sys
 import tempfile
-import time
 
 import cost
 import rooms
+import spent
 
 MEASURED = rooms.PROGRAM.parents[3] / 'docs/MEASURED.md'
 HEAD = '| Script | Command | Instructions | of each event | Memory, MB | Least, s | Middle, s | Processors, s |'
@@ -32,30 +33,26 @@ HEAD = '| Script | Command | Instructions | of each event | Memory, MB | Least, 
 MORE = 1.02
 
 
-def without_end(text, subscribers):
-    """The script for this many subscribers: one stands in it already."""
-    return 'subscriber all\n' * (subscribers - 1) + text
+def further(subscribers):
+    """The lines of all subscribers but the one that each script has."""
+    return 'subscriber all\n' * (subscribers - 1)
 
 
-def most(accounts, subscribers):
-    """How many transfers a script for this many subscribers has room for."""
-    count = cost.most_transfers(accounts)
-    while len(without_end(cost.script(accounts, count), subscribers)) > cost.SCRIPT_BYTES:
-        count -= 1
-    return count
+# How many accounts, transfers and subscribers a script has; without transfers, as many as there is room for.
+SCRIPTS = {
+    '1,000 events': (2, 1_000, 1),
+    'a full script': (2, None, 1),
+    '5,000 accounts': (5_000, None, 1),
+    'eight subscribers': (2, None, 8),
+}
 
 
-def scripts():
-    """Each script by its name, with its number of events and of subscribers."""
-    found = {}
-    for name, accounts, count, subscribers in (
-        ('1,000 events', 2, 1_000, 1),
-        ('a full script', 2, most(2, 1), 1),
-        ('5,000 accounts', 5_000, most(5_000, 1), 1),
-        ('eight subscribers', 2, most(2, 8), 8),
-    ):
-        found[name] = without_end(cost.script(accounts, count), subscribers), count, subscribers
-    return found
+def script_of(name):
+    """A script, with its number of events and of subscribers."""
+    accounts, count, subscribers = SCRIPTS[name]
+    more = further(subscribers)
+    count = count or cost.most_transfers(accounts, more)
+    return more + cost.script(accounts, count), count, subscribers
 
 
 def steps_of(text, events, subscribers, window=64):
@@ -66,7 +63,7 @@ def steps_of(text, events, subscribers, window=64):
         tags = range(first + 1, min(first + window, events) + 1)
         lines.append('poll')
         lines += [line for tag in tags for line in ('publish', f'arrive {tag + 1}')]
-        lines += [f'answer {tag + 1}' for tag in tags]
+        lines += [f'answer {tag}' for tag in tags]
         for number in range(1, subscribers + 1):
             lines += [line for tag in tags for line in (f'send {number}', f'take {number}', f'ack {number} {tag}')]
     return '\n'.join(lines) + '\n'
@@ -89,22 +86,12 @@ def instructions(program, words, folder):
         return cost.total_of(out.name)
 
 
-def timed(program, words, folder):
-    """The time by the clock, the processor time and the most memory of a run, in seconds and bytes."""
-    begun = time.monotonic()
-    ran = subprocess.Popen([program, *words], cwd=folder, stdout=subprocess.DEVNULL)
-    _, status, used = os.wait4(ran.pid, 0)
-    ran.returncode = status
-    if status:
-        sys.exit(f'bench: {" ".join(words)}: status {status}')
-    return time.monotonic() - begun, used.ru_utime + used.ru_stime, 1024 * used.ru_maxrss
-
-
 class Bench:
     """The rows of the table, as they are measured."""
 
     def __init__(self, program, folder, times, jobs):
         self.program, self.folder, self.times = program, folder, times
+        self.meter = spent.Meter(folder)
         self.pool = concurrent.futures.ThreadPoolExecutor(jobs)
         self.rows = {}
 
@@ -124,7 +111,7 @@ class Bench:
         runs = {it: [] for it in commands}
         for _ in range(self.times):
             for it, words in commands.items():
-                runs[it].append(timed(self.program, words, folder))
+                runs[it].append(self.meter.run([self.program, *words], folder))
         for it, found in runs.items():
             walls, used, memory = zip(*found)
             self.rows[name, it] = (
@@ -182,18 +169,18 @@ def main(words):
     parser = rooms.parser_of(__doc__)
     parser.add_argument('--times', type=int, default=15)
     parser.add_argument('--jobs', type=int, default=2)
-    parser.add_argument('--only', action='append', choices=[*scripts()])
+    parser.add_argument('--only', action='append', choices=SCRIPTS)
     parser.add_argument('--write', action='store_true')
     options = rooms.options_of(parser, words)
-    load = os.getloadavg()[0]
+    before = os.getloadavg()[0]
     with rooms.room('bench-') as folder:
         bench = Bench(options.program, folder, options.times, options.jobs)
-        for name, (text, events, subscribers) in scripts().items():
-            if not options.only or name in options.only:
-                bench.measure(name, text, events, subscribers)
+        for name in options.only or SCRIPTS:
+            bench.measure(name, *script_of(name))
     processors = len(os.sched_getaffinity(0))
     title = f'## `{commit()}`, {datetime.date.today()}: the benchmark\n'
-    about = f'By `tests/bench.py`, {options.times} runs of each by the clock, {processors} processors, a load of {load:.1f} at its beginning.\n'
+    load = f'a load of {before:.1f} before and {os.getloadavg()[0]:.1f} after'
+    about = f'By `tests/bench.py`, {options.times} runs of each by the clock, {processors} processors, {load}.\n'
     print(bench.table(), end='')
     more = [*changes(bench.rows, last_table())]
     print('\n'.join(['bench: more than in the last table:', *more] if more else ['bench: nothing takes more than in the last table']))

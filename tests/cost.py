@@ -65,14 +65,16 @@ def script(accounts, count):
     return opened(accounts) + batches("transfers", single_phase(count, accounts))
 
 
-def most_transfers(accounts):
-    """How many transfers between these accounts a script has room for."""
-    count = 1
-    while len(script(accounts, count + 1_000)) <= SCRIPT_BYTES:
-        count += 1_000
-    while len(script(accounts, count + 1)) <= SCRIPT_BYTES:
-        count += 1
-    return count
+def most_transfers(accounts, more=""):
+    """How many transfers between these accounts a script has room for, behind so much more text."""
+    low, high = 0, SCRIPT_BYTES
+    while high - low > 1:
+        middle = (low + high) // 2
+        if len(more) + len(script(accounts, middle)) <= SCRIPT_BYTES:
+            low = middle
+        else:
+            high = middle
+    return low
 
 
 def pending(count, accounts, timeout):

@@ -1,12 +1,14 @@
 /* What it costs one thread to hand on to another and to be answered, at the least: no channel, no message, a futex.
 
-     handoff TIMES LOOKS
+     handoff TIMES LOOKS YIELDS
 
-   Two threads take turns, so often. One that waits looks so many times, a pause after each, and sleeps then. Prints the
-   microseconds that a hand-off took. tests/speed.py --hand-offs builds and runs it. */
+   Two threads take turns, so often. One that waits looks so many times, a pause after each, then leaves its processor to
+   others so many times and looks after each, and sleeps then. Prints the microseconds that a hand-off took.
+   tests/speed.py --hand-offs builds and runs it. */
 #define _GNU_SOURCE
 #include <linux/futex.h>
 #include <pthread.h>
+#include <sched.h>
 #include <stdatomic.h>
 #include <stdio.h>
 #include <stdlib.h>
@@ -15,7 +17,7 @@
 #include <unistd.h>
 
 static atomic_uint there, back;
-static unsigned times, looks;
+static unsigned times, looks, yields;
 
 static void hand_on(atomic_uint *turns) {
     atomic_fetch_add(turns, 1);
@@ -26,6 +28,10 @@ static void wait_for(atomic_uint *turns, unsigned seen) {
     for (unsigned look = 0; look < looks; look++) {
         if (atomic_load(turns) != seen) return;
         __builtin_ia32_pause();
+    }
+    for (unsigned look = 0; look < yields; look++) {
+        if (atomic_load(turns) != seen) return;
+        sched_yield();
     }
     while (atomic_load(turns) == seen) syscall(SYS_futex, turns, FUTEX_WAIT_PRIVATE, seen, NULL, NULL, 0);
 }
@@ -41,9 +47,10 @@ static void *answer(void *nothing) {
 int main(int count, char **words) {
     struct timespec begun, ended;
     pthread_t other;
-    if (count != 3) return 2;
+    if (count != 4) return 2;
     times = strtoul(words[1], NULL, 10);
     looks = strtoul(words[2], NULL, 10);
+    yields = strtoul(words[3], NULL, 10);
     if (times == 0 || pthread_create(&other, NULL, answer, NULL) != 0) return 1;
     clock_gettime(CLOCK_MONOTONIC, &begun);
     for (unsigned turn = 0; turn < times; turn++) {

@@ -11,17 +11,17 @@ least ones least; under `chrt -f 10`, which root may say, it hardly does. Where 
 processors, a `books` on one of them finds it quiet sooner than a run on four: then the pairs say more than the least ones.
 
 With --hand-offs, what a thread's hand-off to another takes on this machine by itself (handoff.c): where the one that
-waits sleeps, on one processor and between two, and where it looks first.
+waits sleeps, where it looks first, and where it leaves its processor to others first, on one processor and between two.
 """
 import os
 import pathlib
 import statistics
 import subprocess
 import sys
-import time
 
 import model
 import rooms
+import spent
 import stress
 
 COMMANDS = {'books': ['books'], 'run': ['run', '--window', '1']}
@@ -51,28 +51,20 @@ def full_script(clients, subscribers):
         count += 1
 
 
-def timed(words, folder, processors):
-    """Wall time and processor time of a run in seconds, and its memory in megabytes."""
-    begun = time.monotonic()
-    run = subprocess.Popen(words, cwd=folder, stdout=subprocess.DEVNULL, preexec_fn=stress.on_processors(processors))
-    _, status, used = os.wait4(run.pid, 0)
-    if status != 0:
-        sys.exit(f'{words}: status {status}')
-    return time.monotonic() - begun, used.ru_utime + used.ru_stime, used.ru_maxrss / 1024
-
-
-def print_hand_offs(times=50_000, looks=256):
+def print_hand_offs(times=50_000, looks=256, yields=64):
     """Prints what a hand-off takes, in microseconds."""
     source = pathlib.Path(__file__).parent / 'handoff.c'
     with rooms.room('handoff-') as folder:
         program = pathlib.Path(folder) / 'handoff'
         subprocess.run(['cc', '-O2', '-pthread', '-o', program, source], check=True)
-        for how, processors, count in (('sleeps', 1, 0), ('sleeps', 2, 0), (f'looks {looks} times', 2, looks)):
-            words = [program, str(times), str(count)]
-            found = subprocess.run(
-                words, capture_output=True, text=True, check=True, preexec_fn=stress.on_processors(processors)
-            )
-            print(f'processors {processors}, one that waits {how}: {found.stdout.strip()} microseconds a hand-off')
+        ways = ('sleeps', 0, 0), (f'looks {looks} times', looks, 0), (f'yields {yields} times', 0, yields)
+        for how, *counts in ways:
+            for processors in (1, 2):
+                words = [program, *map(str, (times, *counts))]
+                leave = stress.on_processors(processors)
+                found = subprocess.run(words, capture_output=True, text=True, check=True, preexec_fn=leave)
+                took = found.stdout.strip()
+                print(f'processors {processors}, one that waits {how}: {took} microseconds a hand-off')
 
 
 def main(words):
@@ -85,6 +77,7 @@ def main(words):
         return
     options = rooms.options_of(parser, words)
     with rooms.room('speed-') as folder:
+        meter = spent.Meter(folder)
         for clients, subscribers in SIZES:
             script, events = full_script(clients, subscribers)
             what = f'{events} transfers, clients {clients}, subscribers {subscribers}'
@@ -93,12 +86,12 @@ def main(words):
             for _ in range(options.times):
                 for command, (name, *flags) in COMMANDS.items():
                     said = [options.program, name, 'full.script', *flags]
-                    times[command].append(timed(said, folder, options.processors))
+                    times[command].append(meter.run(said, folder, options.processors))
             for command, found in times.items():
                 wall, used, memory = ([one[part] for one in found] for part in (0, 1, 2))
                 print(
                     f'{what}, {command}: wall {min(wall):.2f} s, {statistics.median(wall):.2f} in the middle; processors'
-                    f' {min(used):.2f} s, {statistics.median(used):.2f} in the middle; memory {max(memory):.0f} MB;'
+                    f' {min(used):.2f} s, {statistics.median(used):.2f} in the middle; memory {max(memory) / 1e6:.1f} MB;'
                     f' {events / min(wall):,.0f} events a second'
                 )
             walls = [[one[0] for one in times[command]] for command in ('run', 'books')]
