@@ -31,7 +31,7 @@ use cdc_json::{
 };
 use cdc_progress::{FileStore, MemoryStore, ProgressStore};
 use cdc_run_command::{RunPlan, run_command};
-use cdc_telling::count_lines;
+use cdc_telling::{Tally, count_lines};
 use ended::Ended;
 use kept::{Kept, Seen};
 use options::{Form, Options, OptionsFault, RunTelling, Telling, options};
@@ -134,15 +134,23 @@ fn run_books(rt: &HostRuntime, file: &str, explain: bool, form: Form) -> Ending 
     let Ended { ending, tally } = print_books(rt, &mut script, form);
     let seen = script.seen(file);
     if let Ending::Done = ending {
-        match (seen.bytes, tally) {
-            (Some(bytes), _) if explain => explain_books(rt, file, bytes),
-            (_, Some(tally)) => hint(rt, tally, EXPLAIN),
-            _ => {}
-        }
+        tell_books(rt, seen, explain, tally);
         note(rt, seen, false);
     }
     advise_on_script(rt, seen, ending);
     ending
+}
+
+/// Says what wasn't accepted of a script, and why, where that is asked for.
+fn tell_books(rt: &HostRuntime, script: Seen<'_>, explain: bool, tally: Option<Tally>) {
+    match script.bytes {
+        Some(bytes) if explain => explain_books(rt, script.name, bytes),
+        _ => {
+            if let Some(tally) = tally {
+                hint(rt, tally, EXPLAIN);
+            }
+        }
+    }
 }
 
 /// Prints what `books` says of a script.
