@@ -271,8 +271,8 @@ same 'a run of a fifth client: standard error' "fifth.script:2:8: bad_client: \`
 " "$err"
 
 # Faults that never came, and what came to each subscriber. There are 7 events, 2 of which are the second subscriber's
-# and 1 the third's, and an end mark. A queue that goes back at its third position while nothing else is on its way has
-# one delivery twice.
+# and 1 the third's, and an end mark. A queue that goes back at its first position, while it may have two on their way, has
+# that one twice at once; where it may have one, the acknowledgement comes before it is handed out again, and it isn't.
 missed() {
     run run "$top/examples/two-phase.script" "${@:2}"
     same "a fault that never came, '${*:2}': status" 0 "$status"
@@ -286,11 +286,13 @@ missed '--repeat 2:9: queue 2 handed out only 3 deliveries' --repeat 2:9
 missed '--repeat 4:1: there is no queue 4' --repeat 4:1 --repeat 1:1
 missed '--close 2:9: subscriber 2 applied only 2 events' --close 2:9
 missed '--close 4:1: there is no subscriber 4' --close 4:1
-run run --trace "$top/examples/two-phase.script" --prefetch 1 --repeat 1:3
+run run --trace "$top/examples/two-phase.script" --prefetch 2 --repeat 1:1
 same 'what came to each subscriber' 'subscriber 1: 9 deliveries, 7 applied, each once; the other 2 are end marks, and what came again or after a close
 subscriber 2: 3 deliveries, 2 applied, each once; the other 1 are end marks, and what came again or after a close
 subscriber 3: 2 deliveries, 1 applied, each once; the other 1 are end marks, and what came again or after a close' \
     "$(grep '^subscriber' errors)"
+run run --trace "$top/examples/two-phase.script" --prefetch 1 --repeat 1:1
+has 'what came to a subscriber, one at a time' 'subscriber 1: 8 deliveries, 7 applied, each once; the other 1 ' "$err"
 
 # Two clients at once: which of them comes first isn't fixed, but each one's own order is, and both books are told by the
 # ledger's events. Ten times over.

@@ -50,6 +50,8 @@ struct Maker {
     is_waiting: bool,
     /// Whether a session runs.
     runs: bool,
+    /// Whether a confirm came since the last save.
+    has_news: bool,
     /// The steps, a line for each.
     text: String,
 }
@@ -75,6 +77,7 @@ pub fn random_steps(
         answered: 0,
         is_waiting: false,
         runs: false,
+        has_news: false,
         text: String::new(alloc),
     };
     make_in_world(alloc, bindings.into_vec(), window, chances, &mut maker)?;
@@ -163,7 +166,7 @@ impl Maker {
         match self.below(13) {
             0 => Draw::Batch,
             1 => Draw::Step(self.start(world)),
-            2 => Draw::Step(Step::Save),
+            2 => self.draw_save(),
             3 => Draw::Step(Step::Poll),
             4 => Draw::Step(Step::Publish),
             5 | 6 => Draw::Step(Step::Arrive(self.arrived.saturating_add(1))),
@@ -187,6 +190,15 @@ impl Maker {
             }
         }
         Step::Start
+    }
+
+    /// A save where a confirm came since the last one, or else the packet that comes next.
+    fn draw_save(&self) -> Draw {
+        if self.has_news {
+            Draw::Step(Step::Save)
+        } else {
+            Draw::Step(Step::Publish)
+        }
     }
 
     /// The ledger's close, once no batch is left to hand in.
@@ -293,7 +305,11 @@ impl Maker {
             }
             Step::Crash => self.runs = false,
             Step::Arrive(k) => self.arrived = self.arrived.max(*k),
-            Step::Answer(k) => self.answered = self.answered.max(*k),
+            Step::Answer(k) => {
+                self.answered = self.answered.max(*k);
+                self.has_news = true;
+            }
+            Step::Save => self.has_news = false,
             _ => {}
         }
     }
