@@ -98,7 +98,7 @@ for words in '--help' '-h' 'help' 'books --help' 'messages --help' 'simulate --h
     has "words '$words': FILE" 'FILE is a script, and - is standard input' "$out"
     command=${words/--help/}
     command=${command/help/}
-    case $command in *[a-z]*) has "words '$words': example" "  relayplum ${command// /} examples/" "$out" ;; esac
+    case $command in *[a-z][a-z]*) has "words '$words': example" "  relayplum ${command// /} examples/" "$out" ;; esac
     has "words '$words': statuses" 'Exit status' "$out"
 done
 for words in '--help' 'help'; do
@@ -152,8 +152,8 @@ bad_words "'--explain'" messages one.script --explain
 bad_words "'--random" simulate one.script three.steps --random 1
 bad_words "'--random" simulate one.script --check --random 1
 bad_words "'--random" books one.script --random 1
-bad_words '--random' simulate one.script three.steps --steps 5
-bad_words '--random' simulate one.script three.steps --faults 5
+bad_words "'--steps" simulate one.script three.steps --steps 5
+bad_words "'--faults" simulate one.script three.steps --faults 5
 for words in '--random x' '--random 18446744073709551616' '--random 1 --steps 20001' '--random 1 --faults=-1' \
     '--random 1 --steps x' '--random='; do
     bad_words 'a seed is 0 to 18446744073709551615, and steps and faults are 0 to 20000' simulate one.script $words
@@ -256,7 +256,7 @@ same 'a run that refuses: standard error' 'relayplum: items not accepted: 1, bat
 refused.script:7: note: a transfer with no amount moves 0 (1 in this script)
 ' "$err"
 run run --explain refused.script
-same 'a run that refuses, explained' 'refused.script:7: batch 2 transfer 2 (id 1): 12 exists_with_different_fields: transfer 1 is there already, with other fields
+same 'a run that refuses, explained' 'refused.script:7: batch 2 transfer 2 (id 1): 9 ledger_must_not_be_zero: a transfer'\''s ledger is never 0
 refused.script:7: note: a transfer with no amount moves 0 (1 in this script)
 ' "$err"
 same 'a run that refuses, explained: status' 0 "$status"
@@ -762,10 +762,10 @@ same 'a check draws nothing: status' 0 "$status"
 same 'a check draws nothing' 'relayplum: note: nothing is drawn with --check
 ' "$err"
 printf '' >empty.steps
-for out in one.script empty.steps; do
-    run simulate --diagram=$out one.script empty.steps
-    same "a diagram in the place of $out: status" 2 "$status"
-    has "a diagram in the place of $out: why" "error: --diagram=$out: " "$err"
+for drawn in one.script empty.steps; do
+    run simulate --diagram=$drawn one.script empty.steps
+    same "a diagram in the place of $drawn: status" 2 "$status"
+    has "a diagram in the place of $drawn: why" "error: --diagram=$drawn: " "$err"
 done
 same 'a diagram in the place of an empty step file' '' "$(cat empty.steps)"
 
@@ -774,8 +774,8 @@ run one.script
 has 'a script without a command' "Did you mean 'relayplum books one.script'?" "$err"
 run boks one.script
 has 'a misspelt command' "'books'" "$err"
-run books one.script --trace
-has 'a flag of one other command' "'--trace' is a flag of simulate." "$err"
+run books one.script --diagram
+has 'a flag of one other command' "'--diagram' is a flag of simulate." "$err"
 run messages one.script --window=1
 has 'a flag of two other commands' "'--window' is a flag of simulate and run." "$err"
 

@@ -1,6 +1,7 @@
 //! What is wrong with a file of progress, and what to do.
 
 use cdc_progress::StoreError;
+use std::fs;
 use std::fs::File;
 use std::io::Read;
 
@@ -21,13 +22,15 @@ pub fn trouble(rt: &HostRuntime, saved: &str, error: StoreError) -> &'static str
 
 /// What is wrong with a file that can't be read.
 fn unread(rt: &HostRuntime, saved: &str) -> &'static str {
-    let Ok(file) = File::open(rt, saved) else {
-        return "it can't be opened: name a file that can be read, or one that isn't there in a folder that is";
-    };
-    if file.metadata().is_ok_and(|data| data.is_file()) {
-        "it can't be read, or another run has it: let that one end, or name another file"
-    } else {
-        "it is no regular file: name another one"
+    // (it isn't opened: whoever opens a pipe waits for a writer)
+    match fs::metadata(rt, saved) {
+        Ok(data) if data.is_file() => {
+            "it can't be read, or another run has it: let that one end, or name another file"
+        }
+        Ok(_) => "it is no regular file: name another one",
+        Err(_) => {
+            "it can't be opened: name a file that can be read, or one that isn't there in a folder that is"
+        }
     }
 }
 

@@ -36,6 +36,7 @@ pub fn steps_option<'a>(alloc: Global) -> Result<Arg<'a>, AllocError> {
         .value_name("N")
         .action(ArgAction::Set)
         .help("How many steps are made by chance at most: 0 to 20000, or 200")
+        .conflicts_with("STEPS")?
         .requires_arg("random")
 }
 
@@ -46,6 +47,7 @@ pub fn faults_option<'a>(alloc: Global) -> Result<Arg<'a>, AllocError> {
         .value_name("N")
         .action(ArgAction::Set)
         .help("How many faults are strewn among them: 0 to 20000, or 10")
+        .conflicts_with("STEPS")?
         .requires_arg("random")
 }
 
