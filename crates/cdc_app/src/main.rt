@@ -135,7 +135,6 @@ fn run_books(rt: &HostRuntime, file: &str, explain: bool, form: Form) -> Ending 
     let seen = script.seen(file);
     if let Ending::Done = ending {
         tell_books(rt, seen, explain, tally);
-        note(rt, seen, false);
     }
     advise_on_script(rt, seen, ending);
     ending
@@ -144,7 +143,10 @@ fn run_books(rt: &HostRuntime, file: &str, explain: bool, form: Form) -> Ending 
 /// Says what wasn't accepted of a script, and why, where that is asked for.
 fn tell_books(rt: &HostRuntime, script: Seen<'_>, explain: bool, tally: Option<Tally>) {
     match script.bytes {
-        Some(bytes) if explain => explain_books(rt, script.name, bytes),
+        Some(bytes) if explain => {
+            explain_books(rt, script.name, bytes);
+            note(rt, script, false);
+        }
         _ => {
             if let Some(tally) = tally {
                 hint(rt, tally, EXPLAIN);
@@ -174,11 +176,7 @@ fn run_messages(rt: &HostRuntime, file: &str, form: Form) -> Ending {
         Form::Text => messages(rt.alloc(), &mut script, &mut writer),
         Form::Json => messages_json_command(rt.alloc(), &mut script, &mut writer).ending,
     };
-    let seen = script.seen(file);
-    if let Ending::Done = ending {
-        note(rt, seen, false);
-    }
-    advise_on_script(rt, seen, ending);
+    advise_on_script(rt, script.seen(file), ending);
     ending
 }
 
@@ -216,10 +214,11 @@ fn run_simulation(
         advise_on_steps(rt, seen, step_file.seen(steps), ending);
     }
     if let Ending::Done | Ending::Refused(_) = ending {
-        if let (Some(tally), false) = (tally, telling.explain) {
+        if telling.explain {
+            note(rt, seen, false);
+        } else if let Some(tally) = tally {
             hint(rt, tally, EXPLAIN);
         }
-        note(rt, seen, false);
     }
     ending
 }
@@ -295,9 +294,6 @@ fn run_on_threads<T: Threads + Wait + Sync>(
         }
         tell_missed(rt, &faults, &turns, printed);
     }
-    if let Ending::Done = ending {
-        note(rt, seen, true);
-    }
     advise_on_run(rt, seen, progress, ending);
     ending
 }
@@ -305,7 +301,10 @@ fn run_on_threads<T: Threads + Wait + Sync>(
 /// Says of a run that has printed this what wasn't accepted, and why, where that is asked for.
 fn tell_run(rt: &HostRuntime, script: Seen<'_>, telling: RunTelling, printed: &[u8]) {
     match script.bytes {
-        Some(bytes) if telling.explain => explain_run(rt, script.name, bytes, printed),
+        Some(bytes) if telling.explain => {
+            explain_run(rt, script.name, bytes, printed);
+            note(rt, script, true);
+        }
         _ => hint(rt, count_lines(printed), EXPLAIN),
     }
 }
