@@ -32,7 +32,7 @@ FURTHER = 20_000  # instructions for each transfer and each subscriber beyond th
 LINKED = 1.05  # what a transfer of a chain may cost, in single-phase transfers
 FAILED = 2.0  # what an item of a chain may cost that fails at its end, in single-phase transfers
 TIMES = 2.0  # what an item of two phases may cost, in single-phase transfers
-SEARCH = 100  # instructions that a search in the log may take more for each doubling of it
+SEARCH = 500  # instructions that a poll may take more for each doubling of the log; what the heap takes differs by that much
 BYTES_EXPONENT = 1.05  # of the bytes that growing lists ask for in all
 FIRST = 395_000  # bytes that the first transfer may ask for: a segment of the log has room for 1,024 events
 
