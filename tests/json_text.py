@@ -8,10 +8,8 @@ objects, written as text after the same document, are the row's standard output 
 Rows that name no command are run as `run -`. Prints each row that fails, and what differs.
 """
 import json
-import os
 import subprocess
 import sys
-import tempfile
 
 sys.dont_write_bytecode = True
 import rows
@@ -110,20 +108,5 @@ def complaint(program, name, parts, folder):
     return None if found == wanted else rows.first_difference(wanted, found)
 
 
-def main():
-    program = os.path.realpath(sys.argv[1] if len(sys.argv) > 1 else f"{rows.HERE}/../crates/cdc_app/out/cdc_app")
-    word = sys.argv[2] if len(sys.argv) > 2 else ""
-    found = {name: parts for name, parts in rows.rows().items() if word in name}
-    failed = 0
-    with tempfile.TemporaryDirectory(prefix="json-") as folder:
-        for name, parts in found.items():
-            why = complaint(program, name, parts, folder)
-            if why:
-                failed += 1
-                print(f"row {name}: {why}")
-    print(f"json_text: {len(found) - failed} passed, {failed} failed")
-    return 1 if failed or not found else 0
-
-
 if __name__ == "__main__":
-    sys.exit(main())
+    sys.exit(rows.try_rows("json_text", complaint))

@@ -76,20 +76,21 @@ def complaint(program, name, parts, folder):
     return None if ran.stdout == wanted else first_difference(wanted, ran.stdout)
 
 
-def main():
+def try_rows(step, complaint):
+    """Tries the rows of the command line's words, prints each that fails and a last line of this name, and returns the status."""
     program = os.path.realpath(sys.argv[1] if len(sys.argv) > 1 else f"{HERE}/../crates/cdc_app/out/cdc_app")
     word = sys.argv[2] if len(sys.argv) > 2 else ""
     found = {name: parts for name, parts in rows().items() if word in name}
     failed = 0
-    with tempfile.TemporaryDirectory(prefix="rows-") as folder:
+    with tempfile.TemporaryDirectory(prefix=f"{step}-") as folder:
         for name, parts in found.items():
             why = complaint(program, name, parts, folder)
             if why:
                 failed += 1
                 print(f"row {name}: {why}")
-    print(f"rows: {len(found) - failed} passed, {failed} failed")
+    print(f"{step}: {len(found) - failed} passed, {failed} failed")
     return 1 if failed or not found else 0
 
 
 if __name__ == "__main__":
-    sys.exit(main())
+    sys.exit(try_rows("rows", complaint))
