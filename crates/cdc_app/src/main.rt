@@ -135,6 +135,7 @@ fn run_books(rt: &HostRuntime, file: &str, explain: bool, form: Form) -> Ending 
     let seen = script.seen(file);
     if let Ending::Done = ending {
         tell_books(rt, seen, explain, tally);
+        note(rt, seen, false);
     }
     advise_on_script(rt, seen, ending);
     ending
@@ -143,10 +144,7 @@ fn run_books(rt: &HostRuntime, file: &str, explain: bool, form: Form) -> Ending 
 /// Says what wasn't accepted of a script, and why, where that is asked for.
 fn tell_books(rt: &HostRuntime, script: Seen<'_>, explain: bool, tally: Option<Tally>) {
     match script.bytes {
-        Some(bytes) if explain => {
-            explain_books(rt, script.name, bytes);
-            note(rt, script, false);
-        }
+        Some(bytes) if explain => explain_books(rt, script.name, bytes),
         _ => {
             if let Some(tally) = tally {
                 hint(rt, tally, EXPLAIN);
@@ -176,7 +174,11 @@ fn run_messages(rt: &HostRuntime, file: &str, form: Form) -> Ending {
         Form::Text => messages(rt.alloc(), &mut script, &mut writer),
         Form::Json => messages_json_command(rt.alloc(), &mut script, &mut writer).ending,
     };
-    advise_on_script(rt, script.seen(file), ending);
+    let seen = script.seen(file);
+    if let Ending::Done = ending {
+        note(rt, seen, false);
+    }
+    advise_on_script(rt, seen, ending);
     ending
 }
 
@@ -214,11 +216,10 @@ fn run_simulation(
         advise_on_steps(rt, seen, step_file.seen(steps), ending);
     }
     if let Ending::Done | Ending::Refused(_) = ending {
-        if telling.explain {
-            note(rt, seen, false);
-        } else if let Some(tally) = tally {
+        if let (Some(tally), false) = (tally, telling.explain) {
             hint(rt, tally, EXPLAIN);
         }
+        note(rt, seen, false);
     }
     ending
 }
@@ -294,6 +295,9 @@ fn run_on_threads<T: Threads + Wait + Sync>(
         }
         tell_missed(rt, &faults, &turns, printed);
     }
+    if let Ending::Done = ending {
+        note(rt, seen, true);
+    }
     advise_on_run(rt, seen, progress, ending);
     ending
 }
@@ -301,10 +305,7 @@ fn run_on_threads<T: Threads + Wait + Sync>(
 /// Says of a run that has printed this what wasn't accepted, and why, where that is asked for.
 fn tell_run(rt: &HostRuntime, script: Seen<'_>, telling: RunTelling, printed: &[u8]) {
     match script.bytes {
-        Some(bytes) if telling.explain => {
-            explain_run(rt, script.name, bytes, printed);
-            note(rt, script, true);
-        }
+        Some(bytes) if telling.explain => explain_run(rt, script.name, bytes, printed),
         _ => hint(rt, count_lines(printed), EXPLAIN),
     }
 }

@@ -47,10 +47,11 @@ pub fn run_random(
         Ending::Done | Ending::Refused(_) => {
             print_steps(rt, window, chances, steps.as_str());
             tell(rt, file, &script, steps.as_str(), window, telling);
-            if telling.explain {
-                note(rt, file, &script);
-            } else if let Some(tally) = tally {
+            if let (Some(tally), false) = (tally, telling.explain) {
                 hint(rt, tally);
+            }
+            if let Some(text) = script_notes(rt.alloc(), shown_name(file), &script, true) {
+                comment(rt, text.as_str());
             }
         }
         _ => advise_on_script(rt, seen, ending),
@@ -128,13 +129,6 @@ fn tell(
     }
     if let Some(RefusedStep { why, .. }) = &told.refusal {
         comment(rt, why.as_str());
-    }
-}
-
-/// Notes what a good script says that may not be meant.
-fn note(rt: &HostRuntime, file: &str, script: &[u8]) {
-    if let Some(text) = script_notes(rt.alloc(), shown_name(file), script, true) {
-        comment(rt, text.as_str());
     }
 }
 

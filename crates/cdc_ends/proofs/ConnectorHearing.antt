@@ -1,12 +1,11 @@
 -- What stays so of a connector as it receives a message.
 use Rattle.std.proofs.Common.{◌≡◌, ℕ, zero, suc, ◌+◌, ◌-◌, ◌<◌, Bool, true, false, List, [], ◌∷◌, ◌++◌, inl, inr, refl, sym, ap, ap₂, ◌∙◌, subst, length, take, arith}
 use Rattle.std.specs.Prelude.{Contains, Option, Some, None, unwrap_or, if◌then◌else◌}
-use Rattle.std.specs.Option.{option_map}
 use Rattle.std.proofs.lemmas.List.{length-append}
 use Rattle.std.proofs.lemmas.List.Elements.{Contains-append_cases}
 use Rattle.std.proofs.lemmas.List.Sums.{fold-append}
 use Rattle.std.proofs.lemmas.Option.{none-some, same_Some}
-use Rattle.cdc_ends.specs.ConnectorEnds.{AreUnanswered, IsAtStart, IsPollOf, IsPublishing, Origin, Publishing, SessionStands, confirms_in, connector_of, first_origin, origin_of, packets_in}
+use Rattle.cdc_ends.specs.ConnectorEnds.{AreUnanswered, IsAtStart, IsPollOf, IsPublishing, Publishing, SessionStands, confirms_in, connector_of, first_origin, origin_of, packets_in}
 use Rattle.cdc_ends.specs.ConnectorMoves.{wanted_by}
 use Rattle.cdc_ends.proofs.ConnectorMessages.{confirms-more}
 use Rattle.cdc_ends.proofs.ConnectorSteps.{kept_of, start_held}

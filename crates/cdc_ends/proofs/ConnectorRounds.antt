@@ -2,12 +2,13 @@
 use Rattle.std.proofs.Common.{◌≡◌, ◌==◌, ℕ, ◌+◌, ◌<◌, ◌≤◌, Bool, true, false, true≢false, List, [], inl, inr, refl, sym, ap, ap₂, ◌∙◌, subst, length, map, ◌++◌, arith}
 use Rattle.std.specs.Prelude.{◌&&◌, Option, Some, None, is_some, if◌then◌else◌}
 use Rattle.std.proofs.lemmas.Bool.{and_parts, eqb-true}
+use Rattle.std.proofs.lemmas.Bool.Decides.{nat_tests}
 use Rattle.std.proofs.lemmas.Option.{none-some}
-use Rattle.cdc_ends.specs.ConnectorEnds.{FinishedConnectorsAreDone, HasFollowed, HasSent, IsAtRest, IsConnectorEnd, IsDone, IsOfSame, IsPublishing, IsTurnIf, IsWorkingTurn, Publishing, RisesBy, SessionStands, broken_by, confirms_in, ended_by, finish_if, first_origin, first_work, packets_in, planned_up_to, polls_in, IsAtStart, origin_of}
+use Rattle.cdc_ends.specs.ConnectorEnds.{FinishedConnectorsAreDone, HasFollowed, HasSent, IsAtRest, IsConnectorEnd, IsDone, IsOfSame, IsPublishing, IsWorkingTurn, Publishing, RisesBy, SessionStands, broken_by, confirms_in, ended_by, finish_if, first_origin, first_work, packets_in, planned_up_to, polls_in, IsAtStart, origin_of, moment_after, saved_by}
 use Rattle.cdc_ends.specs.ConnectorMoves.{IsAdvanced, IsAnswerTaken, IsBegun, IsBegunOrReceived, IsBrokenOff, IsConfirmTaken, IsFollowed, IsHeard, IsReplyTaken, IsSending}
 use Rattle.cdc_ends.proofs.ConnectorHearing.{IsPublishing-answered, IsPublishing-offered, IsPublishing-saved, IsPublishing-unused, confirm_came, number_kept, origin_saved, reply_came}
 use Rattle.cdc_ends.proofs.ConnectorSteps.{GoesOn-begun, IsPublishing-begun, finished-begun, start_held}
-use Rattle.cdc_ends.proofs.ConnectorTurns.{RisesBy-begun, RisesBy-same, RisesBy-trans, same_of, same_trans}
+use Rattle.cdc_ends.proofs.ConnectorTurns.{KeepsMoment-begun, RisesBy-begun, RisesBy-same, RisesBy-trans, same_of, same_trans}
 use Rattle.cdc_laws.specs.Connectors.{KeepsTo, held_number, held_start, held_timestamp}
 use Rattle.cdc_laws.proofs.Connectors.{KeepsTo-begin}
 use Rattle.cdc_links.specs.Links.{Incoming, Outgoing, Takes, of_sender}
@@ -16,6 +17,7 @@ use Rattle.cdc_message.specs.declared.packets.Answer.TheVariants.{Connected, Con
 use Rattle.cdc_message.specs.declared.packets.Confirm.{Confirm}
 use Rattle.cdc_message.specs.declared.packets.Packet.{Packet}
 use Rattle.cdc_progress.specs.Records.{Saved}
+use Rattle.cdc_progress.specs.Stores.{Risks}
 use Rattle.cdc_publisher.specs.Courses.{Course, after_answer, confirmed_timestamp, is_done, new_course, progress_of, with_confirm, with_offer}
 use Rattle.cdc_publisher.specs.Kept.{Kept}
 use Rattle.cdc_traffic.specs.Following.{FollowsToConnector}
@@ -42,6 +44,12 @@ rises_as n old new held is number plan published = λ gives.
 add_none : (n : ℕ) → n ≡ n + 0
 add_none n = omega arith
 
+-- a session that has come no further leaves what is held
+unmoved : (held before after : ℕ) → after ≡ before → held ≡ moment_after held before after
+unmoved held before after same =
+    let here : (after == before) ≡ true = grind (arith, nat_tests) in
+    sym (ap (λ b. if b then held else after) here)
+
 module _ (old : Publishing) (course : Course) (is : IsPublishing old (Some course))
     (inbox : Incoming ToConnector (Option Past)) where
   -- ---- a reply to a poll was received and taken
@@ -62,11 +70,13 @@ module _ (old : Publishing) (course : Course) (is : IsPublishing old (Some cours
           sessions = rises_as 0 old new old.held (ap (λ (c : Publishing). c.held) after)
               (add_none (held_number old.held)) (ap (λ (c : Publishing). c.restarts) after)
               (ap (λ (c : Publishing). c.published) after);
+          saves = λ gives. ap (λ (c : Publishing). held_timestamp c.held) after;
           same = subst (IsOfSame old) (sym after)
               (record {
                 polls = refl;
                 packets = refl;
                 honest = refl;
+                risks = refl;
                 origin = λ _. refl;
                 window = refl;
                 restarts = refl;
@@ -87,11 +97,13 @@ module _ (old : Publishing) (course : Course) (is : IsPublishing old (Some cours
           sessions = rises_as 0 old new old.held (ap (λ (c : Publishing). c.held) after)
               (add_none (held_number old.held)) (ap (λ (c : Publishing). c.restarts) after)
               (ap (λ (c : Publishing). c.published) after);
+          saves = λ gives. ap (λ (c : Publishing). held_timestamp c.held) after;
           same = subst (IsOfSame old) (sym after)
               (record {
                 polls = refl;
                 packets = refl;
                 honest = refl;
+                risks = refl;
                 origin = λ _. refl;
                 window = refl;
                 restarts = refl;
@@ -116,14 +128,17 @@ module _ (old : Publishing) (course : Course) (is : IsPublishing old (Some cours
     -- so much is known of what comes of it
     heard_of : (new : Publishing) (next : Course) (n : ℕ) → IsPublishing new (Some next) → new.inbox ≡ inbox
         → new.finished ≡ old.finished → RisesBy n old new → broken_by (session == held_number old.held) answer ≡ n
+        → (old.honest ≡ true
+        → held_timestamp new.held ≡ saved_by (held_timestamp old.held) course (to_connector.Confirm confirm))
         → IsOfSame old new → IsHeard old course true new
-    heard_of new next n publishing here working rises ends same = record {
+    heard_of new next n publishing here working rises ends saves same = record {
       message = to_connector.Confirm confirm;
       takes = subst (Takes FollowsToConnector old.inbox (to_connector.Confirm confirm)) (sym here) takes;
       next = next;
       publishing = publishing;
       working = working;
       sessions = subst (λ m. RisesBy m old new) (sym ends) rises;
+      saves = saves;
       same = same;
       unasked = λ other. absurd other;
       still = λ moved. cc;
@@ -138,11 +153,23 @@ module _ (old : Publishing) (course : Course) (is : IsPublishing old (Some cours
 
     -- nothing else comes of it
     heard_only : (new : Publishing) → new ≡ counted → IsPublishing counted (Some course)
-        → broken_by (session == held_number old.held) answer ≡ 0 → IsHeard old course true new
-    heard_only new after publishing ends =
+        → broken_by (session == held_number old.held) answer ≡ 0 → after_answer course session answer ≡ course
+        → IsHeard old course true new
+    heard_only new after publishing ends same_course =
         subst (IsHeard old course true) (sym after)
         (heard_of counted course 0 publishing refl refl (RisesBy-same old counted refl refl refl) ends
-        (record { polls = refl; packets = refl; honest = refl; origin = λ _. refl; window = refl; restarts = refl }))
+        (λ gives.
+        unmoved (held_timestamp old.held) (confirmed_timestamp course)
+        (confirmed_timestamp (after_answer course session answer)) (ap confirmed_timestamp same_course))
+        (record {
+          polls = refl;
+          packets = refl;
+          honest = refl;
+          risks = refl;
+          origin = λ _. refl;
+          window = refl;
+          restarts = refl;
+        }))
 
 module _ (old : Publishing) (course : Course) (is : IsPublishing old (Some course))
     (inbox : Incoming ToConnector (Option Past)) (session unanswered : ℕ)
@@ -173,6 +200,12 @@ module _ (old : Publishing) (course : Course) (is : IsPublishing old (Some cours
   number_if next same true = add_none (held_number old.held)
   number_if next same false = same ∙ sym is.runs.held ∙ add_none (held_number old.held)
 
+  moment_if : (next : Course) → (b : Bool)
+      → held_timestamp (if b then old.held else Some (progress_of next))
+      ≡ (if b then held_timestamp old.held else confirmed_timestamp next)
+  moment_if next true = refl
+  moment_if next false = refl
+
   heard_confirmed : (tag : ℕ) → TakesAnswer (Confirmed tag)
       → IsAnswerTaken answered course session (Confirmed tag) new → IsHeard old course true new
   heard_confirmed tag takes (stands, after) =
@@ -186,11 +219,12 @@ module _ (old : Publishing) (course : Course) (is : IsPublishing old (Some cours
       (answered_as old course is inbox session (Confirmed tag) takes unanswered less new.session stands) moved)
       refl refl
       (rises_as 0 old state held refl (number_if next (number_kept course session (Confirmed tag)) moved) refl refl)
-      refl
+      refl (λ gives. moment_if next moved)
       (record {
         polls = refl;
         packets = refl;
         honest = refl;
+        risks = refl;
         origin = λ _.
             origin_if next new.session
             (answered_as old course is inbox session (Confirmed tag) takes unanswered less new.session stands) moved;
@@ -204,7 +238,7 @@ module _ (old : Publishing) (course : Course) (is : IsPublishing old (Some cours
   heard_broken takes false other after =
       heard_only old course is inbox session Broken takes unanswered less new after
       (answered_as old course is inbox session Broken takes unanswered less old.session is.stands)
-      (ap (λ n. if session == n then 1 else 0) is.runs.held ∙ ap (λ b. if b then 1 else 0) other)
+      (ap (λ n. if session == n then 1 else 0) is.runs.held ∙ ap (λ b. if b then 1 else 0) other) refl
   heard_broken takes true own begun =
       let goes = GoesOn-begun answered new begun in
       heard_of old course is inbox session Broken takes unanswered less new (new_course begun.saved old.window) 1
@@ -212,10 +246,14 @@ module _ (old : Publishing) (course : Course) (is : IsPublishing old (Some cours
       (answered_as old course is inbox session Broken takes unanswered less old.session is.stands) begun)
       goes.inbox (finished-begun answered new begun) (RisesBy-begun answered new begun)
       (ap (λ n. if session == n then 1 else 0) is.runs.held ∙ ap (λ b. if b then 1 else 0) own)
+      (λ gives.
+      (KeepsMoment-begun answered new begun).moment gives (subst (λ n. 0 < n) (sym is.runs.held) is.runs.number)
+      ∙ unmoved (held_timestamp old.held) (confirmed_timestamp course) (confirmed_timestamp course) refl)
       (record {
         polls = goes.polls;
         packets = goes.packets;
         honest = goes.honest;
+        risks = goes.risks;
         origin = goes.origin;
         window = goes.window;
         restarts = goes.restarts;
@@ -226,10 +264,10 @@ module _ (old : Publishing) (course : Course) (is : IsPublishing old (Some cours
   heard_answer (Confirmed tag) takes taken = heard_confirmed tag takes taken
   heard_answer Connected takes taken =
       heard_only old course is inbox session Connected takes unanswered less new taken
-      (answered_as old course is inbox session Connected takes unanswered less old.session is.stands) refl
+      (answered_as old course is inbox session Connected takes unanswered less old.session is.stands) refl refl
   heard_answer Ignored takes taken =
       heard_only old course is inbox session Ignored takes unanswered less new taken
-      (answered_as old course is inbox session Ignored takes unanswered less old.session is.stands) refl
+      (answered_as old course is inbox session Ignored takes unanswered less old.session is.stands) refl refl
   heard_answer Broken takes taken = heard_broken takes (session == course.number) refl taken
 
 pub heard_confirm : (old : Publishing) (course : Course) → IsPublishing old (Some course)
@@ -281,6 +319,9 @@ module _ (old : Publishing) (end : IsConnectorEnd old) (working : old.finished �
       message = is.message;
       takes = is.takes;
       sessions = is.sessions;
+      course = running.course;
+      stood = running.publishing.stands;
+      saves = is.saves;
       same = is.same;
       unasked = is.unasked;
       still = λ quiet. (is.still quiet).1;
@@ -334,56 +375,58 @@ module _ (old : Publishing) (end : IsConnectorEnd old) (working : old.finished �
 
 -- ---- a whole turn
 
-module _ (old mid new : Publishing) (working : old.finished ≡ false) where
-  -- it is of an end that hasn't finished
-  turn_so : IsWorkingTurn old.session old new → IsTurnIf old.finished old new
-  turn_so is = subst (λ b. IsTurnIf b old new) (sym working) is
-
+module _ (old mid new : Publishing) where
   -- all that follows was sent
-  followed_turn : (s : Option Kept) → IsBegunOrReceived s old true mid → IsFollowed mid new → IsWorkingTurn s old new
-  followed_turn None is on = record {
+  followed_turn : (s : Option Kept) → 0 < held_number mid.held → IsBegunOrReceived s old true mid
+      → IsFollowed mid new → IsWorkingTurn s old new
+  followed_turn None some is on = record {
     inbox = on.goes_on.inbox ∙ is.inbox;
     sessions = RisesBy-trans 1 0 old mid new is.same.honest is.sessions on.sessions;
     same = same_trans old mid new is.same (same_of mid new on.goes_on);
   }
-  followed_turn (Some kept) is on = record {
+  followed_turn (Some kept) some is on = record {
     message = is.message;
     takes = subst (Takes FollowsToConnector old.inbox is.message) (sym on.goes_on.inbox) is.takes;
     sessions =
         let n = ended_by (held_number old.held) is.message in
         subst (λ m. RisesBy m old new) (sym (add_none n))
         (RisesBy-trans n 0 old mid new is.same.honest is.sessions on.sessions);
+    course = is.course;
+    stood = is.stood;
+    saves = λ gives. on.moment.moment (is.same.honest ∙ gives) some ∙ is.saves gives;
     unasked = λ other. let moved = is.unasked other in cc;
     same = same_trans old mid new is.same (same_of mid new on.goes_on);
   }
 
-  pub turned : IsAdvanced old true mid → IsFollowed mid new → IsTurnIf old.finished old new
-  turned is on = turn_so (followed_turn old.session is.moves on)
+  pub turned : IsAdvanced old true mid → IsFollowed mid new → IsWorkingTurn old.session old new
+  turned is on =
+      let some : 0 < held_number mid.held =
+      subst (λ n. 0 < n) (sym is.publishing.runs.held) is.publishing.runs.number in
+      followed_turn old.session some is.moves on
 
 -- nothing followed
-module _ (old new : Publishing) (working : old.finished ≡ false) where
+module _ (old new : Publishing) where
   still_turn : (s : Option Kept) → IsBegunOrReceived s old false new → IsWorkingTurn s old new
   still_turn None is = is
   still_turn (Some kept) is = record {
     message = is.message;
     takes = is.takes;
     sessions = is.sessions;
+    course = is.course;
+    stood = is.stood;
+    saves = is.saves;
     unasked = λ other. is.still refl;
     same = is.same;
   }
 
-  pub turned_still : IsAdvanced old false new → IsTurnIf old.finished old new
-  turned_still is = turn_so old old new working (still_turn old.session is.moves)
+  pub turned_still : IsAdvanced old false new → IsWorkingTurn old.session old new
+  turned_still is = still_turn old.session is.moves
 
   pub rests_still : IsAdvanced old false new → IsConnectorEnd new
   rests_still is = record { course = Some is.next; publishing = is.publishing; rest = is.still refl }
 
 pub rests_then : (mid new : Publishing) → IsFollowed mid new → IsConnectorEnd new
 rests_then mid new is = record { course = Some is.course; publishing = is.publishing; rest = is.followed }
-
--- after the last turn nothing changes
-pub turned_none : (old : Publishing) → old.finished ≡ true → IsTurnIf old.finished old old
-turned_none old finished = subst (λ b. IsTurnIf b old old) (sym finished) refl
 
 -- what was received by what stands within a connector was received by the connector
 pub took : (inside now new : Incoming ToConnector (Option Past)) (message other : ToConnector) → inside ≡ now
@@ -401,11 +444,12 @@ at_start at (Some saved) same = same
 
 -- nothing was said yet, over whatever a store holds
 pub begins : (inbox : Incoming ToConnector (Option Past)) (polls : Outgoing ToLedger (Unit {0}))
-    (packets : Outgoing ToBroker (Unit {0})) (held : Option Saved) (honest : Bool) (start : Option ℕ) (window : ℕ)
+    (packets : Outgoing ToBroker (Unit {0})) (held : Option Saved) (honest : Bool) (risks : Risks) (start : Option ℕ)
+    (window : ℕ)
     (restarts : List ℕ) → inbox.received ≡ [] → inbox.senders ≡ 2 → polls.number ≡ 0 → polls.sent ≡ [] → packets.number ≡ 0
     → packets.sent ≡ [] → IsWindow window
-    → IsConnectorEnd (first_work inbox polls packets held honest start window restarts)
-begins inbox polls packets held honest start window restarts fresh two to_ledger asked to_broker published fits =
+    → IsConnectorEnd (first_work inbox polls packets held honest risks start window restarts)
+begins inbox polls packets held honest risks start window restarts fresh two to_ledger asked to_broker published fits =
     let no_packets : packets_in packets.sent ≡ [] =
     ap (λ (l : List (ToBroker × Unit {0})). packets_in l) published in
     let no_confirms : confirms_in (of_sender 1 inbox.received) ≡ [] =

@@ -4,6 +4,7 @@ use Rattle.std.specs.Prelude.{unwrap_or}
 use Rattle.cdc_ends.specs.ConnectorEnds.{Publishing, SessionStands}
 use Rattle.cdc_ends.specs.ConnectorMoves.{IsBegun}
 use Rattle.cdc_progress.specs.Records.{Saved}
+use Rattle.cdc_progress.specs.Stores.{Risks}
 use Rattle.cdc_publisher.specs.Courses.{Course, new_course}
 use Rattle.cdc_publisher.specs.Kept.{Kept}
 use Rattle.cdc_publisher.specs.Starts.{HasStarted}
@@ -13,7 +14,8 @@ pub begun_entry : (inside now new : Publishing) → inside ≡ now → IsBegun i
 begun_entry inside now new same begun = subst (λ (c : Publishing). IsBegun c new) same begun
 
 -- a session has started: the number after the one that was loaded is held, and no later session is told where to start
-pub begun_so : (old : Publishing) (kept : Kept) (held : Option Saved) (honest : Bool) (base failed failed' : ℕ)
+pub begun_so : (old : Publishing) (kept : Kept) (held : Option Saved) (honest : Bool) (risks : Risks)
+    (base failed failed' : ℕ)
     → HasStarted (record {
       honest = old.honest;
       before = old.held;
@@ -21,18 +23,19 @@ pub begun_so : (old : Publishing) (kept : Kept) (held : Option Saved) (honest : 
       failed_before = failed;
       failed_after = failed';
     }) old.start old.window kept
-    → honest ≡ old.honest
+    → honest ≡ old.honest → risks ≡ old.risks
     → ((course : Course) → SessionStands (Some kept) (Some course) → base ≡ unwrap_or old.first course.base)
     → IsBegun old (record old {
       start = None;
       first = Some base;
       held = held;
       honest = honest;
+      risks = risks;
       session = Some kept;
       asked = 0;
       poll = None;
     })
-begun_so old kept held honest base failed failed' has same is_base =
+begun_so old kept held honest risks base failed failed' has same same_risks is_base =
     let based : base ≡ unwrap_or old.first has.saved.timestamp = is_base (new_course has.saved old.window) has.stands in
     record {
       loaded = has.loaded;
@@ -45,6 +48,7 @@ begun_so old kept held honest base failed failed' has same is_base =
         first = Some (based i);
         held = has.held i;
         honest = same i;
+        risks = same_risks i;
         session = Some kept;
         asked = 0;
         poll = None;

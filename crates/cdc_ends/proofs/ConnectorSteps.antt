@@ -64,7 +64,7 @@ next_saved_is None (Some held) saved is = either (held.session == last_session) 
         subst (IsNext None (Some held)) (same_Ok next saved (Ok next) refl is) (record { number = refl; origin = refl })
 
 -- so the run has the same origin then
-origin_kept : (c : Publishing) (saved : Saved) → begun c.held c.start ≡ Ok saved
+pub origin_kept : (c : Publishing) (saved : Saved) → begun c.held c.start ≡ Ok saved
     → record { after = unwrap_or c.first saved.timestamp; start = saved.start } ≡ origin_of c
 origin_kept c saved begins =
     ap (λ (o : Origin). record { after = unwrap_or c.first o.after; start = o.start })
@@ -114,6 +114,7 @@ GoesOn-begun old new on =
       polls = refl;
       packets = refl;
       honest = refl;
+      risks = refl;
       origin = λ gives. origin_kept old on.saved (begins_over old new on gives);
       window = refl;
       restarts = refl;

@@ -1,18 +1,17 @@
 -- What the parts of a connector's turn come to.
-use Rattle.std.proofs.Common.{◌≡◌, ◌==◌, ℕ, zero, suc, ◌+◌, ◌≤◌, Bool, true, false, List, inl, inr, refl, sym, ap, ap₂, ◌∙◌, subst, arith}
+use Rattle.std.proofs.Common.{◌≡◌, ◌==◌, ℕ, zero, suc, ◌+◌, ◌<◌, ◌≤◌, Bool, true, false, List, inl, inr, refl, sym, ap, ap₂, ◌∙◌, subst, arith}
 use Rattle.std.specs.Prelude.{◌&&◌, ◌⊎◌, is_some, not, IfOk, Option, Some, None, Result, Ok, Err, if◌then◌else◌}
 use Rattle.std.specs.Option.{option_map}
 use Rattle.std.proofs.lemmas.Bool.Decides.{nat_tests}
 use Rattle.std.specs.List.{list_any}
-use Rattle.cdc_ends.specs.ConnectorEnds.{HasFollowed, IsOfSame, IsPublishing, Publishing, RisesBy, is_publish, planned_up_to, poll_for}
-use Rattle.cdc_ends.specs.ConnectorMoves.{AreSent, GoesOn, IsBegun, IsFollowed, IsPacketSent, IsSending, IsSentNext, asked_if, finished_if, publish_count, with_poll}
+use Rattle.cdc_ends.specs.ConnectorEnds.{HasFollowed, IsOfSame, IsPublishing, Origin, Publishing, RisesBy, first_origin, is_publish, planned_up_to, poll_for}
+use Rattle.cdc_ends.specs.ConnectorMoves.{AreSent, GoesOn, KeepsMoment, IsBegun, IsFollowed, IsPacketSent, IsSending, IsSentNext, asked_if, finished_if, publish_count, with_poll}
 use Rattle.cdc_ends.proofs.ConnectorSteps.{GoesOn-begun, IsPublishing-asked, IsPublishing-begun, IsPublishing-finished, IsPublishing-none, IsPublishing-sent, finished-begun, next_saved_is}
-use Rattle.cdc_laws.specs.Connectors.{held_number}
+use Rattle.cdc_laws.specs.Connectors.{held_number, held_timestamp}
 use Rattle.cdc_message.specs.declared.packets.Packet.{Packet}
 use Rattle.cdc_progress.specs.Records.{Saved}
-use Rattle.cdc_publisher.specs.Courses.{Course, begun, is_done, last_session, new_course, next_packet, next_poll}
+use Rattle.cdc_publisher.specs.Courses.{Course, is_done, new_course, next_packet, next_poll}
 use Rattle.cdc_publisher.specs.declared.session.Poll.{Poll as Wanted}
-use Rattle.std.proofs.lemmas.Option.{none-some, same_Some}
 use Rattle.cdc_traffic.specs.declared.polls.Poll.{Poll}
 
 -- ---- what stays
@@ -25,6 +24,7 @@ GoesOn-same c =
       polls = refl;
       packets = refl;
       honest = refl;
+      risks = refl;
       origin = λ _. refl;
       window = refl;
       restarts = refl;
@@ -36,6 +36,7 @@ GoesOn-trans a b c one two = record {
   polls = two.polls ∙ one.polls;
   packets = two.packets ∙ one.packets;
   honest = two.honest ∙ one.honest;
+  risks = two.risks ∙ one.risks;
   origin = λ gives. two.origin (one.honest ∙ gives) ∙ one.origin gives;
   window = two.window ∙ one.window;
   restarts = two.restarts ∙ one.restarts;
@@ -69,6 +70,47 @@ RisesBy-begun old new on = λ gives.
     let planned : planned_up_to new.restarts new.published ≡ planned_up_to old.restarts old.published =
     ap (λ (c : Publishing). planned_up_to c.restarts c.published) on.after in
     omega (arith, number, planned)
+
+-- ---- the timestamp that is held
+
+pub KeepsMoment-same : (old new : Publishing) → new.held ≡ old.held → KeepsMoment old new
+KeepsMoment-same old new held =
+    let number : held_number new.held ≡ held_number old.held = ap held_number held in
+    record { number = λ gives. omega (arith, number); moment = λ gives some. ap held_timestamp held }
+
+pub KeepsMoment-trans : (a b c : Publishing) → b.honest ≡ a.honest → KeepsMoment a b → KeepsMoment b c
+    → KeepsMoment a c
+KeepsMoment-trans a b c same one two = record {
+  number = λ gives.
+      let first = one.number gives in
+      let then_on = two.number (same ∙ gives) in
+      omega (arith, first, then_on);
+  moment = λ gives some.
+      let first = one.number gives in
+      two.moment (same ∙ gives) (omega (arith, first, some)) ∙ one.moment gives some;
+}
+
+-- once a number is held, the timestamp with it is where the next session begins
+moment_held : (at : Option ℕ) (held : Option Saved) → 0 < held_number held
+    → (first_origin at held).after ≡ held_timestamp held
+moment_held at None some = absurd (omega (arith, some))
+moment_held at (Some saved) some = refl
+
+pub KeepsMoment-begun : (old new : Publishing) → IsBegun old new → KeepsMoment old new
+KeepsMoment-begun old new on =
+    let next = next_saved_is old.start on.loaded on.saved on.begins in
+    let holds : new.held ≡ Some on.saved = ap (λ (c : Publishing). c.held) on.after in
+    record {
+      number = λ gives.
+          let number : held_number new.held ≡ held_number old.held + 1 =
+          ap held_number holds ∙ next.number ∙ ap (λ o. held_number o + 1) (on.given gives) in
+          omega (arith, number);
+      moment = λ gives some.
+          ap held_timestamp holds
+          ∙ ap (λ (o : Origin). o.after) next.origin
+          ∙ ap (λ o. (first_origin old.start o).after) (on.given gives)
+          ∙ moment_held old.start old.held some;
+    }
 
 -- ---- a packet is sent
 
@@ -107,6 +149,7 @@ module _ (old mid : Publishing) (sending : IsSending old) (room : old.unanswered
           polls = refl;
           packets = refl;
           honest = refl;
+          risks = refl;
           origin = λ _. refl;
           window = refl;
           restarts = refl;
@@ -133,6 +176,7 @@ module _ (old mid : Publishing) (sending : IsSending old) (room : old.unanswered
           polls = refl;
           packets = refl;
           honest = refl;
+          risks = refl;
           origin = λ _. refl;
           window = refl;
           restarts = refl;
@@ -156,6 +200,7 @@ sent_none old mid is = record {
   one = is.one;
   goes_on = is.goes_on;
   sessions = RisesBy-same old mid is.held is.goes_on.restarts (published_same is.count (is.quiet refl) is.published);
+  moment = KeepsMoment-same old mid is.held;
 }
   where
     published_same : (n : ℕ) → n ≡ 0 → mid.published ≡ old.published + n → mid.published ≡ old.published
@@ -219,6 +264,7 @@ module _ (old mid : Publishing) (is : IsSentBefore old true mid) where
         one = is.one;
         goes_on = is.goes_on;
         sessions = λ gives. omega (arith, planned, number);
+        moment = KeepsMoment-same old mid is.held;
       }
 
   -- one is
@@ -239,18 +285,21 @@ module _ (old mid : Publishing) (is : IsSentBefore old true mid) where
         goes_on = GoesOn-trans old mid new is.goes_on (GoesOn-begun mid new on);
         sessions = λ gives.
             let rise = RisesBy-begun mid new on (is.goes_on.honest ∙ gives) in omega (arith, rise, planned, number);
+        moment = KeepsMoment-trans old mid new is.goes_on.honest (KeepsMoment-same old mid is.held)
+            (KeepsMoment-begun mid new on);
       }
 
 -- ---- packets as long as there is one
 
 -- there is no more
-pub all_sent : (old here new : Publishing) → GoesOn old here → RisesBy 0 old here → IsSentNext here false new
-    → AreSent old new
-all_sent old here new on rise is = record {
+pub all_sent : (old here new : Publishing) → GoesOn old here → RisesBy 0 old here → KeepsMoment old here
+    → IsSentNext here false new → AreSent old new
+all_sent old here new on rise moment is = record {
   sends = is.sends;
   all = inl (is.none refl);
   goes_on = GoesOn-trans old here new on is.goes_on;
   sessions = RisesBy-trans 0 0 old here new on.honest rise is.sessions;
+  moment = KeepsMoment-trans old here new on.honest moment is.moment;
 }
 
 -- ---- what is asked
@@ -274,6 +323,7 @@ pub record IsAskedFor (old : Publishing) (course : Course) (new : Publishing) : 
   pub unanswered : new.unanswered ≡ old.unanswered
   pub goes_on : GoesOn old new
   pub sessions : RisesBy 0 old new
+  pub held : new.held ≡ old.held
 
 module _ (c : Publishing) (sends : IsSending c) where
   -- what is the same of a connector that asks, whether it does or not
@@ -286,6 +336,7 @@ module _ (c : Publishing) (sends : IsSending c) where
     unanswered = refl;
     goes_on = GoesOn-same c;
     sessions = RisesBy-same c c refl refl refl;
+    held = refl;
   }
   asked_with (Some poll) none is =
       let new : Publishing = with_poll (Some poll) c in
@@ -299,11 +350,13 @@ module _ (c : Publishing) (sends : IsSending c) where
           polls = refl;
           packets = refl;
           honest = refl;
+          risks = refl;
           origin = λ _. refl;
           window = refl;
           restarts = refl;
         };
         sessions = RisesBy-same c new refl refl refl;
+        held = refl;
       }
 
   asked_over : (o : Option Poll) → c.poll ≡ o → IsAskedFor c sends.course (asked_if o sends.course c)
@@ -315,6 +368,7 @@ module _ (c : Publishing) (sends : IsSending c) where
     unanswered = refl;
     goes_on = GoesOn-same c;
     sessions = RisesBy-same c c refl refl refl;
+    held = refl;
   }
 
   pub asked_so : (new : Publishing) → new ≡ asked_if c.poll sends.course c → IsAskedFor c sends.course new
@@ -339,6 +393,8 @@ module _ (old sent asked : Publishing) (are : AreSent old sent) (is : IsAskedFor
     sessions = RisesBy-trans 0 0 old asked (finished_if done asked)
         (is.goes_on.honest ∙ are.goes_on.honest)
         (RisesBy-trans 0 0 old sent asked are.goes_on.honest are.sessions is.sessions) (rises done);
+    moment = KeepsMoment-trans old sent (finished_if done asked) are.goes_on.honest are.moment
+        (KeepsMoment-same sent (finished_if done asked) (holds done ∙ is.held));
   }
     where
       goes : (b : Bool) → GoesOn asked (finished_if b asked)
@@ -347,11 +403,16 @@ module _ (old sent asked : Publishing) (are : AreSent old sent) (is : IsAskedFor
         polls = refl;
         packets = refl;
         honest = refl;
+        risks = refl;
         origin = λ _. refl;
         window = refl;
         restarts = refl;
       }
       goes false = GoesOn-same asked
+
+      holds : (b : Bool) → (finished_if b asked).held ≡ asked.held
+      holds true = refl
+      holds false = refl
 
       rises : (b : Bool) → RisesBy 0 asked (finished_if b asked)
       rises true = RisesBy-same asked (finished_if true asked) refl refl refl
@@ -386,6 +447,7 @@ same_of old new on =
       polls = on.polls;
       packets = on.packets;
       honest = on.honest;
+      risks = on.risks;
       origin = on.origin;
       window = on.window;
       restarts = on.restarts;
@@ -396,6 +458,7 @@ same_trans a b c one two = record {
   polls = two.polls ∙ one.polls;
   packets = two.packets ∙ one.packets;
   honest = two.honest ∙ one.honest;
+  risks = two.risks ∙ one.risks;
   origin = λ gives. two.origin (one.honest ∙ gives) ∙ one.origin gives;
   window = two.window ∙ one.window;
   restarts = two.restarts ∙ one.restarts;

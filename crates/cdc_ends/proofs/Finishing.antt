@@ -12,10 +12,9 @@ use Rattle.cdc_broker.specs.Packets.{items_of}
 use Rattle.cdc_broker.specs.Queues.{QueueState, empty_queue, next_delivery}
 use Rattle.cdc_ends.specs.BrokerDesks.{HasHeard, MayStop}
 use Rattle.cdc_ends.specs.BrokerEnds.{Dealings, Desk, IsBrokerEnd, IsDesk, IsServed, IsWhole, acks_at, as_confirm, dealings, is_over, no_dealings, packets_in}
-use Rattle.cdc_ends.specs.BrokerTurns.{HasTurned, IsFreshLink, Turns, all_served, first_consumer, first_desk, heard, stopped, stopped_if, with_stop}
+use Rattle.cdc_ends.specs.BrokerTurns.{HasTurned, IsFreshLink, all_served, first_consumer, first_desk, heard, stopped, stopped_if, with_stop}
 use Rattle.cdc_ends.specs.declared.broker_plans.BrokerPlan.{BrokerPlan}
 use Rattle.cdc_ends.specs.declared.consumers.Consumer.{Consumer}
-use Rattle.cdc_ends.specs.declared.turns.Turn.{Turn}
 use Rattle.cdc_ends.proofs.Hearing.{GoesOn, GoesOn-heard, IsServedTo, IsServedTo-first, IsServedTo-next, served_one}
 use Rattle.cdc_ends.proofs.Places.{HoldsOfAll, HoldsOfAll-consumers, slice_get_made}
 use Rattle.cdc_ends.proofs.Serving.{IsServed-first, IsServed-stop, MayStop-served, deliveries_in-stop, whole_queue}
@@ -162,14 +161,6 @@ turned_is old new is goes has =
     served_first (length old.consumers) (length old.consumers) (heard has.entry old) on (omega arith) in
     subst IsBrokerEnd (sym has.after)
     (IsBrokerEnd-stopped (all_served (length old.consumers) (heard has.entry old)) (length old.consumers) all)
-
--- whether or not it had finished
-pub turns_is : (old new : Desk) (turn : Turn) → IsBrokerEnd old → Turns old.finished old turn new → IsBrokerEnd new
-turns_is old new turn is turns = go old.finished refl turns
-  where
-    go : (b : Bool) → old.finished ≡ b → Turns b old turn new → IsBrokerEnd new
-    go true done turns = subst IsBrokerEnd (sym turns.1) is
-    go false goes turns = turned_is old new is goes turns.0
 
 -- ---- the beginning
 

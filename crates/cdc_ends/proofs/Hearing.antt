@@ -227,7 +227,7 @@ module _ (d : Desk) (is : IsDesk d) (name : Unit {0}) where
     sent_packet : of_sender 0 (d.inbox.received ++ entry_of ∷ []) ≡ of_sender 0 d.inbox.received ++ entry_of.1 ∷ []
     sent_packet = of_sender-snoc_own entry_of d.inbox.received
 
-    made_packet : dealings_of (after_entry d entry_of) ≡ with_packet d.plan (dealings_of d) packet
+    pub made_packet : dealings_of (after_entry d entry_of) ≡ with_packet d.plan (dealings_of d) packet
     made_packet =
         ap (λ (l : List (ToBroker × Unit {0})). dealings d.plan (packets_in l)) sent_packet
         ∙ ap (dealings d.plan) (packets_in-push (of_sender 0 d.inbox.received) entry_of.1)

@@ -6,9 +6,9 @@ use Rattle.std.proofs.lemmas.Option.{get_or_from_slice_get, unwrap_or-slice_get}
 use Rattle.cdc_broker.specs.Broker.{BrokerState, after_packet, nobody, queue_of, takes_packet}
 use Rattle.cdc_broker.specs.Queues.{QueueState, acknowledged, empty_queue, item_for, next_delivery, queued, with_item}
 use Rattle.cdc_ends.specs.BrokerEnds.{Desk, is_lost, is_over}
-use Rattle.cdc_ends.specs.BrokerTurns.{HasSameLinks, HasTurned, Lane, Turns, acked_if, all_served, coming_if, handed_out, heard, lane_of, served_if, stopped, stopped_if, with_counted, with_lane, with_next, with_one_fewer, with_served, with_stop}
+use Rattle.cdc_ends.specs.BrokerTurns.{HasSameLinks, HasTurned, Lane, acked_if, all_served, coming_if, handed_out, heard, lane_of, served_if, stopped, stopped_if, with_counted, with_lane, with_next, with_one_fewer, with_served, with_stop}
 use Rattle.cdc_ends.specs.declared.consumers.Consumer.{Consumer}
-use Rattle.cdc_ends.specs.declared.turns.Turn.{Turn}
+use Rattle.cdc_ends.specs.Seats.{broker_seat}
 use Rattle.cdc_ends.proofs.Serving.{same_handed_out}
 use Rattle.cdc_links.specs.Links.{LinkId, with_received}
 use Rattle.cdc_match.specs.Arguments.{Arguments}
@@ -27,10 +27,10 @@ link_in c = c.link.link
 abbrev binding_in : QueueState → Arguments
 binding_in q = q.binding
 
-same_links : (d : Desk) → HasSameLinks d d
+pub same_links : (d : Desk) → HasSameLinks d d
 same_links d = record { inbox = refl; confirms = refl; consumers = refl; bindings = refl }
 
-then_same : (a b c : Desk) → HasSameLinks a b → HasSameLinks b c → HasSameLinks a c
+pub then_same : (a b c : Desk) → HasSameLinks a b → HasSameLinks b c → HasSameLinks a c
 then_same a b c first next = record {
   inbox = next.inbox ∙ first.inbox;
   confirms = next.confirms ∙ first.confirms;
@@ -39,7 +39,7 @@ then_same a b c first next = record {
 }
 
 -- a lane that changes
-lane_same : (d : Desk) (place : ℕ) (c : Consumer) (lane : Lane) → slice_get d.consumers place ≡ Some c
+pub lane_same : (d : Desk) (place : ℕ) (c : Consumer) (lane : Lane) → slice_get d.consumers place ≡ Some c
     → link_in lane.consumer ≡ link_in c → lane.queue.binding ≡ (queue_of d.broker (place + 1)).binding
     → HasSameLinks d (with_lane place lane d)
 lane_same d place c lane found linked bound = record {
@@ -73,7 +73,7 @@ served_same d place (Some c) is =
     (handed_linked d.plan.repeat.items (place + 1) (d.prefetch - c.unacked) lane)
     (same_handed_out d.plan.repeat.items (place + 1) (d.prefetch - c.unacked) lane).binding
 
-all_same : (n : ℕ) (d : Desk) → HasSameLinks d (all_served n d)
+pub all_same : (n : ℕ) (d : Desk) → HasSameLinks d (all_served n d)
 all_same zero d = same_links d
 all_same (suc n) d =
     then_same d (all_served n d) (with_served n (all_served n d)) (all_same n d)
@@ -95,7 +95,7 @@ packet_bound : (b : BrokerState) (packet : Packet)
 packet_bound b (Connect session) = refl
 packet_bound b (Publish session tag item) = queued_bound item b.queues
 
-coming_same : (lost takes : Bool) (packet : Packet) (d : Desk)
+pub coming_same : (lost takes : Bool) (packet : Packet) (d : Desk)
     → HasSameLinks d (coming_if lost takes packet (with_counted packet d))
 coming_same true takes packet d = record { inbox = refl; confirms = refl; consumers = refl; bindings = refl }
 coming_same false true packet d =
@@ -109,7 +109,8 @@ acked_same d place position (Some c) is =
     lane_same d place c
     (record { queue = acknowledged position (queue_of d.broker (place + 1)); consumer = with_one_fewer c }) is refl refl
 
-heard_same : (d : Desk) (j : ℕ) (message : ToBroker) (name : Unit {0}) → HasSameLinks d (heard (j, (message, name)) d)
+pub heard_same : (d : Desk) (j : ℕ) (message : ToBroker) (name : Unit {0})
+    → HasSameLinks d (heard (j, (message, name)) d)
 heard_same d j message name = go message
   where
     came : ToBroker → Desk
@@ -138,15 +139,23 @@ stopped_same true d =
     record { inbox = refl; confirms = refl; consumers = stops_linked d.consumers; bindings = refl }
 stopped_same false d = same_links d
 
--- so a turn does, whether or not the end had finished
-turned_same : (old new : Desk) → HasTurned old new → HasSameLinks old new
-turned_same old new has =
+-- so a turn does
+turned_links : (old new : Desk) → HasTurned old new → HasSameLinks old new
+turned_links old new has =
     let came : Desk = heard has.entry old in
     let all : Desk = all_served (length old.consumers) came in
     subst (HasSameLinks old) (sym has.after)
     (then_same old came (stopped all) (heard_same old has.entry.0 has.entry.1.0 has.entry.1.1)
     (then_same came all (stopped all) (all_same (length old.consumers) came) (stopped_same (is_over all) all)))
 
-pub turns_same : (finished : Bool) (old new : Desk) (turn : Turn) → Turns finished old turn new → HasSameLinks old new
-turns_same true old new turn turns = subst (HasSameLinks old) (sym turns.1) (same_links old)
-turns_same false old new turn turns = turned_same old new turns.0
+-- and it stands where it stood
+pub links_seat : (old new : Desk) → HasSameLinks old new → broker_seat new ≡ broker_seat old
+links_seat old new same = λ i. record {
+  inbox = same.inbox i;
+  confirms = same.confirms i;
+  subscribers = same.consumers i;
+  bindings = same.bindings i;
+}
+
+pub turned_same : (old new : Desk) → HasTurned old new → broker_seat new ≡ broker_seat old
+turned_same old new has = links_seat old new (turned_links old new has)

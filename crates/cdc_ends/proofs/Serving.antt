@@ -112,7 +112,7 @@ module _ (prefetch acks : ℕ) where
       more n = omega arith
 
   -- what is next may be handed out
-  next_served : (repeats : List (ℕ × ℕ)) (number : ℕ) (found : Option Delivery) (lane : Lane)
+  pub next_served : (repeats : List (ℕ × ℕ)) (number : ℕ) (found : Option Delivery) (lane : Lane)
       → next_delivery lane.queue ≡ found → lane.consumer.unacked < prefetch
       → IsServed false prefetch acks lane.queue lane.consumer
       → IsServed false prefetch acks (with_next repeats number found lane).queue

@@ -4,10 +4,9 @@ use Rattle.std.specs.Prelude.{◌||◌}
 use Rattle.std.specs.List.{list_any}
 use Rattle.std.proofs.lemmas.List.{map-append}
 use Rattle.std.proofs.lemmas.List.Elements.{filter_map-append}
-use Rattle.cdc_ends.specs.SubscriberEnds.{HasReceived, Intake, IsSubscriberEnd, IsTurned, ack_of, delivery_of, heard_by, stop_if, taken_by, with_message}
-use Rattle.cdc_ends.specs.declared.turns.Turn.{Turn}
+use Rattle.cdc_ends.specs.SubscriberEnds.{HasReceived, Intake, IsSubscriberEnd, ack_of, delivery_of, heard_by, stop_if, taken_by, with_message}
 use Rattle.cdc_ends.proofs.Closing.{deliveries_are_heard}
-use Rattle.cdc_links.specs.Links.{of_sender}
+use Rattle.cdc_links.specs.Links.{Incoming, of_sender, with_received}
 use Rattle.cdc_links.proofs.Entries.{of_sender-snoc_own}
 use Rattle.cdc_message.specs.declared.items.Delivery.{Delivery}
 use Rattle.cdc_subscriber.specs.Heard.{kept_of}
@@ -47,13 +46,29 @@ module _ (c : Intake) (is : IsSubscriberEnd c) where
         ∙ append-nil (map Hands (taken_by c.inbox))
 
     -- what a message more makes of what came of the broker
-    of_broker_more : (message : ToSubscriber)
+    pub of_broker_more : (message : ToSubscriber)
         → of_sender 0 (c.inbox.received ++ (0, (message, tt)) ∷ [])
         ≡ map (λ e. e.1) (c.inbox.received ++ (0, (message, tt)) ∷ [])
     of_broker_more message =
         of_sender-snoc_own (0, (message, tt)) c.inbox.received
         ∙ ap (λ (l : List (ToSubscriber × Unit {0})). l ++ (message, tt) ∷ []) is.of_broker
         ∙ sym (map-append (λ (e : ℕ × (ToSubscriber × Unit {0})). e.1) c.inbox.received ((0, (message, tt)) ∷ []))
+
+    -- and a delivery more of what it has received
+    pub came_more : (d : Delivery)
+        → map (λ e. e.1.0) (c.inbox.received ++ (0, (Hands d, tt)) ∷ [])
+        ≡ map Hands (taken_by (with_received c.inbox (0, (Hands d, tt)))) ++ stop_if c.finished
+    came_more d =
+        let next : Incoming ToSubscriber (Unit {0}) = with_received c.inbox (0, (Hands d, tt)) in
+        let brings : ℕ × (ToSubscriber × Unit {0}) → Option Delivery = λ e. delivery_of e.1.0 in
+        let more : taken_by next ≡ taken_by c.inbox ++ d ∷ [] =
+        filter_map-append brings c.inbox.received ((0, (Hands d, tt)) ∷ []) in
+        map-append (λ (e : ℕ × (ToSubscriber × Unit {0})). e.1.0) c.inbox.received ((0, (Hands d, tt)) ∷ [])
+        ∙ ap (λ (l : List ToSubscriber). l ++ Hands d ∷ []) came_so_far
+        ∙ sym (map-append Hands (taken_by c.inbox) (d ∷ []))
+        ∙ ap (map Hands) (sym more)
+        ∙ sym (append-nil (map Hands (taken_by next)))
+        ∙ ap (λ (b : Bool). map Hands (taken_by next) ++ stop_if b) (sym goes_on)
 
     -- with a delivery more it is one still
     taken_is : (d : Delivery) → IsSubscriberEnd (with_message (Hands d) c)
@@ -62,18 +77,12 @@ module _ (c : Intake) (is : IsSubscriberEnd c) where
         let brings : ℕ × (ToSubscriber × Unit {0}) → Option Delivery = λ e. delivery_of e.1.0 in
         let more : taken_by next.inbox ≡ taken_by c.inbox ++ d ∷ [] =
         filter_map-append brings c.inbox.received ((0, (Hands d, tt)) ∷ []) in
-        let all : List Delivery = taken_by c.inbox ++ d ∷ [] in
         record {
           first = is.first;
           own = is.own;
           alone = is.alone;
           of_broker = of_broker_more (Hands d);
-          came = map-append (λ (e : ℕ × (ToSubscriber × Unit {0})). e.1.0) c.inbox.received ((0, (Hands d, tt)) ∷ [])
-              ∙ ap (λ (l : List ToSubscriber). l ++ Hands d ∷ []) came_so_far
-              ∙ sym (map-append Hands (taken_by c.inbox) (d ∷ []))
-              ∙ ap (map Hands) (sym more)
-              ∙ sym (append-nil (map Hands (taken_by next.inbox)))
-              ∙ ap (λ (b : Bool). map Hands (taken_by next.inbox) ++ stop_if b) (sym goes_on);
+          came = came_more d;
           acknowledged = map-append (λ (m : ToBroker × Unit {0}). m.0) c.acks.sent ((ack_of c.number d, tt) ∷ [])
               ∙ ap (λ (l : List ToBroker). l ++ ack_of c.number d ∷ []) is.acknowledged
               ∙ sym (map-append (ack_of c.number) (taken_by c.inbox) (d ∷ []))
@@ -107,11 +116,6 @@ module _ (c : Intake) (is : IsSubscriberEnd c) where
     received_is Stop = stopped_is
 
 -- after a turn it is one still
-pub turned_is : (old new : Intake) (turn : Turn) → IsSubscriberEnd old → IsTurned old turn new → IsSubscriberEnd new
-turned_is old new turn is turned = go old.finished refl
-  where
-    go : (b : Bool) → old.finished ≡ b → IsSubscriberEnd new
-    go true finished = subst IsSubscriberEnd (sym (turned.stays finished)) is
-    go false goes_on =
-        let has : HasReceived old new = turned.goes_on goes_on in
-        subst IsSubscriberEnd (sym has.after) (received_is old is goes_on has.message)
+pub turned_is : (old new : Intake) → IsSubscriberEnd old → old.finished ≡ false → HasReceived old new
+    → IsSubscriberEnd new
+turned_is old new is goes_on has = subst IsSubscriberEnd (sym has.after) (received_is old is goes_on has.message)

@@ -48,7 +48,7 @@ module _ (c : Talk) (is : IsClient c) where
   -- of a client that hasn't finished
   module _ (talks : c.finished ≡ false) where
     -- it has sent a request for each reply
-    said_so_far : map (λ m. m.0) c.requests.sent ≡ requests_from c.number 1 c.replies
+    pub said_so_far : map (λ m. m.0) c.requests.sent ≡ requests_from c.number 1 c.replies
     said_so_far =
         is.said
         ∙ ap (λ (b : Bool). requests_from c.number 1 c.replies ++ done_if b c.number) talks

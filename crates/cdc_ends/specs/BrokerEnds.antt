@@ -6,7 +6,6 @@ use Rattle.cdc_broker.specs.Packets.{is_taken, items_of}
 use Rattle.cdc_broker.specs.Queues.{QueueState, next_delivery}
 use Rattle.cdc_ends.specs.declared.broker_plans.BrokerPlan.{BrokerPlan}
 use Rattle.cdc_ends.specs.declared.consumers.Consumer.{Consumer}
-use Rattle.cdc_ends.specs.declared.faults.RunFault.{RunFault}
 use Rattle.cdc_laws.specs.Arrivals.{AreAmong, taken_of}
 use Rattle.cdc_laws.specs.Brokers.{HasArrived, HasHandedOut}
 use Rattle.cdc_laws.specs.Takings.{session_of}
@@ -144,12 +143,6 @@ pub record Desk : Type 0 where
   pub accepted : ℕ
   pub connector_done : Bool
   pub finished : Bool
-
--- a broker's end: the number of the system that it is of, what it does, and the fault that it met
-pub record BrokerEndState : Type 0 where
-  pub system : ℕ
-  pub desk : Desk
-  pub fault : Option RunFault
 
 -- what it has made of the packets that it has received
 abbrev pub dealings_of : Desk → Dealings

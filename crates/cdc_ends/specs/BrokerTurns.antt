@@ -1,15 +1,11 @@
 -- What a turn of the broker's end makes of it: a message is received and answered, and the queues hand out.
-use Rattle.std.specs.Prelude.{◌≡◌, ◌==◌, ◌&&◌, ◌⊎◌, ℕ, zero, suc, ◌+◌, ◌-◌, ◌<◌, max, nat_lt, Bool, true, false, Option, Some, None, is_none, List, [], length, map, slice_get, slice_set, if◌then◌else◌}
+use Rattle.std.specs.Prelude.{◌≡◌, ◌==◌, ◌&&◌, ℕ, zero, suc, ◌+◌, ◌-◌, ◌<◌, max, nat_lt, Bool, true, false, Option, Some, None, List, [], length, map, slice_get, slice_set, if◌then◌else◌}
 use Rattle.std.specs.List.{list_any}
 use Rattle.cdc_broker.specs.Broker.{BrokerState, after_packet, queue_of, takes_packet, with_queue}
 use Rattle.cdc_broker.specs.Queues.{QueueState, acknowledged, is_unknown, next_delivery, rewound_queue, with_delivery}
-use Rattle.cdc_ends.specs.BrokerEnds.{BrokerEndState, Desk, answer_to, as_confirm, as_sent, confirm_of, counted, is_lost, is_over}
+use Rattle.cdc_ends.specs.BrokerEnds.{Desk, answer_to, as_confirm, as_sent, confirm_of, counted, is_lost, is_over}
 use Rattle.cdc_ends.specs.declared.broker_plans.BrokerPlan.{BrokerPlan}
 use Rattle.cdc_ends.specs.declared.consumers.Consumer.{Consumer}
-use Rattle.cdc_ends.specs.declared.faults.RunFault.{RunFault}
-use Rattle.cdc_ends.specs.declared.faults.RunFault.TheVariants.{PeerGone, OutOfMemory}
-use Rattle.cdc_ends.specs.declared.turns.Turn.{Turn}
-use Rattle.cdc_ends.specs.declared.turns.Turn.TheVariants.{More, Finished}
 use Rattle.cdc_links.specs.Links.{Incoming, Outgoing, of_sender, with_received, with_sent}
 use Rattle.cdc_message.specs.declared.items.Delivery.{Delivery}
 use Rattle.cdc_message.specs.declared.packets.Answer.{Answer}
@@ -198,10 +194,7 @@ stopped d = stopped_if (is_over d) d
 abbrev pub turned : ℕ × (ToBroker × Unit {0}) → Desk → Desk
 turned entry d = stopped (all_served (length d.consumers) (heard entry d))
 
--- an end that has finished stays as it is; another one receives one message, and answers whether that was the last
-abbrev pub answer_of : Bool → Turn
-answer_of finished = if finished then Finished else More
-
+-- a message that may come was received, and all that follows was done
 pub record HasTurned (old new : Desk) : Type 0 where
   pub entry : ℕ × (ToBroker × Unit {0})
   pub sender : entry.0 < old.inbox.senders
@@ -216,19 +209,7 @@ pub record HasSameLinks (old new : Desk) : Type 0 where
   pub consumers : map (λ c. c.link.link) new.consumers ≡ map (λ c. c.link.link) old.consumers
   pub bindings : map (λ q. q.binding) new.broker.queues ≡ map (λ q. q.binding) old.broker.queues
 
-abbrev pub Turns : Bool → Desk → Turn → Desk → Type 0
-Turns true old turn new = (turn ≡ Finished) × (new ≡ old)
-Turns false old turn new = HasTurned old new × (turn ≡ answer_of new.finished)
-
--- a turn fails where a link refuses it, where an acknowledgement isn't due, or for want of memory
-abbrev pub IsTurnFault : RunFault → Type 0
-IsTurnFault fault = (fault ≡ PeerGone) ⊎ (fault ≡ OutOfMemory)
-
 -- ---- what is left in the end
-
--- the end has finished, and has met no fault
-abbrev pub has_finished : BrokerEndState → Bool
-has_finished end = is_none end.fault && end.desk.finished
 
 -- these are its ends of its links, and its broker
 pub record ArePartsOf (d : Desk) (inbox : Incoming ToBroker (Unit {0})) (confirms : Outgoing ToConnector (Option Past))

@@ -1,7 +1,6 @@
 -- What a client's end has said to the ledger, and what it was replied.
-use Rattle.std.specs.Prelude.{◌⊎◌, ◌≡◌, ℕ, ◌+◌, ◌<◌, Bool, true, false, ◌&&◌, Option, List, [], ◌∷◌, ◌++◌, is_none, length, map, if◌then◌else◌}
-use Rattle.cdc_ends.specs.declared.faults.RunFault.{RunFault}
-use Rattle.cdc_ends.specs.declared.faults.RunFault.TheVariants.{PeerGone, OutOfMemory}
+use Rattle.std.specs.Prelude.{◌≡◌, ℕ, ◌+◌, ◌<◌, Bool, true, false, List, [], ◌∷◌, ◌++◌, length, map, if◌then◌else◌}
+use Rattle.cdc_ends.specs.Ends.{EndState}
 use Rattle.cdc_ledger.specs.Submit.{IsLegal}
 use Rattle.cdc_links.specs.Links.{Incoming, Outgoing, of_sender, with_received, with_sent}
 use Rattle.cdc_traffic.specs.Answering.{answer_to}
@@ -21,12 +20,6 @@ pub record Talk : Type 0 where
   pub answers : Incoming Reply Past
   pub replies : List Reply
   pub finished : Bool
-
--- a client's end: the number of the system that it is of, its conversation, and the fault that it met
-pub record ClientState : Type 0 where
-  pub system : ℕ
-  pub talk : Talk
-  pub fault : Option RunFault
 
 -- a client's request of this number for this batch
 abbrev pub request_for : ℕ → ℕ → Batch → ToLedger
@@ -82,25 +75,16 @@ pub record IsAnswered (old : Talk) (batch : Batch) (reply : Reply) (new : Talk) 
   pub after : new ≡ with_reply old reply past
 
 -- the same of a client's end that has met no fault
-pub record IsReplied (old : ClientState) (batch : Batch) (reply : Reply) (new : ClientState) : Type 0 where
-  pub answered : IsAnswered old.talk batch reply new.talk
-  pub rest : new ≡ record old { talk = new.talk }
+pub record IsReplied (old : EndState Talk) (batch : Batch) (reply : Reply) (new : EndState Talk) : Type 0 where
+  pub answered : IsAnswered old.work batch reply new.work
+  pub rest : new ≡ record old { work = new.work }
 
 -- the conversation once the client has said that it is done, as it does once
 abbrev pub finished_talk : Talk → Talk
 finished_talk c =
     if c.finished then c else record c { requests = with_sent c.requests (Done c.number, tt); finished = true }
 
--- a submission fails where a link refuses it, where the reply isn't one to it, or for want of memory; that a client is
--- done, where its link refuses that
-abbrev pub IsTurnFault : RunFault → Type 0
-IsTurnFault fault = (fault ≡ PeerGone) ⊎ (fault ≡ OutOfMemory)
-
 -- ---- what is left in the end
-
--- the end has finished, and has met no fault
-abbrev pub has_finished : ClientState → Bool
-has_finished end = is_none end.fault && end.talk.finished
 
 -- these are its ends of its links, and its copies of the replies
 pub record ArePartsOf (c : Talk) (requests : Outgoing ToLedger (Unit {0})) (answers : Incoming Reply Past)

@@ -1,13 +1,11 @@
 -- What a connector's end has sent to the ledger and to the broker, and what it has received of them.
-use Rattle.std.specs.Prelude.{◌≡◌, ◌==◌, ◌⊎◌, ℕ, zero, suc, ◌+◌, ◌<◌, ◌≤◌, ◌&&◌, Bool, is_none, is_some, true, false, Option, Some, None, List, [], ◌∷◌, ◌++◌, Contains, length, map, unwrap_or, if◌then◌else◌}
+use Rattle.std.specs.Prelude.{◌≡◌, ◌==◌, ◌⊎◌, ℕ, zero, suc, ◌+◌, ◌<◌, ◌≤◌, ◌&&◌, Bool, is_some, true, false, Option, Some, None, List, [], ◌∷◌, ◌++◌, Contains, length, map, unwrap_or, if◌then◌else◌}
 use Rattle.std.specs.List.{filter, filter_map, list_any}
 use Rattle.std.specs.Option.{option_map}
 use Rattle.cdc_ends.specs.Faults.{IsSaveFault, IsStartFault}
 use Rattle.cdc_ends.specs.declared.faults.RunFault.{RunFault}
 use Rattle.cdc_ends.specs.declared.faults.RunFault.TheVariants.{PeerGone, OutOfMemory}
-use Rattle.cdc_ends.specs.declared.turns.Turn.{Turn}
-use Rattle.cdc_ends.specs.declared.turns.Turn.TheVariants.{More, Finished}
-use Rattle.cdc_laws.specs.Connectors.{ConnectorState, held_number, held_start}
+use Rattle.cdc_laws.specs.Connectors.{ConnectorState, held_number, held_start, held_timestamp}
 use Rattle.cdc_laws.specs.Readings.{KeepsToReadings}
 use Rattle.cdc_links.specs.Links.{Incoming, Outgoing, Takes, of_sender}
 use Rattle.cdc_message.specs.declared.items.Item.TheVariants.{Event as OfEvent}
@@ -17,7 +15,8 @@ use Rattle.cdc_message.specs.declared.packets.Confirm.{Confirm}
 use Rattle.cdc_message.specs.declared.packets.Packet.{Packet}
 use Rattle.cdc_message.specs.declared.packets.Packet.TheVariants.{Connect, Publish}
 use Rattle.cdc_progress.specs.Records.{Saved}
-use Rattle.cdc_publisher.specs.Courses.{Course, is_done, next_packet, next_poll}
+use Rattle.cdc_progress.specs.Stores.{Risks}
+use Rattle.cdc_publisher.specs.Courses.{Course, after_answer, confirmed_timestamp, is_done, next_packet, next_poll}
 use Rattle.cdc_publisher.specs.Kept.{Kept}
 use Rattle.cdc_publisher.specs.Polls.{IsWanted}
 use Rattle.cdc_publisher.specs.Stands.{StandsFor}
@@ -34,9 +33,9 @@ use Rattle.cdc_traffic.specs.declared.polls.Poll.{Poll}
 use Rattle.cdc_types.specs.Windows.{IsWindow}
 use Rattle.cdc_types.specs.declared.events.Event.{Event}
 
--- what a connector works with: its inbox; its ends of the links to the ledger and to the broker; the moment that its first
--- session is told to start after, if it is, until that has begun; the timestamp that its first session began after, once
--- one has; what its store holds, and whether it is honest; what its session keeps, if
+-- what a connector works with: its inbox; its ends of the links to the ledger and to the broker; the moment that its
+-- first session is told to start after, if it is, until that has begun; the timestamp that its first session began
+-- after, once one has; what its store holds, whether it is honest, and why it may refuse; what its session keeps, if
 -- one runs; how many polls that one has sent, and the one that is open; how many packets are without an answer, and for
 -- how many events a session waits; after which publish packets it restarts, and how many it has sent; and whether it
 -- has finished
@@ -48,6 +47,7 @@ pub record Publishing : Type 0 where
   pub first : Option ℕ
   pub held : Option Saved
   pub honest : Bool
+  pub risks : Risks
   pub session : Option Kept
   pub asked : ℕ
   pub poll : Option Poll
@@ -56,12 +56,6 @@ pub record Publishing : Type 0 where
   pub restarts : List ℕ
   pub published : ℕ
   pub finished : Bool
-
--- a connector's end: the number of the system that it is of, what it works with, and the fault that it met
-pub record ConnectorEndState : Type 0 where
-  pub system : ℕ
-  pub work : Publishing
-  pub fault : Option RunFault
 
 -- ---- what stands in its messages
 
@@ -126,6 +120,17 @@ abbrev pub ended_by : ℕ → ToConnector → ℕ
 ended_by number (to_connector.PollReply reply) = 0
 ended_by number (to_connector.Confirm confirm) = broken_by (confirm.session == number) confirm.answer
 
+-- the timestamp that is held once a message was taken by a session of this course: how far that has come with a confirm
+-- that moves it; what was held before any other message
+abbrev pub moment_after : ℕ → ℕ → ℕ → ℕ
+moment_after held before after = if after == before then held else after
+
+abbrev pub saved_by : ℕ → Course → ToConnector → ℕ
+saved_by held course (to_connector.PollReply reply) = held
+saved_by held course (to_connector.Confirm confirm) =
+    moment_after held (confirmed_timestamp course)
+    (confirmed_timestamp (after_answer course confirm.session confirm.answer))
+
 -- a message is a reply to another poll than the open one
 abbrev pub IsUnasked : Option Poll → ToConnector → Type 0
 IsUnasked asked (to_connector.PollReply reply) = asked ≡ Some reply.poll → ⊥
@@ -167,8 +172,8 @@ SessionStands None (Some course) = ⊥
 SessionStands (Some kept) None = ⊥
 SessionStands (Some kept) (Some course) = StandsFor kept course
 
--- a session has a number from 1 up, which is the one that is held, and the start that is held, and each event that it was
--- offered is one of a history that batches and a close make
+-- a session has a number from 1 up, which is the one that is held, and the start that is held, and each event that it
+-- was offered is one of a history that batches and a close make
 pub record IsRunning (saved : Option Saved) (course : Course) : Type 0 where
   pub number : 0 < course.number
   pub held : held_number saved ≡ course.number
@@ -271,12 +276,13 @@ pub record IsConnectorEnd (c : Publishing) : Type 0 where
 
 -- ---- a turn
 
--- whichever turn it is, these stay: which links its ends are of, whether its store is honest, and of an honest one where
--- the run began, its window and its plan of restarts
+-- whichever turn it is, these stay: which links its ends are of, whether its store is honest, why that may refuse, and
+-- of an honest one where the run began, its window and its plan of restarts
 pub record IsOfSame (old new : Publishing) : Type 0 where
   pub polls : new.polls.link ≡ old.polls.link
   pub packets : new.packets.link ≡ old.packets.link
   pub honest : new.honest ≡ old.honest
+  pub risks : new.risks ≡ old.risks
   pub origin : old.honest ≡ true → origin_of new ≡ origin_of old
   pub window : new.window ≡ old.window
   pub restarts : new.restarts ≡ old.restarts
@@ -288,29 +294,23 @@ pub record IsFirstTurn (old new : Publishing) : Type 0 where
   pub same : IsOfSame old new
 
 -- a later one receives a message. It begins a session besides those that the plan has where the message says that a
--- packet of the session that is held was lost; and a reply to another poll than the open one changes nothing else
+-- packet of the session that is held was lost; progress is saved after a confirm that moves how far the session has
+-- come, and after no other message; and a reply to another poll than the open one changes nothing else
 pub record IsLaterTurn (old new : Publishing) : Type 0 where
   pub message : ToConnector
   pub takes : Takes FollowsToConnector old.inbox message new.inbox
   pub sessions : RisesBy (ended_by (held_number old.held) message) old new
+  pub course : Course
+  pub stood : SessionStands old.session (Some course)
+  pub saves : old.honest ≡ true
+      → held_timestamp new.held ≡ saved_by (held_timestamp old.held) course message
   pub unasked : IsUnasked old.poll message → new ≡ record old { inbox = new.inbox }
   pub same : IsOfSame old new
 
--- once it has finished nothing changes; a turn in which no session runs is the first
+-- a turn in which no session runs is the first
 abbrev pub IsWorkingTurn : Option Kept → Publishing → Publishing → Type 0
 IsWorkingTurn None old new = IsFirstTurn old new
 IsWorkingTurn (Some kept) old new = IsLaterTurn old new
-
-abbrev pub IsTurnIf : Bool → Publishing → Publishing → Type 0
-IsTurnIf true old new = new ≡ old
-IsTurnIf false old new = IsWorkingTurn old.session old new
-
-abbrev pub IsTurn : Publishing → Publishing → Type 0
-IsTurn old new = IsTurnIf old.finished old new
-
--- what a turn answers
-abbrev pub turn_if : Bool → Turn
-turn_if finished = if finished then Finished else More
 
 -- a turn fails where a link refuses it, or hands out what wasn't asked for; for want of memory; where a session doesn't
 -- start; or where it isn't saved
@@ -320,11 +320,7 @@ IsTurnFault fault =
 
 -- ---- its end
 
--- its end has finished, and has met no fault
-abbrev pub has_finished : ConnectorEndState → Bool
-has_finished end = is_none end.fault && end.work.finished
-
--- what is left of a connector then: its ends of its links, and what its store holds
+-- what is left of a connector that has finished: its ends of its links, and what its store holds
 pub record ArePartsOf (c : Publishing) (inbox : Incoming ToConnector (Option Past))
     (polls : Outgoing ToLedger (Unit {0})) (packets : Outgoing ToBroker (Unit {0})) (saved : Option Saved)
     : Type 0 where
@@ -334,8 +330,8 @@ pub record ArePartsOf (c : Publishing) (inbox : Incoming ToConnector (Option Pas
   pub holds : saved ≡ c.held
 
 -- a connector that has finished: its last session is done, each of its packets has its confirm, and behind its polls
--- and its packets stand its last messages; the start of the run is held; and it keeps to every history of which the replies
--- that it has received are readings, where its store is honest and the run began at its start
+-- and its packets stand its last messages; the start of the run is held; and it keeps to every history of which the
+-- replies that it has received are readings, where its store is honest and the run began at its start
 pub record IsDone (c : Publishing) : Type 0 where
   pub course : Course
   pub done : is_done course ≡ true
@@ -353,10 +349,11 @@ FinishedConnectorsAreDone = (c : Publishing) → IsConnectorEnd c → c.finished
 
 -- ---- its first state
 
--- nothing was said yet, over a store that holds this; the first session is to start after this moment, if there is one
+-- nothing was said yet, over a store that holds this, and may refuse so; the first session is to start after this
+-- moment, if there is one
 abbrev pub first_work : Incoming ToConnector (Option Past) → Outgoing ToLedger (Unit {0})
-    → Outgoing ToBroker (Unit {0}) → Option Saved → Bool → Option ℕ → ℕ → List ℕ → Publishing
-first_work inbox polls packets held honest start window restarts = record {
+    → Outgoing ToBroker (Unit {0}) → Option Saved → Bool → Risks → Option ℕ → ℕ → List ℕ → Publishing
+first_work inbox polls packets held honest risks start window restarts = record {
   inbox = inbox;
   polls = polls;
   packets = packets;
@@ -364,6 +361,7 @@ first_work inbox polls packets held honest start window restarts = record {
   first = None;
   held = held;
   honest = honest;
+  risks = risks;
   session = None;
   asked = 0;
   poll = None;

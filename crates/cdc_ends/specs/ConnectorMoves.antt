@@ -1,7 +1,7 @@
 -- What the parts of a connector's turn do. Private contracts and proofs alone cite this file.
-use Rattle.std.specs.Prelude.{◌≡◌, ◌==◌, ◌⊎◌, ℕ, ◌+◌, Bool, true, false, Option, Some, None, Ok, cond, unwrap_or, if◌then◌else◌}
-use Rattle.cdc_ends.specs.ConnectorEnds.{HasFollowed, IsFirstTurn, IsOfSame, IsPublishing, IsUnasked, Publishing, RisesBy, SessionStands, ended_by, is_publish, origin_of, poll_for}
-use Rattle.cdc_laws.specs.Connectors.{held_number}
+use Rattle.std.specs.Prelude.{◌≡◌, ◌==◌, ◌⊎◌, ℕ, ◌+◌, ◌<◌, ◌≤◌, Bool, true, false, Option, Some, None, Ok, cond, unwrap_or, if◌then◌else◌}
+use Rattle.cdc_ends.specs.ConnectorEnds.{HasFollowed, IsFirstTurn, IsOfSame, IsPublishing, IsUnasked, Publishing, RisesBy, SessionStands, ended_by, is_publish, origin_of, poll_for, saved_by}
+use Rattle.cdc_laws.specs.Connectors.{held_number, held_timestamp}
 use Rattle.cdc_links.specs.Links.{Takes, with_sent as with_message}
 use Rattle.cdc_message.specs.declared.packets.Answer.{Answer}
 use Rattle.cdc_message.specs.declared.packets.Answer.TheVariants.{Connected, Confirmed, Ignored, Broken}
@@ -31,9 +31,15 @@ pub record GoesOn (old new : Publishing) : Type 0 where
   pub polls : new.polls.link ≡ old.polls.link
   pub packets : new.packets.link ≡ old.packets.link
   pub honest : new.honest ≡ old.honest
+  pub risks : new.risks ≡ old.risks
   pub origin : old.honest ≡ true → origin_of new ≡ origin_of old
   pub window : new.window ≡ old.window
   pub restarts : new.restarts ≡ old.restarts
+
+-- the number that is held rises, and the timestamp stays, once a number is held
+pub record KeepsMoment (old new : Publishing) : Type 0 where
+  pub number : old.honest ≡ true → held_number old.held ≤ held_number new.held
+  pub moment : old.honest ≡ true → 0 < held_number old.held → held_timestamp new.held ≡ held_timestamp old.held
 
 -- the next session has started after what the store gave, or where that was nothing after the moment that it was told,
 -- under a number that is held now; no later one is told a moment
@@ -79,6 +85,7 @@ pub record IsSentNext (old : Publishing) (sent : Bool) (new : Publishing) : Type
   pub one : sent ≡ true → new.unanswered ≡ old.unanswered + 1
   pub goes_on : GoesOn old new
   pub sessions : RisesBy 0 old new
+  pub moment : KeepsMoment old new
 
 -- packets were sent as long as there was one, and room for it
 pub record AreSent (old new : Publishing) : Type 0 where
@@ -86,6 +93,7 @@ pub record AreSent (old new : Publishing) : Type 0 where
   pub all : (next_packet sends.course ≡ None) ⊎ (new.unanswered ≡ new.window + 1)
   pub goes_on : GoesOn old new
   pub sessions : RisesBy 0 old new
+  pub moment : KeepsMoment old new
 
 -- with this poll more, which is open then
 abbrev pub with_poll : Option Poll → Publishing → Publishing
@@ -117,6 +125,7 @@ pub record IsFollowed (old new : Publishing) : Type 0 where
   pub followed : HasFollowed new course
   pub goes_on : GoesOn old new
   pub sessions : RisesBy 0 old new
+  pub moment : KeepsMoment old new
 
 -- ---- what is received
 
@@ -171,6 +180,8 @@ pub record IsHeard (old : Publishing) (course : Course) (moved : Bool) (new : Pu
   pub publishing : IsPublishing new (Some next)
   pub working : new.finished ≡ old.finished
   pub sessions : RisesBy (ended_by (held_number old.held) message) old new
+  pub saves : old.honest ≡ true
+      → held_timestamp new.held ≡ saved_by (held_timestamp old.held) course message
   pub same : IsOfSame old new
   pub unasked : IsUnasked old.poll message → moved ≡ false
   pub still : moved ≡ false → (next ≡ course) × (new ≡ record old { inbox = new.inbox })
@@ -180,6 +191,10 @@ pub record IsReceived (old : Publishing) (moved : Bool) (new : Publishing) : Typ
   pub message : ToConnector
   pub takes : Takes FollowsToConnector old.inbox message new.inbox
   pub sessions : RisesBy (ended_by (held_number old.held) message) old new
+  pub course : Course
+  pub stood : SessionStands old.session (Some course)
+  pub saves : old.honest ≡ true
+      → held_timestamp new.held ≡ saved_by (held_timestamp old.held) course message
   pub same : IsOfSame old new
   pub unasked : IsUnasked old.poll message → moved ≡ false
   pub still : moved ≡ false → new ≡ record old { inbox = new.inbox }

@@ -1,5 +1,5 @@
 -- The numbers and names of the faults of a run.
-use Rattle.std.specs.Prelude.{ℕ, List, codes}
+use Rattle.std.specs.Prelude.{◌≡◌, ◌⊎◌, ℕ, List, codes}
 use Rattle.cdc_ends.specs.declared.faults.RunFault.{RunFault}
 use Rattle.cdc_ends.specs.declared.faults.RunFault.TheVariants.{PeerGone, OutOfMemory, Store, SessionsExhausted, NotOneSystem, StartNotAllowed}
 use Rattle.cdc_progress.specs.declared.errors.StoreError.{StoreError}
@@ -24,6 +24,10 @@ run_fault_name (Store why) = codes "store"
 run_fault_name SessionsExhausted = codes "sessions_exhausted"
 run_fault_name NotOneSystem = codes "not_one_system"
 run_fault_name StartNotAllowed = codes "start_not_allowed"
+
+-- an end that has no store fails where a link refuses it or hands out what wasn't asked for, or for want of memory
+abbrev pub IsTurnFault : RunFault → Type 0
+IsTurnFault fault = (fault ≡ PeerGone) ⊎ (fault ≡ OutOfMemory)
 
 -- the fault of an end whose store doesn't do its work
 abbrev pub store_fault : StoreError → RunFault

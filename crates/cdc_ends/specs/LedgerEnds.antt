@@ -1,10 +1,6 @@
 -- What the ledger's end has received, what it has told each client and the connector, and what a turn of it does.
-use Rattle.std.specs.Prelude.{◌⊎◌, ◌≡◌, ◌==◌, ℕ, zero, suc, ◌+◌, ◌-◌, ◌<◌, ◌≤◌, Bool, true, false, ◌&&◌, not, Option, Some, None, List, [], ◌∷◌, ◌++◌, MatchBool, is_none, map, length, slice_get, if◌then◌else◌}
+use Rattle.std.specs.Prelude.{◌≡◌, ◌==◌, ℕ, zero, suc, ◌+◌, ◌-◌, ◌<◌, ◌≤◌, Bool, true, false, ◌&&◌, not, Option, Some, None, List, [], ◌∷◌, ◌++◌, map, length, slice_get, if◌then◌else◌}
 use Rattle.cdc_ends.specs.Orders.{batches_in, said_to}
-use Rattle.cdc_ends.specs.declared.faults.RunFault.{RunFault}
-use Rattle.cdc_ends.specs.declared.faults.RunFault.TheVariants.{PeerGone, OutOfMemory}
-use Rattle.cdc_ends.specs.declared.turns.Turn.{Turn}
-use Rattle.cdc_ends.specs.declared.turns.Turn.TheVariants.{More, Finished}
 use Rattle.cdc_ledger.specs.History.{History, empty_history}
 use Rattle.cdc_links.specs.Links.{Incoming, LinkId, Outgoing, of_sender, with_received}
 use Rattle.cdc_traffic.specs.Answering.{read_by}
@@ -64,12 +60,6 @@ pub record Desk : Type 0 where
   pub clients_left : ℕ
   pub connector_done : Bool
   pub kept : Option Poll
-
--- the ledger's end: the number of the system that it is of, what it keeps, and the fault that it met
-pub record LedgerEndState : Type 0 where
-  pub system : ℕ
-  pub desk : Desk
-  pub fault : Option RunFault
 
 -- over these links, those of clients from this number on, each was told just what it is said of this order
 abbrev pub AreTold : ℕ → List (ℕ × Batch) → List (Outgoing Reply Past) → Type 0
@@ -173,26 +163,7 @@ pub record IsServed (old new : Desk) : Type 0 where
   pub kept : new.kept ≡ kept_of new.ledger (asked old.kept message)
   pub is : IsDesk new
 
--- whether the end is finished
-abbrev pub turn_of : Desk → Turn
-turn_of d = if is_over d then Finished else More
-
--- a turn of an end that is finished changes nothing; any other one is of one message
-abbrev pub HasTurned : LedgerEndState → Turn → LedgerEndState → Type 0
-HasTurned old turn new =
-    (turn ≡ turn_of new.desk)
-    × MatchBool (is_over old.desk) (new ≡ old)
-    (IsServed old.desk new.desk × (new ≡ record old { desk = new.desk }))
-
--- a turn fails where a link refuses it, or for want of memory
-abbrev pub IsTurnFault : RunFault → Type 0
-IsTurnFault fault = (fault ≡ PeerGone) ⊎ (fault ≡ OutOfMemory)
-
 -- ---- what is left in the end
-
--- the end is finished, and has met no fault
-abbrev pub has_finished : LedgerEndState → Bool
-has_finished end = is_none end.fault && is_over end.desk
 
 -- these are its ends of its links, and its ledger
 pub record ArePartsOf (d : Desk) (inbox : Incoming ToLedger (Unit {0})) (clients : List (Outgoing Reply Past))

@@ -1,4 +1,5 @@
--- What the steps of a turn of the ledger's end do. Private contracts alone cite this file.
+-- What the steps of a turn of the ledger's end do. Private contracts cite this file, and what is said of a turn that
+-- fails.
 use Rattle.std.specs.Prelude.{◌≡◌, ◌==◌, ℕ, ◌-◌, ◌<◌, true, if◌then◌else◌}
 use Rattle.cdc_ends.specs.LedgerEnds.{Desk, IsBooked, asked, kept_of, links_of, past_of_inbox, replied_first, replied_of, with_replies}
 use Rattle.cdc_ledger.specs.History.{History}

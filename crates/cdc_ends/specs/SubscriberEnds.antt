@@ -1,11 +1,7 @@
 -- What a subscriber's end has received of the broker, what its subscriber has heard of that, and what was acknowledged.
-use Rattle.std.specs.Prelude.{◌≡◌, ◌⊎◌, ℕ, ◌<◌, ◌&&◌, nat_le, nat_lt, Bool, true, false, Option, Some, None, List, [], ◌∷◌, ◌++◌, fold, length, map, if◌then◌else◌}
+use Rattle.std.specs.Prelude.{◌≡◌, ℕ, ◌<◌, ◌&&◌, nat_le, nat_lt, Bool, true, false, Option, Some, None, List, [], ◌∷◌, ◌++◌, fold, length, map, if◌then◌else◌}
 use Rattle.std.specs.List.{filter_map}
-use Rattle.cdc_ends.specs.declared.faults.RunFault.{RunFault}
-use Rattle.cdc_ends.specs.declared.faults.RunFault.TheVariants.{PeerGone, OutOfMemory}
 use Rattle.cdc_ends.specs.declared.subscriber_parts.SubscriberParts.{SubscriberParts}
-use Rattle.cdc_ends.specs.declared.turns.Turn.{Turn}
-use Rattle.cdc_ends.specs.declared.turns.Turn.TheVariants.{More, Finished}
 use Rattle.cdc_laws.specs.Hearing.{HasTaken}
 use Rattle.cdc_links.specs.Links.{Incoming, Outgoing, of_sender, with_received, with_sent}
 use Rattle.cdc_message.specs.declared.items.Delivery.{Delivery}
@@ -26,12 +22,6 @@ pub record Intake : Type 0 where
   pub subscriber : Kept
   pub close_after : Option ℕ
   pub finished : Bool
-
--- a subscriber's end: the number of the system that it is of, the subscriber over its links, and the fault that it met
-pub record SubscriberState : Type 0 where
-  pub system : ℕ
-  pub intake : Intake
-  pub fault : Option RunFault
 
 -- ---- what is heard
 
@@ -126,25 +116,6 @@ pub record HasReceived (old new : Intake) : Type 0 where
   pub message : ToSubscriber
   pub brought : IsBrought old.inbox message new.inbox
   pub after : new ≡ with_message message old
-
--- what a turn answers: whether the end has finished
-abbrev pub turn_of : Bool → Turn
-turn_of finished = if finished then Finished else More
-
--- a turn of an end that hasn't finished receives one message; one that has finished stays as it is
-pub record IsTurned (old : Intake) (turn : Turn) (new : Intake) : Type 0 where
-  pub answers : turn ≡ turn_of new.finished
-  pub goes_on : old.finished ≡ false → HasReceived old new
-  pub stays : old.finished ≡ true → new ≡ old
-
--- the same of a subscriber's end that has met no fault
-pub record HasTurned (old : SubscriberState) (turn : Turn) (new : SubscriberState) : Type 0 where
-  pub turned : IsTurned old.intake turn new.intake
-  pub rest : new ≡ record old { intake = new.intake }
-
--- a turn fails where a link refuses it, or for want of memory
-abbrev pub IsTurnFault : RunFault → Type 0
-IsTurnFault fault = (fault ≡ PeerGone) ⊎ (fault ≡ OutOfMemory)
 
 -- ---- laws
 

@@ -1,18 +1,22 @@
 //! What the broker's end does in a turn.
 
-ghost use Rattle.std.specs.Prelude.{◌≡◌, ◌<◌, ◌≤◌, ◌+◌, All, IfErr, IfOk, false, length, map};
+ghost use Rattle.std.specs.Prelude.{◌≡◌, ◌<◌, ◌≤◌, ◌+◌, All, IfErr, IfOk, OnErr, false, length, map};
 ghost use Rattle.cdc_broker.specs.Broker.{empty_broker, takes_packet};
 ghost use Rattle.cdc_ends.specs.BrokerDesks.{HasCome, HasHeard, MayStop, desk_of};
 ghost use Rattle.cdc_ends.specs.BrokerEnds.{IsBrokerEnd, IsDesk, as_confirm, is_over};
-ghost use Rattle.cdc_ends.specs.BrokerTurns.{ArePartsOf, IsTurnFault, MayAck, Turns, admitted, all_served, answer_if, first_consumer, first_desk, stopped, with_ack, with_coming, with_served, with_stop};
+ghost use Rattle.cdc_ends.specs.BrokerFails.{AreStopping, IsCutOff, IsUnanswered, IsUnpublished};
+ghost use Rattle.cdc_ends.specs.BrokerSoFar.{HasFailed};
+ghost use Rattle.cdc_ends.specs.BrokerTurns.{ArePartsOf, HasTurned, MayAck, admitted, all_served, answer_if, first_consumer, first_desk, stopped, with_ack, with_coming, with_served, with_stop};
+ghost use Rattle.cdc_ends.specs.Faults.{IsTurnFault};
+ghost use Rattle.cdc_ends.specs.declared.faults.RunFault.TheVariants.{PeerGone};
 ghost use Rattle.cdc_links.specs.Links.{Takes, with_sent};
 ghost use Rattle.cdc_message.specs.declared.packets.Packet.TheVariants.{Connect as ConnectOf, Publish as PublishOf};
 ghost use Rattle.cdc_traffic.specs.Following.{FollowsToBroker, IsConfirm, IsPacket};
+ghost use Rattle.cdc_types.specs.Widths.{max_64};
 
 use crate::broker_plans::BrokerPlan;
 use crate::consumers::{Consumer, give_up_all, hand_out};
 use crate::faults::RunFault;
-use crate::turns::Turn;
 use cdc_broker::{Broker, Taken};
 use cdc_links::{LinkIn, LinkOut, Naming};
 use cdc_match::Binding;
@@ -96,7 +100,7 @@ fn confirm<R: Wait>(
     requires is_one { IsConfirm (record { session = session; answer = answer }) }
     ensures after { IfOk result (λ _. confirms.new
         ≡ with_sent confirms.old (as_confirm (record { session = session; answer = answer }))) }
-    ensures kind { IfErr result IsTurnFault }
+    ensures refused { IfErr result (λ fault. (fault ≡ PeerGone) × (confirms.new ≡ confirms.old)) }
 {
     match confirms.send::<NoPast, R>(rt, ToConnector::Confirm(Confirm { session, answer })) {
         Ok(()) => Ok(()),
@@ -107,7 +111,7 @@ fn confirm<R: Wait>(
 // The next number; there is none after the greatest.
 fn one_more(count: u64) -> Result<u64, RunFault>
     ensures after { IfOk result (λ next. next ≡ count + 1) }
-    ensures kind { IfErr result IsTurnFault }
+    ensures full { IfErr result (λ fault. (fault ≡ PeerGone) × (count ≡ max_64)) }
 {
     match count.checked_add(1) {
         Some(next) => Ok(next),
@@ -118,7 +122,7 @@ fn one_more(count: u64) -> Result<u64, RunFault>
 // Receives the next message.
 fn receive<R: Wait>(inbox: &mut LinkIn<ToBroker>, rt: &R) -> Result<ToBroker, RunFault>
     ensures after { IfOk result (λ message. Takes FollowsToBroker inbox.old message inbox.new) }
-    ensures kind { IfErr result IsTurnFault }
+    ensures refused { IfErr result (λ fault. (fault ≡ PeerGone) × (inbox.new ≡ inbox.old)) }
 {
     match inbox.receive(rt) {
         Ok(message) => Ok(message),
@@ -148,6 +152,8 @@ fn first_consumers(
 fn stop_all<R: Wait>(consumers: &mut [Consumer], rt: &R) -> Result<(), RunFault>
     requires { All MayStop consumers.old }
     ensures after { IfOk result (λ _. consumers.new ≡ map with_stop consumers.old) }
+    ensures failed { IfErr result (λ fault.
+        (fault ≡ PeerGone) × AreStopping consumers.old consumers.new) }
     ensures kind { IfErr result IsTurnFault }
 {
     for i in 0..consumers.len() {
@@ -206,11 +212,14 @@ impl BrokerDesk {
     ) -> Result<Answer, RunFault>
         ensures after { IfOk result (λ answer.
             HasCome (PublishOf session tag item) (desk_of self.old) answer (desk_of self.new)) }
+        ensures failed { IfErr result (λ fault.
+            IsUnpublished (desk_of self.old) fault (desk_of self.new)) }
         ensures kind { IfErr result IsTurnFault }
     {
+        let accepted = one_more(self.accepted)?;
         match self.broker.publish(alloc, session, tag, item)? {
             Taken::Accepted => {
-                self.accepted = one_more(self.accepted)?;
+                self.accepted = accepted;
                 if self.plan.loses_confirm(self.accepted) {
                     Ok(Answer::Broken)
                 } else {
@@ -234,7 +243,8 @@ impl BrokerDesk {
         requires is_one { IsPacket (PublishOf session tag item) }
         ensures after { IfOk result (λ _. desk_of self.new
             ≡ with_coming (PublishOf session tag item) (desk_of self.old)) }
-        ensures kind { IfErr result IsTurnFault }
+        ensures failed { IfErr result (λ fault.
+            IsUnanswered (PublishOf session tag item) (desk_of self.old) fault (desk_of self.new)) }
     {
         self.publishes = one_more(self.publishes)?;
         let answer = if self.plan.loses_publish(self.publishes) {
@@ -256,7 +266,8 @@ impl BrokerDesk {
         requires is_one { IsPacket packet }
         ensures after { IfOk result (λ _.
             desk_of self.new ≡ with_coming packet (desk_of self.old)) }
-        ensures kind { IfErr result IsTurnFault }
+        ensures failed { IfErr result (λ fault.
+            IsUnanswered packet (desk_of self.old) fault (desk_of self.new)) }
     {
         match packet {
             Packet::Connect { session } => {
@@ -277,7 +288,8 @@ impl BrokerDesk {
         requires queues { length self.old.broker.queues ≡ length self.old.consumers.items }
         ensures may { IfOk result (λ _. MayAck ack (desk_of self.old)) }
         ensures after { IfOk result (λ _. desk_of self.new ≡ with_ack ack (desk_of self.old)) }
-        ensures kind { IfErr result IsTurnFault }
+        ensures refused { IfErr result (λ fault.
+            (fault ≡ PeerGone) × (desk_of self.new ≡ desk_of self.old)) }
     {
         let number = ack.subscriber as usize;
         let consumer = &mut self.consumers[number - 1];
@@ -292,7 +304,8 @@ impl BrokerDesk {
     fn hear<R: Wait>(&mut self, rt: &R, alloc: Global) -> Result<(), RunFault>
         requires { IsDesk (desk_of self.old) }
         ensures after { IfOk result (λ _. HasHeard (desk_of self.old) (desk_of self.new)) }
-        ensures kind { IfErr result IsTurnFault }
+        ensures failed { IfErr result (λ fault.
+            HasFailed (desk_of self.old) fault (desk_of self.new)) }
     {
         match receive(&mut self.inbox, rt)? {
             ToBroker::Packet(packet) => self.take_packet(rt, alloc, packet),
@@ -310,6 +323,8 @@ impl BrokerDesk {
         requires goes_on { self.old.finished ≡ false }
         requires inside { place < length self.old.consumers.items }
         ensures after { IfOk result (λ _. desk_of self.new ≡ with_served place (desk_of self.old)) }
+        ensures failed { IfErr result (λ fault.
+            IsCutOff (desk_of self.old) fault (desk_of self.new)) }
         ensures kind { IfErr result IsTurnFault }
     {
         let repeat = self.plan.repeat.as_slice();
@@ -332,6 +347,8 @@ impl BrokerDesk {
         requires goes_on { self.old.finished ≡ false }
         ensures after { IfOk result (λ _. desk_of self.new
             ≡ all_served (length self.old.consumers.items) (desk_of self.old)) }
+        ensures failed { IfErr result (λ fault.
+            IsCutOff (desk_of self.old) fault (desk_of self.new)) }
         ensures kind { IfErr result IsTurnFault }
     {
         for place in 0..self.consumers.len() {
@@ -357,6 +374,8 @@ impl BrokerDesk {
         requires desk { IsDesk (desk_of self.old) }
         requires goes_on { self.old.finished ≡ false }
         ensures after { IfOk result (λ _. desk_of self.new ≡ stopped (desk_of self.old)) }
+        ensures failed { IfErr result (λ fault.
+            IsCutOff (desk_of self.old) fault (desk_of self.new)) }
         ensures kind { IfErr result IsTurnFault }
     {
         if !self.is_over() {
@@ -401,23 +420,18 @@ impl BrokerDesk {
     }
 
     /// One turn: the next message is received, each queue hands out what it may, and where all is over each subscriber
-    /// is told so. A further one changes nothing.
-    pub(crate) fn turn<R: Wait>(&mut self, rt: &R, alloc: Global) -> Result<Turn, RunFault>
-        requires { IsBrokerEnd (desk_of self.old) }
-        ensures after { IfOk result (λ turn.
-            Turns self.old.finished (desk_of self.old) turn (desk_of self.new)) }
+    /// is told so.
+    pub(crate) fn turn<R: Wait>(&mut self, rt: &R, alloc: Global) -> Result<(), RunFault>
+        requires kept { IsBrokerEnd (desk_of self.old) }
+        requires goes_on { self.old.finished ≡ false }
+        ensures turned { IfOk result (λ _. HasTurned (desk_of self.old) (desk_of self.new)) }
+        ensures failed { IfErr result (λ fault.
+            HasFailed (desk_of self.old) fault (desk_of self.new)) }
         ensures kind { IfErr result IsTurnFault }
     {
-        if self.finished {
-            return Ok(Turn::Finished);
-        }
         self.hear(rt, alloc)?;
         self.serve_all(rt, alloc)?;
         self.stop(rt)?;
-        if self.finished {
-            Ok(Turn::Finished)
-        } else {
-            Ok(Turn::More)
-        }
+        Ok(())
     }
 }

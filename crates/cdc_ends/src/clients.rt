@@ -1,48 +1,25 @@
 //! A client's end: it sends requests, one at a time, and keeps a copy of each reply.
 
-ghost use Rattle.std.specs.Prelude.{◌≡◌, ◌<◌, Err, IfErr, IfOk, IfSome, None, Some, [], false, is_some};
-ghost use Rattle.cdc_ends.specs.Clients.{ArePartsOf, IsClient, IsReplied, IsTurnFault, finished_talk, first_words, has_finished};
+ghost use Rattle.std.specs.Prelude.{◌≡◌, ◌<◌, Err, IfErr, IfOk, None, OnErr, Some, [], false};
+ghost use Rattle.cdc_ends.specs.ClientSoFar.{AsksSoFar};
+ghost use Rattle.cdc_ends.specs.Clients.{IsClient, IsReplied, finished_talk, first_words};
+ghost use Rattle.cdc_ends.specs.Ends.{new_end};
+ghost use Rattle.cdc_ends.specs.Faults.{IsTurnFault};
+ghost use Rattle.cdc_ends.specs.Seats.{client_seat};
+ghost use Rattle.cdc_ends.specs.declared.faults.RunFault.{RunFault};
 
-use crate::conversations::{ClientParts, Conversation};
+use crate::conversations::Conversation;
+use crate::ends::{End, come_to};
 use crate::faults::RunFault;
 use cdc_links::{LinkIn, LinkOut};
 use cdc_traffic::{Reply, ToLedger};
 use cdc_types::Batch;
 use std::alloc::Global;
-use std::marker::Model;
 use std::sync::Wait;
 
-/// A client's end of a run. A clause sees the number of the system that it is of, its conversation with the ledger (the
-/// client's number, what it has sent and received, a copy of each reply, and whether it has said that it is done), and
-/// the fault that it met, if it did.
-pub struct ClientEnd {
-    system: u64,
-    talk: Conversation,
-    fault: Option<RunFault>,
-}
-
-// By hand, so that whoever lets go of it calls this, and doesn't take it apart anew.
-impl Drop for ClientEnd {
-    fn drop(self) {
-        let Self {
-            system: _,
-            talk: _,
-            fault: _,
-        } = self;
-    }
-}
-
-impl Model for ClientEnd {
-    ghost use Rattle.std.specs.Prelude.{◌≡◌, IfSome, None};
-    ghost use Rattle.cdc_ends.specs.Clients.{ClientState, IsClient, IsTurnFault};
-
-    ghost Value = { ClientState };
-
-    ghost view = { λ end. record { system = end.system; talk = end.talk; fault = end.fault } };
-
-    ghost invariant = { λ end.
-        (end.fault ≡ None → IsClient end.talk) × IfSome end.fault IsTurnFault };
-}
+/// A client's end of a run. Its work is its conversation with the ledger: the client's number, what it has sent and
+/// received, a copy of each reply, and whether it has said that it is done.
+pub type ClientEnd = End<Conversation>;
 
 impl ClientEnd {
     /// The end of a client that has said nothing yet. The number of its end of the link to the ledger is the client's.
@@ -58,17 +35,9 @@ impl ClientEnd {
         requires silent { requests.sent ≡ [] }
         requires fresh { answers.received ≡ [] }
         requires alone { answers.senders ≡ 1 }
-        ensures { result ≡ record {
-          system = system;
-          talk = first_words number requests answers;
-          fault = None;
-        } }
+        ensures { result ≡ new_end system (first_words number requests answers) }
     {
-        ClientEnd {
-            system,
-            talk: Conversation::new(alloc, number, requests, answers),
-            fault: None,
-        }
+        End::of(system, Conversation::new(alloc, number, requests, answers))
     }
 
     /// Sends a batch, and waits for the reply to it, of which a copy is kept. `PeerGone`: a link refused to send or to
@@ -80,91 +49,41 @@ impl ClientEnd {
         alloc: Global,
         batch: Batch,
     ) -> Result<Reply, RunFault>
-        requires { self.old.talk.finished ≡ false }
+        requires { self.old.work.finished ≡ false }
         ensures reply { IfOk result (λ reply. IsReplied self.old batch reply self.new) }
-        ensures talks { self.new.talk.finished ≡ self.old.talk.finished }
+        ensures talks { self.new.work.finished ≡ self.old.work.finished }
+        ensures system { self.new.system ≡ self.old.system }
+        ensures seat { client_seat self.new.work ≡ client_seat self.old.work }
+        ensures failed { self.old.fault ≡ None → IfErr result (λ fault.
+            AsksSoFar batch self.old.work fault self.new.work × IsClient self.old.work) }
         ensures fault { IfErr result (λ fault. self.new.fault ≡ Some fault) }
         ensures kind { IfErr result IsTurnFault }
         ensures again { (fault : RunFault) → self.old.fault ≡ Some fault
             → (result ≡ Err fault) × (self.new ≡ self.old) }
     {
-        match self.fault {
-            Some(fault) => Err(fault),
-            None => match self.talk.ask(rt, alloc, batch) {
-                Ok(reply) => Ok(reply),
-                Err(fault) => {
-                    self.fault = Some(fault);
-                    self.talk.give_up(rt);
-                    Err(fault)
-                }
-            },
+        if let Some(fault) = self.fault {
+            return Err(fault);
         }
+        let outcome = self.work.ask(rt, alloc, batch);
+        come_to(&mut self.work, &mut self.fault, rt, outcome)
     }
 
     /// Tells the ledger that this client is done. A second call changes nothing. The first fault stays: it is answered
     /// from then on.
     pub fn finish<R: Wait>(&mut self, rt: &R) -> Result<(), RunFault>
         ensures done { IfOk result (λ _.
-            self.new ≡ record self.old { talk = finished_talk self.old.talk }) }
+            self.new ≡ record self.old { work = finished_talk self.old.work }) }
+        ensures system { self.new.system ≡ self.old.system }
+        ensures failed { OnErr result (self.new.work ≡ self.old.work) }
         ensures fault { IfErr result (λ fault. self.new.fault ≡ Some fault) }
         ensures kind { IfErr result IsTurnFault }
         ensures again { (fault : RunFault) → self.old.fault ≡ Some fault
             → (result ≡ Err fault) × (self.new ≡ self.old) }
     {
-        match self.fault {
-            Some(fault) => Err(fault),
-            None => match self.talk.end(rt) {
-                Ok(()) => Ok(()),
-                Err(fault) => {
-                    self.fault = Some(fault);
-                    self.talk.give_up(rt);
-                    Err(fault)
-                }
-            },
+        if let Some(fault) = self.fault {
+            return Err(fault);
         }
-    }
-
-    /// The number of the system that the end is of.
-    pub fn system(&self) -> u64
-        ensures { result ≡ self.now.system }
-    {
-        self.system
-    }
-
-    /// The client's number.
-    pub fn number(&self) -> u64
-        ensures { result ≡ self.now.talk.number }
-    {
-        self.talk.number()
-    }
-
-    /// Lets go of the end before it has worked, and tells all to whom it sends that nothing more comes.
-    pub fn give_up<R: Wait>(self, rt: &R) {
-        let Self {
-            system: _,
-            mut talk,
-            fault: _,
-        } = self;
-        talk.give_up(rt);
-    }
-
-    /// What the end leaves behind: its ends of its links, and the replies; nothing, where it isn't finished or has met
-    /// a fault.
-    pub fn into_parts(self) -> Option<ClientParts>
-        ensures some { is_some result ≡ has_finished self }
-        ensures parts { IfSome result (λ parts.
-            ArePartsOf self.talk parts.requests parts.answers parts.replies.items) }
-        ensures kept { IfSome result (λ _. IsClient self.talk) }
-    {
-        let Self {
-            system: _,
-            talk,
-            fault,
-        } = self;
-        if fault.is_none() && talk.is_finished() {
-            Some(talk.into_parts())
-        } else {
-            None
-        }
+        let outcome = self.work.end(rt);
+        come_to(&mut self.work, &mut self.fault, rt, outcome)
     }
 }

@@ -4,8 +4,11 @@ ghost use Rattle.std.specs.Prelude.{◌≡◌, ◌<◌, ◌≤◌, ◌-◌, ℕ,
 ghost use Rattle.cdc_broker.specs.Broker.{queue_of};
 ghost use Rattle.cdc_broker.specs.Queues.{next_delivery};
 ghost use Rattle.cdc_ends.specs.BrokerEnds.{as_sent};
-ghost use Rattle.cdc_ends.specs.BrokerTurns.{IsTurnFault, handed_out, lane_of, with_copy, with_next, with_one_fewer, with_stop};
+ghost use Rattle.cdc_ends.specs.BrokerTurns.{handed_out, lane_of, with_copy, with_next, with_one_fewer, with_stop};
 ghost use Rattle.cdc_ends.specs.BrokerDesks.{HasBecome, MayHandOut};
+ghost use Rattle.cdc_ends.specs.BrokerFails.{HandsSoFar, IsStuck};
+ghost use Rattle.cdc_ends.specs.Faults.{IsTurnFault};
+ghost use Rattle.cdc_ends.specs.declared.faults.RunFault.TheVariants.{PeerGone};
 ghost use Rattle.cdc_traffic.specs.Following.{FollowsToSubscriber};
 ghost use Rattle.cdc_traffic.specs.declared.messages.ToSubscriber.TheVariants.{Stop};
 
@@ -43,7 +46,8 @@ impl Consumer {
         requires follows { FollowsToSubscriber self.old.link.number self.old.link.sent
             (as_sent delivery) }
         ensures after { IfOk result (λ _. self.new ≡ with_copy delivery self.old) }
-        ensures kind { IfErr result IsTurnFault }
+        ensures refused { IfErr result (λ fault.
+            (fault ≡ PeerGone) × (self.new.link ≡ self.old.link)) }
     {
         self.handed = self.handed.max(delivery.position);
         match self
@@ -62,7 +66,7 @@ impl Consumer {
     pub(crate) fn send_stop<R: Wait>(&mut self, rt: &R) -> Result<(), RunFault>
         requires { FollowsToSubscriber self.old.link.number self.old.link.sent (Stop, tt) }
         ensures after { IfOk result (λ _. self.new ≡ with_stop self.old) }
-        ensures kind { IfErr result IsTurnFault }
+        ensures refused { IfErr result (λ fault. (fault ≡ PeerGone) × (self.new ≡ self.old)) }
     {
         match self.link.send::<Nothing, R>(rt, ToSubscriber::Stop) {
             Ok(()) => Ok(()),
@@ -91,6 +95,8 @@ fn hand_next<R: Wait>(
         (with_next repeat.now number (next_delivery (queue_of broker.old number))
         (lane_of broker.old number consumer.old))
         broker.old broker.new consumer.new) }
+    ensures failed { IfErr result (λ fault.
+        HandsSoFar number broker.old consumer.old fault broker.new consumer.new) }
     ensures kind { IfErr result IsTurnFault }
 {
     let Some(delivery) = broker.next_for(alloc, number)? else {
@@ -123,6 +129,8 @@ pub(crate) fn hand_out<R: Wait>(
         (handed_out repeat.now number (prefetch - consumer.old.unacked)
         (lane_of broker.old number consumer.old))
         broker.old broker.new consumer.new) }
+    ensures failed { IfErr result (λ fault. IsStuck number prefetch broker.old consumer.old fault
+        broker.new consumer.new) }
     ensures kind { IfErr result IsTurnFault }
 {
     while consumer.unacked < prefetch {

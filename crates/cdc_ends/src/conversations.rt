@@ -1,10 +1,14 @@
 //! A client's conversation with the ledger.
 
 ghost use Rattle.std.specs.Prelude.{◌≡◌, ◌↔◌, IfErr, IfOk, IsTrue, false};
-ghost use Rattle.cdc_ends.specs.Clients.{ArePartsOf, IsAnswered, IsClient, IsHeard, IsTurnFault, finished_talk, first_words};
+ghost use Rattle.cdc_ends.specs.Clients.{IsAnswered, IsClient, IsHeard, finished_talk, first_words};
+ghost use Rattle.cdc_ends.specs.Faults.{IsTurnFault};
+ghost use Rattle.cdc_ends.specs.ClientSoFar.{AsksSoFar};
+ghost use Rattle.cdc_ends.specs.declared.faults.RunFault.TheVariants.{PeerGone};
 ghost use Rattle.cdc_links.specs.Links.{with_sent};
 ghost use Rattle.cdc_traffic.specs.Following.{FollowsToLedger};
 
+use crate::ends::{Numbered, Work};
 use crate::faults::RunFault;
 use crate::same::same_batch;
 use cdc_links::{LinkIn, LinkOut, Naming};
@@ -15,7 +19,7 @@ use std::marker::Model;
 use std::sync::Wait;
 
 /// A client's number, its ends of its links, a copy of each reply, and whether it has said that it is done.
-pub(crate) struct Conversation {
+pub struct Conversation {
     number: u64,
     requests: LinkOut<ToLedger>,
     answers: LinkIn<Reply>,
@@ -72,7 +76,7 @@ impl Naming<()> for Nothing {
 fn say<R: Wait>(requests: &mut LinkOut<ToLedger>, rt: &R, message: ToLedger) -> Result<(), RunFault>
     requires { FollowsToLedger requests.old.number requests.old.sent (message, tt) }
     ensures sent { IfOk result (λ _. requests.new ≡ with_sent requests.old (message, tt)) }
-    ensures kind { IfErr result IsTurnFault }
+    ensures refused { IfErr result (λ fault. (fault ≡ PeerGone) × (requests.new ≡ requests.old)) }
 {
     match requests.send::<Nothing, R>(rt, message) {
         Ok(()) => Ok(()),
@@ -83,7 +87,7 @@ fn say<R: Wait>(requests: &mut LinkOut<ToLedger>, rt: &R, message: ToLedger) -> 
 // Receives the ledger's next reply.
 fn hear<R: Wait>(answers: &mut LinkIn<Reply>, rt: &R) -> Result<Reply, RunFault>
     ensures heard { IfOk result (λ reply. IsHeard answers.old reply answers.new) }
-    ensures kind { IfErr result IsTurnFault }
+    ensures refused { IfErr result (λ fault. (fault ≡ PeerGone) × (answers.new ≡ answers.old)) }
 {
     match answers.receive(rt) {
         Ok(reply) => Ok(reply),
@@ -128,6 +132,7 @@ impl Conversation {
         requires talks { self.old.finished ≡ false }
         ensures answered { IfOk result (λ reply. IsAnswered self.old batch reply self.new) }
         ensures talks { self.new.finished ≡ self.old.finished }
+        ensures failed { IfErr result (λ fault. AsksSoFar batch self.old fault self.new) }
         ensures kind { IfErr result IsTurnFault }
     {
         let copy = batch.try_copy(alloc)?;
@@ -153,6 +158,7 @@ impl Conversation {
     pub(crate) fn end<R: Wait>(&mut self, rt: &R) -> Result<(), RunFault>
         requires { IsClient self.old }
         ensures ended { IfOk result (λ _. self.new ≡ finished_talk self.old) }
+        ensures failed { IfErr result (λ fault. (fault ≡ PeerGone) × (self.new ≡ self.old)) }
         ensures kind { IfErr result IsTurnFault }
     {
         if self.finished {
@@ -163,32 +169,36 @@ impl Conversation {
         self.finished = true;
         Ok(())
     }
+}
 
-    /// The client's number.
-    pub(crate) fn number(&self) -> u64
-        ensures { result ≡ self.now.number }
-    {
-        self.number
-    }
+impl Work for Conversation {
+    ghost use Rattle.cdc_ends.specs.Clients.{ArePartsOf, IsClient};
+    ghost use Rattle.cdc_ends.specs.Faults.{IsTurnFault};
+    ghost use Rattle.cdc_ends.specs.Seats.{ClientSeat, client_seat};
 
-    /// Whether the client has said that it is done.
-    pub(crate) fn is_finished(&self) -> bool
-        ensures { result ≡ self.now.finished }
-    {
+    type Parts = ClientParts;
+
+    ghost Seat = { ClientSeat };
+
+    ghost seat = { client_seat };
+
+    ghost keeps = { IsClient };
+
+    ghost is_over = { λ c. c.finished };
+
+    ghost fails_as = { λ _ fault. IsTurnFault fault };
+
+    ghost leaves = { λ c parts. ArePartsOf c parts.requests parts.answers parts.replies.items };
+
+    fn is_over(&self) -> bool {
         self.finished
     }
 
-    /// Tells the ledger that nothing more comes.
-    pub(crate) fn give_up<R: Wait>(&mut self, rt: &R)
-        ensures { self.new ≡ self.old }
-    {
+    fn give_up<R: Wait>(&mut self, rt: &R) {
         self.requests.give_up(rt);
     }
 
-    /// Takes the links and the replies apart.
-    pub(crate) fn into_parts(self) -> ClientParts
-        ensures { ArePartsOf self result.requests result.answers result.replies.items }
-    {
+    fn into_parts(self) -> ClientParts {
         let Self {
             number: _,
             requests,
@@ -201,5 +211,13 @@ impl Conversation {
             answers,
             replies,
         }
+    }
+}
+
+impl Numbered for Conversation {
+    ghost number = { λ c. c.number };
+
+    fn number(&self) -> u64 {
+        self.number
     }
 }

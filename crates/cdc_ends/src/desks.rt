@@ -1,18 +1,21 @@
 //! What the ledger's end keeps, and what it does with each message.
 
-ghost use Rattle.std.specs.Prelude.{◌≡◌, ℕ, ◌+◌, ◌<◌, ◌≤◌, Option, None, Some, List, [], ◌∷◌, ◌++◌, All, IfErr, IfOk, MatchBool, length, vec_len};
-ghost use Rattle.cdc_ends.specs.LedgerEnds.{ArePartsOf, AreTold, IsBooked, IsDesk, IsServed, IsTurnFault, first_desk, has_to_wait, is_over, links_of, order_of, past_of_inbox, replied_of, kept_of, replies_of, turn_of, with_replies};
+ghost use Rattle.std.specs.Prelude.{◌≡◌, ◌⊎◌, ℕ, ◌+◌, ◌<◌, ◌≤◌, Option, None, Some, List, [], ◌∷◌, ◌++◌, All, IfErr, IfOk, OnErr, is_some, true, length, vec_len};
+ghost use Rattle.cdc_ends.specs.Faults.{IsTurnFault};
+ghost use Rattle.cdc_ends.specs.LedgerEnds.{AreTold, IsBooked, IsDesk, IsServed, first_desk, has_to_wait, links_of, order_of, past_of_inbox, replied_of, kept_of, replies_of, with_replies};
+ghost use Rattle.cdc_ends.specs.LedgerSoFar.{AnswersSoFar, ComesSoFar, IsUntaken};
 ghost use Rattle.cdc_ends.specs.LedgerSteps.{IsNext, IsTaken, looked_at, with_one_done};
 ghost use Rattle.cdc_ends.specs.Orders.{past_of, batches_by};
+ghost use Rattle.cdc_ends.specs.declared.faults.RunFault.TheVariants.{PeerGone};
 ghost use Rattle.cdc_links.specs.Links.{CanSend, of_sender, with_sent};
 ghost use Rattle.cdc_traffic.specs.Answering.{read_by};
 ghost use Rattle.cdc_traffic.specs.Following.{FollowsToClient, FollowsToConnector, FollowsToLedger, last_named};
 ghost use Rattle.cdc_traffic.specs.Pasts.{Continues, history_of};
 ghost use Rattle.cdc_traffic.specs.declared.messages.ToConnector.TheVariants.{PollReply as OfPoll};
 
+use crate::ends::{Turns, Work};
 use crate::faults::RunFault;
 use crate::heard::{Heard, Under};
-use crate::turns::Turn;
 use cdc_ledger::Ledger;
 use cdc_links::{LinkIn, LinkOut};
 use cdc_traffic::{Poll, PollReply, Reply, Request, ToConnector, ToLedger};
@@ -35,7 +38,7 @@ pub struct LedgerParts {
 
 /// The ledger's end of each of its links, the ledger, how many clients aren't done, whether the connector is, and the
 /// poll that is kept until there is something to reply.
-pub(crate) struct Desk {
+pub struct Desk {
     inbox: LinkIn<ToLedger>,
     clients: Vec<LinkOut<Reply>>,
     connector: LinkOut<ToConnector>,
@@ -79,6 +82,7 @@ impl Model for Desk {
 // Receives the next message.
 fn hear<R: Wait>(inbox: &mut LinkIn<ToLedger>, rt: &R) -> Result<ToLedger, RunFault>
     ensures next { IfOk result (λ message. IsNext inbox.old message inbox.new) }
+    ensures refused { IfErr result (λ fault. (fault ≡ PeerGone) × (inbox.new ≡ inbox.old)) }
     ensures kind { IfErr result IsTurnFault }
     ensures lawful { (j : ℕ) → CanSend FollowsToLedger j (of_sender j inbox.old.received) }
 {
@@ -97,6 +101,7 @@ fn tell_client<K: Heard, R: Wait>(
 ) -> Result<(), RunFault>
     requires { FollowsToClient client.old.number client.old.sent
         (reply, past_of K.order) }
+    ensures refused { IfErr result (λ fault. (fault ≡ PeerGone) × (client.new ≡ client.old)) }
     ensures kind { IfErr result IsTurnFault }
     ensures sent { IfOk result (λ _.
         client.new ≡ with_sent client.old (reply, past_of K.order)) }
@@ -115,6 +120,7 @@ fn tell_connector<K: Heard, R: Wait>(
 ) -> Result<(), RunFault>
     requires { FollowsToConnector connector.old.number connector.old.sent
         (OfPoll reply, Some K.past) }
+    ensures refused { IfErr result (λ fault. (fault ≡ PeerGone) × (connector.new ≡ connector.old)) }
     ensures kind { IfErr result IsTurnFault }
     ensures sent { IfOk result (λ _. connector.new
         ≡ with_sent connector.old (OfPoll reply, Some K.past)) }
@@ -144,6 +150,9 @@ fn answer<K: Heard, R: Wait>(
     ensures history { IfOk result (λ _. ledger.new ≡ history_of
         (past_of (K.order ++ (request.client, request.batch) ∷ []))) }
     ensures links { IfOk result (λ _. links_of clients.new ≡ links_of clients.old) }
+    ensures failed { IfErr result (λ fault. AnswersSoFar ledger.old (history_of
+        (past_of (K.order ++ (request.client, request.batch) ∷ []))) fault ledger.new) }
+    ensures untold { OnErr result (clients.new ≡ clients.old) }
     ensures kind { IfErr result IsTurnFault }
 {
     let place = request.client as usize - 1;
@@ -166,6 +175,8 @@ fn reply_kept<K: Heard, R: Wait>(
     ensures kind { IfErr result IsTurnFault }
     ensures replied { IfOk result (λ _. connector.new
         ≡ with_replies connector.old K.past (replies_of ledger.now kept)) }
+    ensures refused { OnErr result (connector.new ≡ connector.old) }
+    ensures asked { OnErr result (is_some kept ≡ true) }
 {
     match kept {
         Some(poll) => tell_connector::<K, R>(connector, rt, poll.read(alloc, ledger)?),
@@ -186,6 +197,7 @@ fn look<K: Heard, R: Wait>(
     requires named { Continues (last_named connector.old.sent) K.past }
     ensures replied { IfOk result (λ _. connector.new
         ≡ with_replies connector.old K.past (replied_of ledger.now (Some poll))) }
+    ensures refused { OnErr result (connector.new ≡ connector.old) }
     ensures kept { IfOk result (λ kept. kept ≡ kept_of ledger.now (Some poll)) }
     ensures kind { IfErr result IsTurnFault }
 {
@@ -228,42 +240,6 @@ impl Desk {
         }
     }
 
-    /// Takes the links and the ledger apart.
-    pub(crate) fn into_parts(self) -> LedgerParts
-        ensures { ArePartsOf self result.inbox result.clients.items result.connector result.ledger }
-    {
-        let Self {
-            inbox,
-            clients,
-            connector,
-            ledger,
-            clients_left: _,
-            connector_done: _,
-            kept: _,
-        } = self;
-        LedgerParts {
-            inbox,
-            clients,
-            connector,
-            ledger,
-        }
-    }
-
-    /// Tells all to whom it sends that nothing more comes.
-    pub(crate) fn give_up<R: Wait>(&mut self, rt: &R)
-        ensures { self.new ≡ self.old }
-    {
-        give_up_all(self.clients.as_mut_slice(), rt);
-        self.connector.give_up(rt);
-    }
-
-    /// Whether all clients and the connector are done.
-    pub(crate) fn is_over(&self) -> bool
-        ensures { result ≡ is_over self.now }
-    {
-        self.clients_left == 0 && self.connector_done
-    }
-
     // A client is done: once all are, the ledger is closed.
     fn count_done(&mut self)
         requires { 0 < self.old.clients_left }
@@ -281,6 +257,8 @@ impl Desk {
         requires past { K.past ≡ past_of_inbox self.old.inbox }
         requires kept { IsDesk self.old }
         ensures taken { IfOk result (λ _. IsTaken self.old self.new) }
+        ensures failed { IfErr result (λ fault. ((fault ≡ PeerGone) × (self.new ≡ self.old))
+            ⊎ IsUntaken self.old fault self.new) }
         ensures kind { IfErr result IsTurnFault }
     {
         let message = hear(&mut self.inbox, rt)?;
@@ -313,6 +291,8 @@ impl Desk {
         requires past { K.past ≡ past_of_inbox self.old.inbox }
         requires kept { IsBooked self.old }
         ensures looked { IfOk result (λ _. self.new ≡ looked_at self.old) }
+        ensures refused { OnErr result (self.new ≡ self.old) }
+        ensures asked { OnErr result (is_some self.old.kept ≡ true) }
         ensures kind { IfErr result IsTurnFault }
     {
         if let Some(poll) = self.kept {
@@ -321,32 +301,75 @@ impl Desk {
         Ok(())
     }
 
-    // Receives one message, and sends what follows from it.
-    fn serve<R: Wait>(&mut self, rt: &R, alloc: Global) -> Result<(), RunFault>
+    /// Receives one message, and sends what follows from it.
+    fn turn<R: Wait>(&mut self, rt: &R, alloc: Global) -> Result<(), RunFault>
         requires { IsDesk self.old }
-        ensures served { IfOk result (λ _. IsServed self.old self.new) }
+        ensures turned { IfOk result (λ _. IsServed self.old self.new) }
+        ensures failed { IfErr result (λ fault. ComesSoFar self.old fault self.new) }
         ensures kind { IfErr result IsTurnFault }
     {
         self.take::<Brand, R>(rt, alloc)?;
         self.look_again::<Brand, R>(rt, alloc)
     }
+}
 
-    /// Receives one message, and sends what follows from it; nothing, where the end is finished.
-    pub(crate) fn turn<R: Wait>(&mut self, rt: &R, alloc: Global) -> Result<Turn, RunFault>
-        requires { IsDesk self.old }
-        ensures turn { IfOk result (λ turn. turn ≡ turn_of self.new) }
-        ensures served { IfOk result (λ _.
-            MatchBool (is_over self.old) (self.new ≡ self.old) (IsServed self.old self.new)) }
-        ensures kind { IfErr result IsTurnFault }
-    {
-        if self.is_over() {
-            return Ok(Turn::Finished);
+impl Work for Desk {
+    ghost use Rattle.cdc_ends.specs.Faults.{IsTurnFault};
+    ghost use Rattle.cdc_ends.specs.LedgerEnds.{ArePartsOf, IsDesk, is_over};
+    ghost use Rattle.cdc_ends.specs.Seats.{LedgerSeat, ledger_seat};
+
+    type Parts = LedgerParts;
+
+    ghost Seat = { LedgerSeat };
+
+    ghost seat = { ledger_seat };
+
+    ghost keeps = { IsDesk };
+
+    ghost is_over = { is_over };
+
+    ghost fails_as = { λ _ fault. IsTurnFault fault };
+
+    ghost leaves = { λ d parts.
+        ArePartsOf d parts.inbox parts.clients.items parts.connector parts.ledger };
+
+    fn is_over(&self) -> bool {
+        self.clients_left == 0 && self.connector_done
+    }
+
+    fn give_up<R: Wait>(&mut self, rt: &R) {
+        give_up_all(self.clients.as_mut_slice(), rt);
+        self.connector.give_up(rt);
+    }
+
+    fn into_parts(self) -> LedgerParts {
+        let Self {
+            inbox,
+            clients,
+            connector,
+            ledger,
+            clients_left: _,
+            connector_done: _,
+            kept: _,
+        } = self;
+        LedgerParts {
+            inbox,
+            clients,
+            connector,
+            ledger,
         }
-        self.serve(rt, alloc)?;
-        if self.is_over() {
-            Ok(Turn::Finished)
-        } else {
-            Ok(Turn::More)
-        }
+    }
+}
+
+impl Turns for Desk {
+    ghost use Rattle.cdc_ends.specs.LedgerEnds.{IsServed};
+    ghost use Rattle.cdc_ends.specs.LedgerSoFar.{HasFailed};
+
+    ghost turns = { IsServed };
+
+    ghost fails = { HasFailed };
+
+    fn take_turn<R: Wait>(&mut self, rt: &R, alloc: Global) -> Result<(), RunFault> {
+        self.turn(rt, alloc)
     }
 }

@@ -1,15 +1,18 @@
 //! A subscriber over its links.
 
-ghost use Rattle.std.specs.Prelude.{◌≡◌, IfErr, IfOk, length, min};
-ghost use Rattle.cdc_ends.specs.SubscriberEnds.{IsBrought, IsSubscriberEnd, IsTurnFault, IsTurned, heard_after, is_due, new_intake, parts_of};
+ghost use Rattle.std.specs.Prelude.{◌≡◌, IfErr, IfOk, false, length, min};
+ghost use Rattle.cdc_ends.specs.Faults.{IsTurnFault};
+ghost use Rattle.cdc_ends.specs.SubscriberEnds.{HasReceived, IsBrought, IsSubscriberEnd, heard_after, is_due, new_intake};
+ghost use Rattle.cdc_ends.specs.SubscriberSoFar.{HasFailed};
+ghost use Rattle.cdc_ends.specs.declared.faults.RunFault.TheVariants.{OutOfMemory, PeerGone};
 ghost use Rattle.cdc_links.specs.Links.{with_sent};
 ghost use Rattle.cdc_subscriber.specs.Heard.{Heard, applied_of, kept_of};
 ghost use Rattle.cdc_traffic.specs.Following.{FollowsToBroker};
 ghost use Rattle.cdc_types.specs.Widths.{max_64};
 
+use crate::ends::{Numbered, Turns, Work};
 use crate::faults::RunFault;
 use crate::subscriber_parts::SubscriberParts;
-use crate::turns::Turn;
 use cdc_links::{LinkIn, LinkOut, Naming};
 use cdc_message::Delivery;
 use cdc_subscriber::Subscriber;
@@ -20,7 +23,7 @@ use std::sync::Wait;
 
 /// A subscriber, its number, its ends of its links, after how many events it is to close, and whether the broker has
 /// told it to stop.
-pub(crate) struct Intake {
+pub struct Intake {
     number: u64,
     inbox: LinkIn<ToSubscriber>,
     acks: LinkOut<ToBroker>,
@@ -68,7 +71,7 @@ impl Naming<()> for Nothing {
 // Receives the broker's next message.
 fn hear<R: Wait>(inbox: &mut LinkIn<ToSubscriber>, rt: &R) -> Result<ToSubscriber, RunFault>
     ensures brought { IfOk result (λ message. IsBrought inbox.old message inbox.new) }
-    ensures fault { IfErr result IsTurnFault }
+    ensures refused { IfErr result (λ fault. (fault ≡ PeerGone) × (inbox.new ≡ inbox.old)) }
 {
     match inbox.receive(rt) {
         Ok(message) => Ok(message),
@@ -80,7 +83,7 @@ fn hear<R: Wait>(inbox: &mut LinkIn<ToSubscriber>, rt: &R) -> Result<ToSubscribe
 fn acknowledge<R: Wait>(acks: &mut LinkOut<ToBroker>, rt: &R, ack: Ack) -> Result<(), RunFault>
     requires { FollowsToBroker acks.old.number acks.old.sent (ToBroker.Ack ack, tt) }
     ensures sent { IfOk result (λ _. acks.new ≡ with_sent acks.old (ToBroker.Ack ack, tt)) }
-    ensures fault { IfErr result IsTurnFault }
+    ensures refused { IfErr result (λ fault. (fault ≡ PeerGone) × (acks.new ≡ acks.old)) }
 {
     match acks.send::<Nothing, R>(rt, ToBroker::Ack(ack)) {
         Ok(()) => Ok(()),
@@ -108,7 +111,7 @@ fn take(
 ) -> Result<(), RunFault>
     ensures heard { (heard : Heard) → subscriber.old ≡ kept_of heard
         → IfOk result (λ _. subscriber.new ≡ kept_of (heard_after close_after heard delivery.now)) }
-    ensures fault { IfErr result IsTurnFault }
+    ensures refused { IfErr result (λ fault. (fault ≡ OutOfMemory) × (subscriber.new ≡ subscriber.old)) }
 {
     let Ok(_) = subscriber.take(alloc, delivery) else {
         return Err(RunFault::OutOfMemory);
@@ -141,14 +144,13 @@ impl Intake {
     }
 
     /// Receives the broker's next message: takes a delivery and acknowledges it, or finishes.
-    pub(crate) fn turn<R: Wait>(&mut self, rt: &R, alloc: Global) -> Result<Turn, RunFault>
-        requires { IsSubscriberEnd self.old }
-        ensures turned { IfOk result (λ turn. IsTurned self.old turn self.new) }
-        ensures fault { IfErr result IsTurnFault }
+    fn turn<R: Wait>(&mut self, rt: &R, alloc: Global) -> Result<(), RunFault>
+        requires kept { IsSubscriberEnd self.old }
+        requires goes_on { self.old.finished ≡ false }
+        ensures turned { IfOk result (λ _. HasReceived self.old self.new) }
+        ensures failed { IfErr result (λ fault. HasFailed self.old fault self.new) }
+        ensures kind { IfErr result IsTurnFault }
     {
-        if self.finished {
-            return Ok(Turn::Finished);
-        }
         match hear(&mut self.inbox, rt)? {
             ToSubscriber::Delivery(delivery) => {
                 take(&mut self.subscriber, alloc, &delivery, self.close_after)?;
@@ -157,33 +159,45 @@ impl Intake {
                     position: delivery.position,
                 };
                 acknowledge(&mut self.acks, rt, ack)?;
-                Ok(Turn::More)
+                Ok(())
             }
             ToSubscriber::Stop => {
                 self.finished = true;
-                Ok(Turn::Finished)
+                Ok(())
             }
         }
     }
+}
 
-    /// Whether the broker has told it to stop.
-    pub(crate) fn finished(&self) -> bool
-        ensures { result ≡ self.now.finished }
-    {
+impl Work for Intake {
+    ghost use Rattle.std.specs.Prelude.{◌≡◌};
+    ghost use Rattle.cdc_ends.specs.Faults.{IsTurnFault};
+    ghost use Rattle.cdc_ends.specs.Seats.{SubscriberSeat, subscriber_seat};
+    ghost use Rattle.cdc_ends.specs.SubscriberEnds.{IsSubscriberEnd, parts_of};
+
+    type Parts = SubscriberParts;
+
+    ghost Seat = { SubscriberSeat };
+
+    ghost seat = { subscriber_seat };
+
+    ghost keeps = { IsSubscriberEnd };
+
+    ghost is_over = { λ c. c.finished };
+
+    ghost fails_as = { λ _ fault. IsTurnFault fault };
+
+    ghost leaves = { λ c parts. parts ≡ parts_of c };
+
+    fn is_over(&self) -> bool {
         self.finished
     }
 
-    /// Tells the broker that nothing more comes.
-    pub(crate) fn give_up<R: Wait>(&mut self, rt: &R)
-        ensures { self.new ≡ self.old }
-    {
+    fn give_up<R: Wait>(&mut self, rt: &R) {
         self.acks.give_up(rt);
     }
 
-    /// What it holds.
-    pub(crate) fn into_parts(self) -> SubscriberParts
-        ensures { result ≡ parts_of self }
-    {
+    fn into_parts(self) -> SubscriberParts {
         let Self {
             number,
             inbox,
@@ -198,5 +212,26 @@ impl Intake {
             acks,
             subscriber,
         }
+    }
+}
+
+impl Turns for Intake {
+    ghost use Rattle.cdc_ends.specs.SubscriberEnds.{HasReceived};
+    ghost use Rattle.cdc_ends.specs.SubscriberSoFar.{HasFailed};
+
+    ghost turns = { HasReceived };
+
+    ghost fails = { HasFailed };
+
+    fn take_turn<R: Wait>(&mut self, rt: &R, alloc: Global) -> Result<(), RunFault> {
+        self.turn(rt, alloc)
+    }
+}
+
+impl Numbered for Intake {
+    ghost number = { λ c. c.number };
+
+    fn number(&self) -> u64 {
+        self.number
     }
 }

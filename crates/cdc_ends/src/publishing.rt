@@ -1,19 +1,22 @@
 //! What a connector works with: its session and its store, what it asks the ledger for, and what it publishes.
 
-ghost use Rattle.std.specs.Prelude.{◌≡◌, ◌≤◌, ◌==◌, ◌&&◌, ◌↔◌, ◌+◌, IfErr, IfOk, IfSome, IsTrue, Some, None, [], false, true, not, unwrap_or};
+ghost use Rattle.std.specs.Prelude.{◌≡◌, ◌⊎◌, ◌≤◌, ◌==◌, ◌&&◌, ◌↔◌, ◌+◌, IfErr, IfOk, IfSome, IsTrue, Some, None, [], false, true, not, unwrap_or};
 ghost use Rattle.std.specs.List.{list_any};
-ghost use Rattle.cdc_ends.specs.ConnectorEnds.{ArePartsOf, IsConnectorEnd, IsPublishing, IsTurn, IsTurnFault, SessionStands, first_work, turn_if};
+ghost use Rattle.cdc_ends.specs.ConnectorEnds.{IsConnectorEnd, IsPublishing, IsTurnFault, IsWorkingTurn, SessionStands, first_work};
 ghost use Rattle.cdc_ends.specs.ConnectorMoves.{AreSent, IsAdvanced, IsAnswerTaken, IsBegun, IsConfirmTaken, IsFollowed, IsHeard, IsPacketSent, IsReplyTaken, IsSending, IsSentNext, asked_if, finished_if, publish_count, wanted_by};
+ghost use Rattle.cdc_ends.specs.ConnectorFails.{IsConfirmFailed, IsCutShort, IsNotBegun, IsUnfinished, IsUnsaved, IsUnsent};
+ghost use Rattle.cdc_ends.specs.ConnectorSoFar.{HasFailed};
 ghost use Rattle.cdc_ends.specs.Faults.{IsSaveFault, IsStartFault};
+ghost use Rattle.cdc_ends.specs.declared.faults.RunFault.TheVariants.{PeerGone};
 ghost use Rattle.cdc_links.specs.Links.{Takes, with_sent};
 ghost use Rattle.cdc_message.specs.declared.packets.Answer.TheVariants.{Confirmed, Broken};
-ghost use Rattle.cdc_publisher.specs.Courses.{Course, is_done, next_packet};
+ghost use Rattle.cdc_publisher.specs.Courses.{Course, is_done, next_packet, with_confirm};
 ghost use Rattle.cdc_publisher.specs.Offers.{IsOffered};
 ghost use Rattle.cdc_traffic.specs.Following.{FollowsToBroker, FollowsToConnector, FollowsToLedger};
 ghost use Rattle.cdc_types.specs.Windows.{IsWindow};
 
+use crate::ends::{Turns, Work};
 use crate::faults::RunFault;
-use crate::turns::Turn;
 use cdc_links::{LinkIn, LinkOut, Naming};
 use cdc_message::{Answer, Confirm, Packet};
 use cdc_progress::ProgressStore;
@@ -27,7 +30,7 @@ use std::sync::Wait;
 /// A connector's ends of its links, its store, the moment that its first session is told to start after, its session, if one runs, with how many polls that has sent and the one
 /// that is open; how many packets are without an answer; after which publish packets it restarts, and how many it has
 /// sent; and whether it has finished.
-pub(crate) struct Publishing<S: ProgressStore> {
+pub struct Publishing<S: ProgressStore> {
     inbox: LinkIn<ToConnector>,
     polls: LinkOut<ToLedger>,
     packets: LinkOut<ToBroker>,
@@ -79,6 +82,7 @@ impl<S: ProgressStore> Model for Publishing<S> {
       first = c.first;
       held = S.held c.store;
       honest = S.is_honest c.store;
+      risks = S.risks c.store;
       session = c.session;
       asked = c.asked;
       poll = c.poll;
@@ -114,6 +118,7 @@ impl Naming<()> for Nothing {
 fn say<R: Wait>(polls: &mut LinkOut<ToLedger>, rt: &R, message: ToLedger) -> Result<(), RunFault>
     requires { FollowsToLedger polls.old.number polls.old.sent (message, tt) }
     ensures sent { IfOk result (λ _. polls.new ≡ with_sent polls.old (message, tt)) }
+    ensures refused { IfErr result (λ fault. (fault ≡ PeerGone) × (polls.new ≡ polls.old)) }
     ensures kind { IfErr result IsTurnFault }
 {
     match polls.send::<Nothing, R>(rt, message) {
@@ -130,6 +135,7 @@ fn publish<R: Wait>(
 ) -> Result<(), RunFault>
     requires { FollowsToBroker packets.old.number packets.old.sent (message, tt) }
     ensures sent { IfOk result (λ _. packets.new ≡ with_sent packets.old (message, tt)) }
+    ensures refused { IfErr result (λ fault. (fault ≡ PeerGone) × (packets.new ≡ packets.old)) }
     ensures kind { IfErr result IsTurnFault }
 {
     match packets.send::<Nothing, R>(rt, message) {
@@ -141,6 +147,7 @@ fn publish<R: Wait>(
 // Receives the next message, of the ledger or of the broker.
 fn receive<R: Wait>(inbox: &mut LinkIn<ToConnector>, rt: &R) -> Result<ToConnector, RunFault>
     ensures taken { IfOk result (λ message. Takes FollowsToConnector inbox.old message inbox.new) }
+    ensures refused { IfErr result (λ fault. (fault ≡ PeerGone) × (inbox.new ≡ inbox.old)) }
     ensures kind { IfErr result IsTurnFault }
 {
     match inbox.receive(rt) {
@@ -199,13 +206,6 @@ fn is_own(session: &Option<Session>, number: u64) -> bool
     }
 }
 
-// What the end answers to a turn.
-fn turn_of(finished: bool) -> Turn
-    ensures { result ≡ turn_if finished }
-{
-    if finished { Turn::Finished } else { Turn::More }
-}
-
 impl<S: ProgressStore> Publishing<S> {
     /// Nothing was said yet.
     pub(crate) fn new(
@@ -217,8 +217,8 @@ impl<S: ProgressStore> Publishing<S> {
         window: usize,
         restart_after: Vec<u64>,
     ) -> Publishing<S>
-        ensures { result ≡ first_work inbox polls packets (S.held store) (S.is_honest store) start
-            window restart_after.items }
+        ensures { result ≡ first_work inbox polls packets (S.held store) (S.is_honest store)
+            (S.risks store) start window restart_after.items }
     {
         Publishing {
             inbox,
@@ -238,53 +238,11 @@ impl<S: ProgressStore> Publishing<S> {
         }
     }
 
-    /// Tells the ledger and the broker that nothing more comes.
-    pub(crate) fn give_up<R: Wait>(&mut self, rt: &R)
-        ensures { self.new ≡ self.old }
-    {
-        self.polls.give_up(rt);
-        self.packets.give_up(rt);
-    }
-
-    /// Takes the links and the store apart.
-    pub(crate) fn into_parts(self) -> ConnectorParts<S>
-        ensures { ArePartsOf self result.inbox result.polls result.packets (S.held result.store) }
-    {
-        let Self {
-            inbox,
-            polls,
-            packets,
-            store,
-            start: _,
-            first: _,
-            session: _,
-            asked: _,
-            poll: _,
-            unanswered: _,
-            window: _,
-            restart_after: _,
-            published: _,
-            finished: _,
-        } = self;
-        ConnectorParts {
-            inbox,
-            polls,
-            packets,
-            store,
-        }
-    }
-
-    /// Whether the connector has finished.
-    pub(crate) fn is_over(&self) -> bool
-        ensures { result ≡ self.now.finished }
-    {
-        self.finished
-    }
-
     /// Starts the next session in the place of the one that runs, if one does.
     fn begin(&mut self, alloc: Global) -> Result<(), RunFault>
         requires { IsWindow self.old.window }
         ensures after { IfOk result (λ _. IsBegun self.old self.new) }
+        ensures failed { IfErr result (λ fault. IsNotBegun self.old fault self.new) }
         ensures kind { IfErr result IsStartFault }
     {
         let session = Session::start(alloc, &mut self.store, self.window, self.start)?;
@@ -302,6 +260,8 @@ impl<S: ProgressStore> Publishing<S> {
         requires room { self.old.unanswered ≤ self.old.window }
         ensures after { (course : Course) → IsPublishing self.old (Some course)
             → IfOk result (λ sent. IsPacketSent self.old course (next_packet course) sent self.new) }
+        ensures failed { (course : Course) → IsPublishing self.old (Some course)
+            → IfErr result (λ fault. IsUnsent self.old course fault self.new) }
         ensures kind { IfErr result IsTurnFault }
     {
         let Some(session) = &mut self.session else {
@@ -324,6 +284,7 @@ impl<S: ProgressStore> Publishing<S> {
         requires sending { IsSending self.old }
         requires room { self.old.unanswered ≤ self.old.window }
         ensures after { IfOk result (λ sent. IsSentNext self.old sent self.new) }
+        ensures failed { IfErr result (λ fault. IsCutShort self.old fault self.new) }
         ensures kind { IfErr result IsTurnFault }
     {
         let before = self.published;
@@ -340,6 +301,7 @@ impl<S: ProgressStore> Publishing<S> {
     fn send_packets<R: Wait>(&mut self, rt: &R, alloc: Global) -> Result<(), RunFault>
         requires { IsSending self.old }
         ensures after { IfOk result (λ _. AreSent self.old self.new) }
+        ensures failed { IfErr result (λ fault. IsCutShort self.old fault self.new) }
         ensures kind { IfErr result IsTurnFault }
     {
         while self.unanswered <= self.window {
@@ -355,6 +317,7 @@ impl<S: ProgressStore> Publishing<S> {
         requires { IsSending self.old }
         ensures after { (course : Course) → IsPublishing self.old (Some course)
             → IfOk result (λ _. self.new ≡ asked_if self.old.poll course self.old) }
+        ensures failed { IfErr result (λ fault. (fault ≡ PeerGone) × (self.new ≡ self.old)) }
         ensures kind { IfErr result IsTurnFault }
     {
         if self.poll.is_some() {
@@ -387,6 +350,7 @@ impl<S: ProgressStore> Publishing<S> {
         ensures after { (course : Course) → IsPublishing self.old (Some course)
             → IfOk result (λ _. self.new
             ≡ finished_if (is_done course && (self.old.unanswered == 0)) self.old) }
+        ensures failed { IfErr result (λ fault. (fault ≡ PeerGone) × IsUnfinished self.old self.new) }
         ensures kind { IfErr result IsTurnFault }
     {
         let Some(session) = &self.session else {
@@ -405,6 +369,7 @@ impl<S: ProgressStore> Publishing<S> {
     fn follow<R: Wait>(&mut self, rt: &R, alloc: Global) -> Result<(), RunFault>
         requires { IsSending self.old }
         ensures after { IfOk result (λ _. IsFollowed self.old self.new) }
+        ensures failed { IfErr result (λ fault. IsCutShort self.old fault self.new) }
         ensures kind { IfErr result IsTurnFault }
     {
         self.send_packets(rt, alloc)?;
@@ -432,6 +397,9 @@ impl<S: ProgressStore> Publishing<S> {
     fn confirm(&mut self, session: u64, tag: u64) -> Result<(), RunFault>
         ensures after { (course : Course) → SessionStands self.old.session (Some course)
             → IfOk result (λ _. IsAnswerTaken self.old course session (Confirmed tag) self.new) }
+        ensures failed { (course : Course) → SessionStands self.old.session (Some course)
+            → IfErr result (λ fault.
+            IsUnsaved self.old (with_confirm session tag course) fault self.new) }
         ensures kind { IfErr result IsSaveFault }
     {
         let Some(running) = &mut self.session else {
@@ -450,6 +418,9 @@ impl<S: ProgressStore> Publishing<S> {
         requires { IsWindow self.old.window }
         ensures after { (course : Course) → SessionStands self.old.session (Some course)
             → IfOk result (λ _. IsAnswerTaken self.old course session Broken self.new) }
+        ensures failed { (course : Course) → SessionStands self.old.session (Some course)
+            → IfErr result (λ fault.
+            (session ≡ course.number) × IsNotBegun self.old fault self.new) }
         ensures kind { IfErr result IsStartFault }
     {
         if is_own(&self.session, session) {
@@ -463,6 +434,8 @@ impl<S: ProgressStore> Publishing<S> {
         requires { IsWindow self.old.window }
         ensures after { (course : Course) → SessionStands self.old.session (Some course)
             → IfOk result (λ _. IsConfirmTaken self.old course confirm self.new) }
+        ensures failed { (course : Course) → SessionStands self.old.session (Some course)
+            → IfErr result (λ fault. IsConfirmFailed self.old course confirm fault self.new) }
         ensures kind { IfErr result IsTurnFault }
     {
         let Some(unanswered) = self.unanswered.checked_sub(1) else {
@@ -481,6 +454,7 @@ impl<S: ProgressStore> Publishing<S> {
         requires { IsSending self.old }
         ensures after { (course : Course) → IsPublishing self.old (Some course)
             → IfOk result (λ moved. IsHeard self.old course moved self.new) }
+        ensures failed { IfErr result (λ fault. HasFailed self.old fault self.new) }
         ensures kind { IfErr result IsTurnFault }
     {
         match receive(&mut self.inbox, rt)? {
@@ -497,6 +471,7 @@ impl<S: ProgressStore> Publishing<S> {
         requires rest { IsConnectorEnd self.old }
         requires working { self.old.finished ≡ false }
         ensures after { IfOk result (λ moved. IsAdvanced self.old moved self.new) }
+        ensures failed { IfErr result (λ fault. HasFailed self.old fault self.new) }
         ensures kind { IfErr result IsTurnFault }
     {
         if self.session.is_some() {
@@ -507,19 +482,85 @@ impl<S: ProgressStore> Publishing<S> {
     }
 
     /// Receives a message, and sends what follows from it; the first turn begins the first session, and only sends.
-    pub(crate) fn turn<R: Wait>(&mut self, rt: &R, alloc: Global) -> Result<Turn, RunFault>
-        requires { IsConnectorEnd self.old }
+    fn turn<R: Wait>(&mut self, rt: &R, alloc: Global) -> Result<(), RunFault>
+        requires kept { IsConnectorEnd self.old }
+        requires goes_on { self.old.finished ≡ false }
         ensures kept { IfOk result (λ _. IsConnectorEnd self.new) }
-        ensures turns { IfOk result (λ _. IsTurn self.old self.new) }
-        ensures answer { IfOk result (λ turn. turn ≡ turn_if self.new.finished) }
+        ensures turned { IfOk result (λ _. IsWorkingTurn self.old.session self.old self.new) }
+        ensures failed { IfErr result (λ fault. HasFailed self.old fault self.new) }
         ensures kind { IfErr result IsTurnFault }
     {
-        if self.finished {
-            return Ok(Turn::Finished);
+        if !self.advance(rt, alloc)? {
+            return Ok(());
         }
-        if self.advance(rt, alloc)? {
-            self.follow(rt, alloc)?;
+        self.follow(rt, alloc)
+    }
+}
+
+impl<S: ProgressStore> Work for Publishing<S> {
+    ghost use Rattle.cdc_ends.specs.ConnectorEnds.{ArePartsOf, IsConnectorEnd};
+    ghost use Rattle.cdc_ends.specs.ConnectorSoFar.{IsFaultOf};
+    ghost use Rattle.cdc_ends.specs.Seats.{ConnectorSeat, connector_seat};
+
+    type Parts = ConnectorParts<S>;
+
+    ghost Seat = { ConnectorSeat };
+
+    ghost seat = { connector_seat };
+
+    ghost keeps = { IsConnectorEnd };
+
+    ghost is_over = { λ c. c.finished };
+
+    ghost fails_as = { IsFaultOf };
+
+    ghost leaves = { λ c parts.
+        ArePartsOf c parts.inbox parts.polls parts.packets (S.held parts.store) };
+
+    fn is_over(&self) -> bool {
+        self.finished
+    }
+
+    fn give_up<R: Wait>(&mut self, rt: &R) {
+        self.polls.give_up(rt);
+        self.packets.give_up(rt);
+    }
+
+    fn into_parts(self) -> ConnectorParts<S> {
+        let Self {
+            inbox,
+            polls,
+            packets,
+            store,
+            start: _,
+            first: _,
+            session: _,
+            asked: _,
+            poll: _,
+            unanswered: _,
+            window: _,
+            restart_after: _,
+            published: _,
+            finished: _,
+        } = self;
+        ConnectorParts {
+            inbox,
+            polls,
+            packets,
+            store,
         }
-        Ok(turn_of(self.finished))
+    }
+}
+
+impl<S: ProgressStore> Turns for Publishing<S> {
+    ghost use Rattle.cdc_ends.specs.ConnectorEnds.{IsWorkingTurn};
+    ghost use Rattle.cdc_ends.specs.ConnectorSoFar.{HasFailed};
+
+    ghost turns = { λ old new. IsWorkingTurn old.session old new };
+
+    ghost fails = { HasFailed };
+
+    fn take_turn<R: Wait>(&mut self, rt: &R, alloc: Global) -> Result<(), RunFault> {
+        self.turn(rt, alloc)
     }
 }

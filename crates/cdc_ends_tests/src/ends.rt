@@ -16,8 +16,8 @@ use std::sync::Wait;
 
 // Whether a pulse is answered by this, that the ledger is gone.
 fn finds_no_ledger<R: Wait>(rt: &R, alloc: Global, client: &mut ClientEnd, now: u64) -> bool
-    requires { client.old.talk.finished ≡ false }
-    ensures { client.new.talk.finished ≡ client.old.talk.finished }
+    requires { client.old.work.finished ≡ false }
+    ensures { client.new.work.finished ≡ client.old.work.finished }
 {
     let reply = client.submit(rt, alloc, Batch::Pulse { now });
     matches!(&reply, Err(RunFault::PeerGone))

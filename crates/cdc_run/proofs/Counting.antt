@@ -2,13 +2,17 @@
 use Rattle.std.proofs.Common.{◌≡◌, ◌⊎◌, ℕ, suc, ◌+◌, List, [], ◌∷◌, ◌++◌, Option, Some, None, Result, Ok, Err, refl, sym, ap, ◌∙◌, subst, arith, length, map, inl, inr}
 use Rattle.std.specs.Prelude.{Bool}
 use Rattle.std.specs.List.{AllZip}
-use Rattle.cdc_ends.specs.BrokerEnds.{BrokerEndState}
-use Rattle.cdc_ends.specs.Clients.{ClientState}
-use Rattle.cdc_ends.specs.ConnectorEnds.{ConnectorEndState, IsTurnFault as IsConnectorFault}
-use Rattle.cdc_ends.specs.LedgerEnds.{IsTurnFault as IsLinkFault, LedgerEndState}
-use Rattle.cdc_ends.specs.SubscriberEnds.{SubscriberState}
+use Rattle.cdc_ends.specs.BrokerEnds.{Desk as BrokerDesk}
+use Rattle.cdc_ends.specs.Clients.{Talk}
+use Rattle.cdc_ends.specs.ConnectorEnds.{IsTurnFault as IsConnectorFault, Publishing}
+use Rattle.cdc_ends.specs.LedgerEnds.{Desk as LedgerDesk}
+use Rattle.cdc_ends.specs.SubscriberEnds.{Intake}
 use Rattle.cdc_ends.specs.declared.faults.RunFault.{RunFault}
-use Rattle.cdc_ends.specs.declared.faults.RunFault.TheVariants.{OutOfMemory}
+use Rattle.cdc_ends.specs.ConnectorSoFar.{IsFaultOf as IsMetByConnector}
+use Rattle.cdc_ends.specs.declared.faults.RunFault.TheVariants.{PeerGone, OutOfMemory, Store, SessionsExhausted, NotOneSystem, StartNotAllowed}
+use Rattle.cdc_progress.specs.declared.errors.StoreError.TheVariants as store
+use Rattle.cdc_ends.specs.Ends.{EndState}
+use Rattle.cdc_ends.specs.Faults.{IsTurnFault}
 use Rattle.cdc_links.specs.Links.{LinkId, fresh_end}
 use Rattle.cdc_progress.specs.Records.{Saved}
 use Rattle.cdc_run.specs.Accounts.{IsRefused}
@@ -16,7 +20,7 @@ use Rattle.cdc_run.specs.Jobs.{ComesTo}
 use Rattle.cdc_run.specs.Made.{AreMade, fresh_inbox, made_clients, made_subscribers}
 use Rattle.cdc_run.specs.Meeting.{HasFailed, IsRunFault, MayHaveMet, MayMeet, clients_from, fault_in, places_in, subscribers_from}
 use Rattle.cdc_run.specs.Outcomes.{fault_among, fault_of, first_of}
-use Rattle.cdc_run.specs.Tasks.{Fails, Leaves, numbered, places_of, tasks_at, with_scripts}
+use Rattle.cdc_run.specs.Tasks.{Fails, IsMet, Leaves, numbered, places_of, tasks_at, with_scripts}
 use Rattle.cdc_run.specs.Worked.{IsFaultOf}
 use Rattle.cdc_run.specs.declared.configs.Config.{Config}
 use Rattle.cdc_run.specs.declared.ends.Ends.{Ends}
@@ -43,11 +47,28 @@ met_kind : {A : Type 0} (Is : A → Type 0) (K : RunFault → Type 0) (fault : R
 met_kind Is K fault (inl met) = inl met.1.1
 met_kind Is K fault (inr none) = inr none
 
+-- the connector's end meets such faults alone
+fault_kind : (c : Publishing) (fault : RunFault) → IsMetByConnector c fault → IsConnectorFault fault
+fault_kind c PeerGone is = inl refl
+fault_kind c OutOfMemory is = inr (inl refl)
+fault_kind c (Store store.ReadFault) is = inr (inr (inl tt))
+fault_kind c (Store store.WriteFault) is = inr (inr (inl tt))
+fault_kind c (Store store.BadRecord) is = inr (inr (inl tt))
+fault_kind c (Store store.OutOfMemory) is = absurd is
+fault_kind c SessionsExhausted is = inr (inr (inl tt))
+fault_kind c NotOneSystem is = absurd is
+fault_kind c StartNotAllowed is = inr (inr (inl tt))
+
+connector_kind : (fault : RunFault) → IsMet IsMetByConnector fault ⊎ (fault ≡ OutOfMemory)
+    → IsConnectorFault fault ⊎ (fault ≡ OutOfMemory)
+connector_kind fault (inl met) = inl (fault_kind met.0.work fault met.1.1)
+connector_kind fault (inr none) = inr none
+
 module _ (S : Type 0) where
   -- where an end stands
   abbrev place_of : Task S → Place
   place_of (task.Ledger end) = place.Ledger
-  place_of (task.Client client) = place.Client client.end.talk.number
+  place_of (task.Client client) = place.Client client.end.work.number
   place_of (task.Connector end) = place.Connector
   place_of (task.Broker end) = place.Broker
   place_of (task.Subscriber number end) = place.Subscriber number
@@ -57,20 +78,19 @@ module _ (S : Type 0) where
       → MayHaveMet (place_of t) (fault_of outcome)
   one_met t (Ok left) come = tt
   one_met (task.Ledger end) (Err fault) come =
-      of_kind IsLinkFault fault (inr refl)
-      (met_kind (λ (left : LedgerEndState). left.fault ≡ Some fault) IsLinkFault fault come.fault)
+      of_kind IsTurnFault fault (inr refl)
+      (met_kind (λ (left : EndState LedgerDesk). left.fault ≡ Some fault) IsTurnFault fault come.fault)
   one_met (task.Client client) (Err fault) come =
-      of_kind IsLinkFault fault (inr refl)
-      (met_kind (λ (left : ClientState). left.fault ≡ Some fault) IsLinkFault fault come.fault)
+      of_kind IsTurnFault fault (inr refl)
+      (met_kind (λ (left : EndState Talk). left.fault ≡ Some fault) IsTurnFault fault come.fault)
   one_met (task.Connector end) (Err fault) come =
-      of_kind IsConnectorFault fault (inr (inl refl))
-      (met_kind (λ (left : ConnectorEndState). left.fault ≡ Some fault) IsConnectorFault fault come.fault)
+      of_kind IsConnectorFault fault (inr (inl refl)) (connector_kind fault come.fault)
   one_met (task.Broker end) (Err fault) come =
-      of_kind IsLinkFault fault (inr refl)
-      (met_kind (λ (left : BrokerEndState). left.fault ≡ Some fault) IsLinkFault fault come.fault)
+      of_kind IsTurnFault fault (inr refl)
+      (met_kind (λ (left : EndState BrokerDesk). left.fault ≡ Some fault) IsTurnFault fault come.fault)
   one_met (task.Subscriber number end) (Err fault) come =
-      of_kind IsLinkFault fault (inr refl)
-      (met_kind (λ (left : SubscriberState). left.fault ≡ Some fault) IsLinkFault fault come.fault)
+      of_kind IsTurnFault fault (inr refl)
+      (met_kind (λ (left : EndState Intake). left.fault ≡ Some fault) IsTurnFault fault come.fault)
 
   -- so has each
   all_met : (ts : List (Task S)) (outcomes : List (Result (Left S) RunFault)) → AllZip (ComesTo Leaves Fails) ts outcomes
@@ -98,7 +118,7 @@ module _ (S : Type 0) where
       (clients_stand system requests (number + 1) links scripts rest fewer)
 
   -- and where subscribers do
-  subscribers_stand : (number : ℕ) (subscribers : List SubscriberState)
+  subscribers_stand : (number : ℕ) (subscribers : List (EndState Intake))
       → map place_of (numbered number subscribers) ≡ subscribers_from number (length subscribers)
   subscribers_stand number [] = refl
   subscribers_stand number (s ∷ subscribers) =
@@ -128,12 +148,12 @@ module _ {S : Type 0} (config : Config) (faults : Faults) (held : Option Saved) 
       ≡ subscribers_from 1 (length config.bindings.items) =
       subscribers_stand S 1 ends.subscribers.items
       ∙ ap (subscribers_from 1)
-      (ap (λ (l : List SubscriberState). length l) made.subscribers
+      (ap (λ (l : List (EndState Intake)). length l) made.subscribers
       ∙ subscribers_count config.system made.wiring.to_broker 1 made.wiring.to_subscribers made.closes
       (made.closes_count ∙ sym made.subscribers_count)
       ∙ made.subscribers_count) in
       ap (λ (l : List Place). place.Ledger ∷ l)
-      (ap (λ (cs : List ClientState). map (place_of S) (map task.Client (with_scripts cs scripts) ++ rest)) made.clients
+      (ap (λ (cs : List (EndState Talk)). map (place_of S) (map task.Client (with_scripts cs scripts) ++ rest)) made.clients
       ∙ clients_stand S config.system made.wiring.to_ledger 1 links scripts rest (many ∙ sym made.clients_count)
       ∙ ap (λ (n : ℕ). clients_from 1 n ++ map (place_of S) rest) made.clients_count
       ∙ ap (λ (l : List Place). clients_from 1 config.clients ++ place.Connector ∷ place.Broker ∷ l) subscribers)

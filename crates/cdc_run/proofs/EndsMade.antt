@@ -2,8 +2,9 @@
 use Rattle.std.proofs.Common.{◌≡◌, ℕ, suc, ◌+◌, List, [], ◌∷◌, ◌++◌, sym, ap, ◌∙◌, subst, arith, map, length}
 use Rattle.std.specs.Prelude.{Option, None}
 use Rattle.std.proofs.lemmas.List.{length-map, length_push, map_push}
-use Rattle.cdc_ends.specs.Clients.{ClientState, first_words}
-use Rattle.cdc_ends.specs.SubscriberEnds.{SubscriberState, new_intake}
+use Rattle.cdc_ends.specs.Clients.{first_words, Talk}
+use Rattle.cdc_ends.specs.SubscriberEnds.{new_intake, Intake}
+use Rattle.cdc_ends.specs.Ends.{EndState}
 use Rattle.cdc_links.specs.Links.{Incoming, LinkId, Outgoing, fresh_end}
 use Rattle.cdc_traffic.specs.declared.messages.ToBroker.{ToBroker}
 use Rattle.cdc_traffic.specs.declared.messages.ToLedger.{ToLedger}
@@ -24,9 +25,9 @@ is_fresh {M} {N} count into fresh =
 -- ---- clients
 
 -- one that has said nothing
-abbrev client_of : ℕ → ℕ → Outgoing ToLedger (Unit {0}) → Incoming Reply Past → ClientState
+abbrev client_of : ℕ → ℕ → Outgoing ToLedger (Unit {0}) → Incoming Reply Past → EndState Talk
 client_of system number requests answers =
-    record { system = system; talk = first_words number requests answers; fault = None }
+    record { system = system; work = first_words number requests answers; fault = None }
 
 -- one client more
 clients_push : (system : ℕ) (link : LinkId ToLedger) (number : ℕ) (links : List (LinkId Reply)) (answers : LinkId Reply)
@@ -38,14 +39,14 @@ clients_push system link number [] answers =
     ap (λ (k : ℕ). client_of system k (fresh_end link k) (fresh_inbox answers 1) ∷ []) same
 clients_push system link number (l ∷ links) answers =
     let same : number + 1 + length links ≡ number + suc (length links) = omega arith in
-    ap (λ (rest : List ClientState). client_of system number (fresh_end link number) (fresh_inbox l 1) ∷ rest)
+    ap (λ (rest : List (EndState Talk)). client_of system number (fresh_end link number) (fresh_inbox l 1) ∷ rest)
     (clients_push system link (number + 1) links answers
     ∙ ap (λ (k : ℕ). made_clients system link (number + 1) links
     ++ client_of system k (fresh_end link k) (fresh_inbox answers 1) ∷ []) same)
 
 -- and so of the ends that a loop has made of these pairs, and of one pair more
 pub client_more : (system : ℕ) (link : LinkId ToLedger) (ps : List (Outgoing ToLedger (Unit {0}) × Incoming Reply Past))
-    (p : Outgoing ToLedger (Unit {0}) × Incoming Reply Past) (clients : List ClientState) (number : ℕ)
+    (p : Outgoing ToLedger (Unit {0}) × Incoming Reply Past) (clients : List (EndState Talk)) (number : ℕ)
     → clients ≡ made_clients system link 1 (map (λ p. p.1.link) ps) → number ≡ 1 + length ps
     → (p.0 ≡ fresh_end link (1 + length ps)) × IsFresh 1 p.1
     → clients ++ client_of system number p.0 p.1 ∷ [] ≡ made_clients system link 1 (map (λ p. p.1.link) (ps ++ p ∷ []))
@@ -79,9 +80,9 @@ closes_push number given (c ∷ closes) close are is =
 
 -- one to which nothing has come
 abbrev subscriber_of : ℕ → ℕ → Incoming ToSubscriber (Unit {0}) → Outgoing ToBroker (Unit {0}) → Option ℕ
-    → SubscriberState
+    → EndState Intake
 subscriber_of system number inbox acks close =
-    record { system = system; intake = new_intake number inbox acks close; fault = None }
+    record { system = system; work = new_intake number inbox acks close; fault = None }
 
 -- one subscriber more
 subscribers_push : (system : ℕ) (acks : LinkId ToBroker) (number : ℕ) (links : List (LinkId ToSubscriber))
@@ -98,7 +99,7 @@ subscribers_push system acks number (l ∷ links) [] inbox close long = absurd (
 subscribers_push system acks number (l ∷ links) (c ∷ closes) inbox close long =
     let shorter : length closes ≡ length links = omega arith in
     let same : number + 1 + length links ≡ number + suc (length links) = omega arith in
-    ap (λ (rest : List SubscriberState). subscriber_of system number (fresh_inbox l 1) (fresh_end acks number) c ∷ rest)
+    ap (λ (rest : List (EndState Intake)). subscriber_of system number (fresh_inbox l 1) (fresh_end acks number) c ∷ rest)
     (subscribers_push system acks (number + 1) links closes inbox close shorter
     ∙ ap (λ (k : ℕ). made_subscribers system acks (number + 1) links closes
     ++ subscriber_of system k (fresh_inbox inbox 1) (fresh_end acks k) close ∷ []) same)
@@ -107,7 +108,7 @@ subscribers_push system acks number (l ∷ links) (c ∷ closes) inbox close lon
 pub subscriber_more : (system : ℕ) (acks : LinkId ToBroker) (given : List (ℕ × ℕ))
     (ps : List (Outgoing ToBroker (Unit {0}) × Incoming ToSubscriber (Unit {0})))
     (p : Outgoing ToBroker (Unit {0}) × Incoming ToSubscriber (Unit {0}))
-    (subscribers : List SubscriberState) (number : ℕ) (close : Option ℕ)
+    (subscribers : List (EndState Intake)) (number : ℕ) (close : Option ℕ)
     → AreFreshSubscribers system acks given (map (λ p. p.1.link) ps) subscribers → number ≡ 1 + length ps
     → IsLeastClose number given close → (p.0 ≡ fresh_end acks (1 + length ps)) × IsFresh 1 p.1
     → AreFreshSubscribers system acks given (map (λ p. p.1.link) (ps ++ p ∷ []))

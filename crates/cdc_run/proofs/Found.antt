@@ -2,22 +2,23 @@
 use Rattle.std.proofs.Common.{◌≡◌, ◌∙◌, true, List, [], ◌∷◌, ◌++◌, refl, sym, ap, map, map-id}
 use Rattle.std.specs.Prelude.{Option, Some, None, is_some}
 use Rattle.std.proofs.lemmas.List.{append_assoc, append-nil}
-use Rattle.cdc_ends.specs.BrokerEnds.{BrokerEndState}
-use Rattle.cdc_ends.specs.Clients.{ClientState}
-use Rattle.cdc_ends.specs.ConnectorEnds.{ConnectorEndState}
-use Rattle.cdc_ends.specs.LedgerEnds.{LedgerEndState}
-use Rattle.cdc_ends.specs.SubscriberEnds.{SubscriberState}
+use Rattle.cdc_ends.specs.BrokerEnds.{Desk as BrokerDesk}
+use Rattle.cdc_ends.specs.Clients.{Talk}
+use Rattle.cdc_ends.specs.ConnectorEnds.{Publishing}
+use Rattle.cdc_ends.specs.LedgerEnds.{Desk as LedgerDesk}
+use Rattle.cdc_ends.specs.SubscriberEnds.{Intake}
+use Rattle.cdc_ends.specs.Ends.{EndState}
 use Rattle.cdc_run.specs.Tasks.{Placed, left_at}
 use Rattle.cdc_run.specs.declared.placed.Left.{Left}
 use Rattle.cdc_run.specs.declared.placed.Left.TheVariants as left
 
 -- what was found of each kind
 pub record Found : Type 0 where
-  pub ledger : Option LedgerEndState
-  pub clients : List ClientState
-  pub connector : Option ConnectorEndState
-  pub broker : Option BrokerEndState
-  pub subscribers : List SubscriberState
+  pub ledger : Option (EndState LedgerDesk)
+  pub clients : List (EndState Talk)
+  pub connector : Option (EndState Publishing)
+  pub broker : Option (EndState BrokerDesk)
+  pub subscribers : List (EndState Intake)
 
 abbrev pub nothing : Found
 nothing = record { ledger = None; clients = []; connector = None; broker = None; subscribers = [] }
@@ -33,8 +34,8 @@ all_of p = record {
 }
 
 -- it is what was found, where all was found
-pub of_parts : (ledger : Option LedgerEndState) (connector : Option ConnectorEndState)
-    (broker : Option BrokerEndState) (p : Placed) → ledger ≡ Some p.ledger → connector ≡ Some p.connector
+pub of_parts : (ledger : Option (EndState LedgerDesk)) (connector : Option (EndState Publishing))
+    (broker : Option (EndState BrokerDesk)) (p : Placed) → ledger ≡ Some p.ledger → connector ≡ Some p.connector
     → broker ≡ Some p.broker → all_of p ≡ record {
       ledger = ledger;
       clients = p.clients;
@@ -70,42 +71,42 @@ module _ {S : Type 0} where
       found_push nothing ends end ∙ ap (λ (f : Found). with_end f end) so_far ∙ ap (with_end found) same
 
   -- it is a client
-  pub found_client : (ends : List (Left S)) (end : Left S) (c : ClientState) (found : Found)
-      (clients : List ClientState) → found_in nothing ends ≡ found → end ≡ left.Client c
+  pub found_client : (ends : List (Left S)) (end : Left S) (c : EndState Talk) (found : Found)
+      (clients : List (EndState Talk)) → found_in nothing ends ≡ found → end ≡ left.Client c
       → clients ≡ found.clients ++ c ∷ []
       → found_in nothing (ends ++ end ∷ []) ≡ record found { clients = clients }
   found_client ends end c found clients so_far same more =
       found_step ends end (left.Client c) found so_far same
-      ∙ ap (λ (l : List ClientState). record found { clients = l }) (sym more)
+      ∙ ap (λ (l : List (EndState Talk)). record found { clients = l }) (sym more)
 
   -- it is a subscriber
-  pub found_subscriber : (ends : List (Left S)) (end : Left S) (s : SubscriberState) (found : Found)
-      (subscribers : List SubscriberState) → found_in nothing ends ≡ found → end ≡ left.Subscriber s
+  pub found_subscriber : (ends : List (Left S)) (end : Left S) (s : EndState Intake) (found : Found)
+      (subscribers : List (EndState Intake)) → found_in nothing ends ≡ found → end ≡ left.Subscriber s
       → subscribers ≡ found.subscribers ++ s ∷ []
       → found_in nothing (ends ++ end ∷ []) ≡ record found { subscribers = subscribers }
   found_subscriber ends end s found subscribers so_far same more =
       found_step ends end (left.Subscriber s) found so_far same
-      ∙ ap (λ (l : List SubscriberState). record found { subscribers = l }) (sym more)
+      ∙ ap (λ (l : List (EndState Intake)). record found { subscribers = l }) (sym more)
 
 module _ (S : Type 0) where
   -- clients, one after another
-  found_clients : (f : Found) (clients : List ClientState) (rest : List (Left S))
+  found_clients : (f : Found) (clients : List (EndState Talk)) (rest : List (Left S))
       → found_in f (map left.Client clients ++ rest) ≡ found_in (record f { clients = f.clients ++ clients }) rest
   found_clients f [] rest =
-      ap (λ (l : List ClientState). found_in (record f { clients = l }) rest) (sym (append-nil f.clients))
+      ap (λ (l : List (EndState Talk)). found_in (record f { clients = l }) rest) (sym (append-nil f.clients))
   found_clients f (c ∷ clients) rest =
       found_clients (record f { clients = f.clients ++ c ∷ [] }) clients rest
-      ∙ ap (λ (l : List ClientState). found_in (record f { clients = l }) rest)
+      ∙ ap (λ (l : List (EndState Talk)). found_in (record f { clients = l }) rest)
       (append_assoc f.clients (c ∷ []) clients)
 
   -- subscribers, one after another
-  found_subscribers : (f : Found) (subscribers : List SubscriberState)
+  found_subscribers : (f : Found) (subscribers : List (EndState Intake))
       → found_in {S = S} f (map left.Subscriber subscribers) ≡ record f { subscribers = f.subscribers ++ subscribers }
   found_subscribers f [] =
-      ap (λ (l : List SubscriberState). record f { subscribers = l }) (sym (append-nil f.subscribers))
+      ap (λ (l : List (EndState Intake)). record f { subscribers = l }) (sym (append-nil f.subscribers))
   found_subscribers f (s ∷ subscribers) =
       found_subscribers (record f { subscribers = f.subscribers ++ s ∷ [] }) subscribers
-      ∙ ap (λ (l : List SubscriberState). record f { subscribers = l })
+      ∙ ap (λ (l : List (EndState Intake)). record f { subscribers = l })
       (append_assoc f.subscribers (s ∷ []) subscribers)
 
   -- all ends of a run
@@ -136,8 +137,8 @@ same_placed p new same =
     let connector : new.connector ≡ p.connector = cc in
     let broker : new.broker ≡ p.broker = cc in
     let subscribers : new.subscribers ≡ p.subscribers = ap (λ (f : Found). f.subscribers) same in
-    ap (λ (x : LedgerEndState). record new { ledger = x }) ledger
-    ∙ ap (λ (x : List ClientState). record new { ledger = p.ledger; clients = x }) clients
-    ∙ ap (λ (x : ConnectorEndState). record new { ledger = p.ledger; clients = p.clients; connector = x }) connector
-    ∙ ap (λ (x : BrokerEndState). record p { broker = x; subscribers = new.subscribers }) broker
-    ∙ ap (λ (x : List SubscriberState). record p { subscribers = x }) subscribers
+    ap (λ (x : EndState LedgerDesk). record new { ledger = x }) ledger
+    ∙ ap (λ (x : List (EndState Talk)). record new { ledger = p.ledger; clients = x }) clients
+    ∙ ap (λ (x : EndState Publishing). record new { ledger = p.ledger; clients = p.clients; connector = x }) connector
+    ∙ ap (λ (x : EndState BrokerDesk). record p { broker = x; subscribers = new.subscribers }) broker
+    ∙ ap (λ (x : List (EndState Intake)). record p { subscribers = x }) subscribers

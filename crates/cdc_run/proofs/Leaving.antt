@@ -2,11 +2,12 @@
 use Rattle.std.proofs.Common.{◌≡◌, ℕ, ◌+◌, Bool, List, [], ◌∷◌, ◌++◌, refl, sym, ap, ap₂, ◌∙◌, subst, map}
 use Rattle.std.specs.Prelude.{Option}
 use Rattle.std.specs.List.{AllZip}
-use Rattle.cdc_ends.specs.BrokerEnds.{BrokerEndState}
-use Rattle.cdc_ends.specs.Clients.{ClientState}
-use Rattle.cdc_ends.specs.ConnectorEnds.{ConnectorEndState}
-use Rattle.cdc_ends.specs.LedgerEnds.{LedgerEndState}
-use Rattle.cdc_ends.specs.SubscriberEnds.{SubscriberState}
+use Rattle.cdc_ends.specs.BrokerEnds.{Desk as BrokerDesk}
+use Rattle.cdc_ends.specs.Clients.{Talk}
+use Rattle.cdc_ends.specs.ConnectorEnds.{Publishing}
+use Rattle.cdc_ends.specs.LedgerEnds.{Desk as LedgerDesk}
+use Rattle.cdc_ends.specs.SubscriberEnds.{Intake}
+use Rattle.cdc_ends.specs.Ends.{EndState}
 use Rattle.cdc_progress.specs.Records.{Saved}
 use Rattle.cdc_run.specs.Made.{AreMade, made_clients, made_subscribers}
 use Rattle.cdc_run.specs.Scripted.{ScriptedState}
@@ -22,35 +23,35 @@ use Rattle.cdc_types.specs.declared.batches.Batch.{Batch}
 
 module _ (S : Type 0) where
   -- each kind leaves one of its own
-  ledger_left : (old : LedgerEndState) (l : Left S) → Leaves (task.Ledger old) l
-      → (new : LedgerEndState) × (l ≡ left.Ledger new) × LedgerLeaves old new
+  ledger_left : (old : EndState LedgerDesk) (l : Left S) → Leaves (task.Ledger old) l
+      → (new : EndState LedgerDesk) × (l ≡ left.Ledger new) × LedgerLeaves old new
   ledger_left old (left.Ledger new) leaves = (new, refl, leaves)
   ledger_left old other leaves = absurd leaves
 
   client_left : (old : ScriptedState) (l : Left S) → Leaves (task.Client old) l
-      → (new : ClientState) × (l ≡ left.Client new) × ClientLeaves old new
+      → (new : EndState Talk) × (l ≡ left.Client new) × ClientLeaves old new
   client_left old (left.Client new) leaves = (new, refl, leaves)
   client_left old other leaves = absurd leaves
 
-  connector_left : (old : ConnectorEndState) (l : Left S) → Leaves (task.Connector old) l
-      → (new : ConnectorEndState) × (l ≡ left.Connector new) × ConnectorLeaves old new
+  connector_left : (old : EndState Publishing) (l : Left S) → Leaves (task.Connector old) l
+      → (new : EndState Publishing) × (l ≡ left.Connector new) × ConnectorLeaves old new
   connector_left old (left.Connector new) leaves = (new, refl, leaves)
   connector_left old other leaves = absurd leaves
 
-  broker_left : (old : BrokerEndState) (l : Left S) → Leaves (task.Broker old) l
-      → (new : BrokerEndState) × (l ≡ left.Broker new) × BrokerLeaves old new
+  broker_left : (old : EndState BrokerDesk) (l : Left S) → Leaves (task.Broker old) l
+      → (new : EndState BrokerDesk) × (l ≡ left.Broker new) × BrokerLeaves old new
   broker_left old (left.Broker new) leaves = (new, refl, leaves)
   broker_left old other leaves = absurd leaves
 
-  subscriber_left : (number : ℕ) (old : SubscriberState) (l : Left S) → Leaves (task.Subscriber number old) l
-      → (new : SubscriberState) × (l ≡ left.Subscriber new) × SubscriberLeaves old new
+  subscriber_left : (number : ℕ) (old : EndState Intake) (l : Left S) → Leaves (task.Subscriber number old) l
+      → (new : EndState Intake) × (l ≡ left.Subscriber new) × SubscriberLeaves old new
   subscriber_left number old (left.Subscriber new) leaves = (new, refl, leaves)
   subscriber_left number old other leaves = absurd leaves
 
   -- all clients, and the ends behind them
   clients_left : (olds : List ScriptedState) (rest : List (Task S)) (lefts : List (Left S))
       → AllZip Leaves (map task.Client olds ++ rest) lefts
-      → (news : List ClientState) × (others : List (Left S)) × (lefts ≡ map left.Client news ++ others)
+      → (news : List (EndState Talk)) × (others : List (Left S)) × (lefts ≡ map left.Client news ++ others)
       × AllZip ClientLeaves olds news × AllZip Leaves rest others
   clients_left [] rest lefts all = ([], lefts, refl, tt, all)
   clients_left (old ∷ olds) rest [] all = absurd all
@@ -60,9 +61,9 @@ module _ (S : Type 0) where
       (one.0 ∷ more.0, more.1, ap₂ (λ (x : Left S) (xs : List (Left S)). x ∷ xs) one.1 more.2, (one.2, more.3), more.4)
 
   -- all subscribers
-  subscribers_left : (number : ℕ) (olds : List SubscriberState) (lefts : List (Left S))
+  subscribers_left : (number : ℕ) (olds : List (EndState Intake)) (lefts : List (Left S))
       → AllZip Leaves (numbered number olds) lefts
-      → (news : List SubscriberState) × (lefts ≡ map left.Subscriber news) × AllZip SubscriberLeaves olds news
+      → (news : List (EndState Intake)) × (lefts ≡ map left.Subscriber news) × AllZip SubscriberLeaves olds news
   subscribers_left number [] [] all = ([], refl, tt)
   subscribers_left number [] (l ∷ lefts) all = absurd all
   subscribers_left number (old ∷ olds) [] all = absurd all
@@ -74,7 +75,7 @@ module _ (S : Type 0) where
   -- those behind the clients
   others_left : (old : Placed) (lefts : List (Left S))
       → AllZip Leaves (task.Connector old.connector ∷ task.Broker old.broker ∷ numbered 1 old.subscribers) lefts
-      → (connector : ConnectorEndState) × (broker : BrokerEndState) × (subscribers : List SubscriberState)
+      → (connector : EndState Publishing) × (broker : EndState BrokerDesk) × (subscribers : List (EndState Intake))
       × (lefts ≡ left.Connector connector ∷ left.Broker broker ∷ map left.Subscriber subscribers)
       × ConnectorLeaves old.connector connector × BrokerLeaves old.broker broker
       × AllZip SubscriberLeaves old.subscribers subscribers
@@ -145,7 +146,7 @@ module _ {S : Type 0} (config : Config) (faults : Faults) (held : Option Saved) 
       (with_scripts (made_clients config.system made.wiring.to_ledger 1 made.wiring.to_clients) scripts)
       new.clients.items
   made_clients_left =
-      subst (λ (l : List ClientState). AllZip ClientLeaves (with_scripts l scripts) new.clients.items) made.clients
+      subst (λ (l : List (EndState Talk)). AllZip ClientLeaves (with_scripts l scripts) new.clients.items) made.clients
       are.clients
 
   -- and so have the subscribers
@@ -153,5 +154,5 @@ module _ {S : Type 0} (config : Config) (faults : Faults) (held : Option Saved) 
       (made_subscribers config.system made.wiring.to_broker 1 made.wiring.to_subscribers made.closes)
       new.subscribers.items
   made_subscribers_left =
-      subst (λ (l : List SubscriberState). AllZip SubscriberLeaves l new.subscribers.items) made.subscribers
+      subst (λ (l : List (EndState Intake)). AllZip SubscriberLeaves l new.subscribers.items) made.subscribers
       are.subscribers

@@ -1,4 +1,5 @@
 mod Alone
+mod Apart
 mod Booked
 mod ClientsParted
 mod Closes

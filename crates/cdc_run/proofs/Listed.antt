@@ -2,9 +2,10 @@
 use Rattle.std.proofs.Common.{◌≡◌, ◌∙◌, ℕ, ◌+◌, List, [], ◌∷◌, ◌++◌, refl, sym, ap, arith, length, map, map-id, Vec, Global}
 use Rattle.std.specs.List.{zip}
 use Rattle.std.proofs.lemmas.List.{append_assoc, map_push}
-use Rattle.cdc_ends.specs.Clients.{ClientState}
-use Rattle.cdc_ends.specs.LedgerEnds.{LedgerEndState}
-use Rattle.cdc_ends.specs.SubscriberEnds.{SubscriberState}
+use Rattle.cdc_ends.specs.Clients.{Talk}
+use Rattle.cdc_ends.specs.LedgerEnds.{Desk as LedgerDesk}
+use Rattle.cdc_ends.specs.SubscriberEnds.{Intake}
+use Rattle.cdc_ends.specs.Ends.{EndState}
 use Rattle.cdc_run.specs.Scripted.{ScriptedState}
 use Rattle.cdc_run.specs.Tasks.{Placed, numbered, tasks_at, with_scripts}
 use Rattle.cdc_run.specs.declared.placed.Task.{Task}
@@ -13,7 +14,7 @@ use Rattle.cdc_types.specs.declared.batches.Batch.{Batch}
 
 module _ (S : Type 0) where
   -- one subscriber more
-  numbered_push : (number : ℕ) (before : List SubscriberState) (s : SubscriberState)
+  numbered_push : (number : ℕ) (before : List (EndState Intake)) (s : EndState Intake)
       → numbered {S = S} number (before ++ s ∷ [])
       ≡ numbered number before ++ task.Subscriber (number + length before) s ∷ []
   numbered_push number [] s =
@@ -25,7 +26,7 @@ module _ (S : Type 0) where
       (numbered_push (number + 1) before s
       ∙ ap (λ (k : ℕ). numbered (number + 1) before ++ task.Subscriber k s ∷ []) same)
 
-  pub subscriber_push : (number : ℕ) (before : List SubscriberState) (s : SubscriberState)
+  pub subscriber_push : (number : ℕ) (before : List (EndState Intake)) (s : EndState Intake)
       (first old new : List (Task S)) → number ≡ length before → old ≡ first ++ numbered 1 before
       → new ≡ old ++ task.Subscriber (number + 1) s ∷ []
       → new ≡ first ++ numbered 1 (before ++ s ∷ [])
@@ -37,12 +38,12 @@ module _ (S : Type 0) where
       ∙ sym (ap (λ (l : List (Task S)). first ++ l) (numbered_push 1 before s))
 
   -- a client with its script
-  abbrev pub client_task : ClientState × Vec Batch Global → Task S
+  abbrev pub client_task : EndState Talk × Vec Batch Global → Task S
   client_task each = task.Client (record { end = each.0; script = each.1.items })
 
   -- one client more
-  pub client_push : (before : List (ClientState × Vec Batch Global)) (each : ClientState × Vec Batch Global)
-      (ledger : LedgerEndState) (more : ScriptedState) (old new : List (Task S))
+  pub client_push : (before : List (EndState Talk × Vec Batch Global)) (each : EndState Talk × Vec Batch Global)
+      (ledger : EndState LedgerDesk) (more : ScriptedState) (old new : List (Task S))
       → old ≡ task.Ledger ledger ∷ map client_task before → more ≡ record { end = each.0; script = each.1.items }
       → new ≡ old ++ task.Client more ∷ [] → new ≡ task.Ledger ledger ∷ map client_task (before ++ each ∷ [])
   client_push before each ledger more old new old_is more_is pushed =
@@ -51,7 +52,7 @@ module _ (S : Type 0) where
       ∙ ap (λ (l : List (Task S)). task.Ledger ledger ∷ l) (sym (map_push client_task before each))
 
   -- each client with its script
-  zipped : (clients : List ClientState) (scripts : List (Vec Batch Global))
+  zipped : (clients : List (EndState Talk)) (scripts : List (Vec Batch Global))
       → map client_task (zip clients scripts) ≡ map task.Client (with_scripts clients (map (λ s. s.items) scripts))
   zipped [] scripts = refl
   zipped (c ∷ clients) [] = refl
@@ -59,8 +60,8 @@ module _ (S : Type 0) where
       ap (λ (l : List (Task S)). client_task (c, script) ∷ l) (zipped clients scripts)
 
   -- all of them
-  pub all_listed : (p : Placed) (scripts : List (Vec Batch Global)) (pairs : List (ClientState × Vec Batch Global))
-      (subscribers : List SubscriberState) (clients connector broker all : List (Task S))
+  pub all_listed : (p : Placed) (scripts : List (Vec Batch Global)) (pairs : List (EndState Talk × Vec Batch Global))
+      (subscribers : List (EndState Intake)) (clients connector broker all : List (Task S))
       → clients ≡ task.Ledger p.ledger ∷ map client_task pairs → map (λ each. each) pairs ≡ zip p.clients scripts
       → connector ≡ clients ++ task.Connector p.connector ∷ [] → broker ≡ connector ++ task.Broker p.broker ∷ []
       → all ≡ broker ++ numbered 1 subscribers → map (λ s. s) subscribers ≡ p.subscribers

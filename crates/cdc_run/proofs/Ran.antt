@@ -4,17 +4,19 @@ use Rattle.std.specs.Prelude.{All, Bool, None, Option, Some}
 use Rattle.std.specs.List.{AllZip}
 use Rattle.std.proofs.lemmas.List.Elements.{All-cons}
 use Rattle.cdc_broker.specs.Queues.{QueueState, empty_queue}
-use Rattle.cdc_ends.specs.Clients.{ClientState, first_words}
-use Rattle.cdc_ends.specs.ConnectorEnds.{first_origin}
+use Rattle.cdc_ends.specs.Clients.{first_words, Talk}
+use Rattle.cdc_ends.specs.ConnectorEnds.{first_origin, Publishing}
 use Rattle.cdc_ends.specs.LedgerEnds.{order_of}
-use Rattle.cdc_ends.specs.SubscriberEnds.{SubscriberState}
+use Rattle.cdc_ends.specs.SubscriberEnds.{Intake}
 use Rattle.cdc_laws.specs.Connectors.{held_start, held_timestamp}
 use Rattle.cdc_links.specs.Links.{LinkId, fresh_end}
 use Rattle.cdc_match.specs.declared.binding.Binding.{Binding}
 use Rattle.cdc_progress.specs.Records.{Saved}
 use Rattle.cdc_run.specs.Made.{AreMade, fresh_inbox, made_clients, made_subscribers}
 use Rattle.cdc_run.specs.Reports.{AreSubscribed, HasRun, IsReportOf}
-use Rattle.cdc_run.specs.Seats.{BrokerSeat, ConnectorSeat, SubscriberSeat, at_start, broker_seat, connector_seat, origin_if}
+use Rattle.cdc_ends.specs.Seats.{BrokerSeat, ConnectorSeat, SubscriberSeat, at_start, broker_seat, connector_seat, origin_if}
+use Rattle.cdc_ends.specs.Ends.{EndState}
+use Rattle.cdc_ends.specs.BrokerEnds.{Desk as BrokerDesk}
 use Rattle.cdc_run.specs.Tasks.{AreLeft, ClientLeaves, SubscriberLeaves, places_of, with_scripts}
 use Rattle.cdc_run.specs.declared.configs.Config.{Config}
 use Rattle.cdc_run.specs.declared.ends.Ends.{Ends}
@@ -29,21 +31,21 @@ use Rattle.cdc_run.proofs.Leaving.{made_clients_left, made_subscribers_left}
 
 -- new clients haven't finished
 clients_talk : (system : ℕ) (requests : LinkId ToLedger) (number : ℕ) (links : List (LinkId Reply))
-    → All (λ (c : ClientState). c.talk.finished ≡ false) (made_clients system requests number links)
+    → All (λ (c : EndState Talk). c.work.finished ≡ false) (made_clients system requests number links)
 clients_talk system requests number [] = λ k d below. absurd (omega arith)
 clients_talk system requests number (link ∷ links) =
-    All-cons (λ (c : ClientState). c.talk.finished ≡ false) (record {
+    All-cons (λ (c : EndState Talk). c.work.finished ≡ false) (record {
       system = system;
-      talk = first_words number (fresh_end requests number) (fresh_inbox link 1);
+      work = first_words number (fresh_end requests number) (fresh_inbox link 1);
       fault = None;
     }) (made_clients system requests (number + 1) links) refl
     (clients_talk system requests (number + 1) links)
 
 -- new clients have submitted their scripts, once they have left
 scripts_submitted : (system : ℕ) (requests : LinkId ToLedger) (number : ℕ) (links : List (LinkId Reply))
-    (scripts : List (List Batch)) (news : List ClientState) → length scripts ≡ length links
+    (scripts : List (List Batch)) (news : List (EndState Talk)) → length scripts ≡ length links
     → AllZip ClientLeaves (with_scripts (made_clients system requests number links) scripts) news
-    → map (map (λ (r : Reply). r.batch)) (map (λ (c : ClientState). c.talk.replies) news) ≡ scripts
+    → map (map (λ (r : Reply). r.batch)) (map (λ (c : EndState Talk). c.work.replies) news) ≡ scripts
 scripts_submitted system requests number [] [] [] many all = refl
 scripts_submitted system requests number [] [] (new ∷ news) many all = absurd all
 scripts_submitted system requests number [] (script ∷ scripts) news many all = absurd (omega arith)
@@ -56,9 +58,9 @@ scripts_submitted system requests number (link ∷ links) (script ∷ scripts) (
 
 -- subscribers close when they were to
 closes_stay : (system : ℕ) (acks : LinkId ToBroker) (number : ℕ) (links : List (LinkId ToSubscriber))
-    (closes : List (Option ℕ)) (news : List SubscriberState) → length closes ≡ length links
+    (closes : List (Option ℕ)) (news : List (EndState Intake)) → length closes ≡ length links
     → AllZip SubscriberLeaves (made_subscribers system acks number links closes) news
-    → map (λ (s : SubscriberState). s.intake.close_after) news ≡ closes
+    → map (λ (s : EndState Intake). s.work.close_after) news ≡ closes
 closes_stay system acks number [] [] [] many all = refl
 closes_stay system acks number [] [] (new ∷ news) many all = absurd all
 closes_stay system acks number [] (close ∷ closes) news many all = absurd (omega arith)
@@ -85,9 +87,9 @@ bindings_of_empty (binding ∷ bindings) = ap (λ (l : List Binding). binding �
 module _ {S : Type 0} (config : Config) (faults : Faults) (held : Option Saved) (honest : Bool) (ends : Ends S)
     (made : AreMade config faults held honest ends) where
   -- no client has finished before the first turn
-  pub no_client_done : All (λ (c : ClientState). c.talk.finished ≡ false) ends.clients.items
+  pub no_client_done : All (λ (c : EndState Talk). c.work.finished ≡ false) ends.clients.items
   no_client_done =
-      subst (λ (l : List ClientState). All (λ (c : ClientState). c.talk.finished ≡ false) l) (sym made.clients)
+      subst (λ (l : List (EndState Talk)). All (λ (c : EndState Talk). c.work.finished ≡ false) l) (sym made.clients)
       (clients_talk config.system made.wiring.to_ledger 1 made.wiring.to_clients)
 
   module _ (new : Ends S) (scripts : List (List Batch)) (are : AreLeft (places_of ends) scripts (places_of new))
@@ -95,7 +97,7 @@ module _ {S : Type 0} (config : Config) (faults : Faults) (held : Option Saved) 
     -- so the report is that of these scripts
     pub has_run : length scripts ≡ config.clients → HasRun scripts report
     has_run many = record {
-      order = order_of new.ledger.desk.inbox.received;
+      order = order_of new.ledger.work.inbox.received;
       books = reported.books;
       scripts_are =
           ap (map (map (λ (r : Reply). r.batch))) reported.replies
@@ -109,17 +111,17 @@ module _ {S : Type 0} (config : Config) (faults : Faults) (held : Option Saved) 
         report.subscribers.items
     have_subscribed is_honest same =
         let start : ℕ = (first_origin config.start held).start in
-        let seat : (connector_seat new.connector).origin ≡ Some (at_start start) =
-        ap (λ (seat : ConnectorSeat). seat.origin) (are.connector.seat ∙ ap connector_seat made.connector)
+        let seat : (connector_seat new.connector.work).origin ≡ Some (at_start start) =
+        ap (λ (seat : ConnectorSeat). seat.origin) (are.connector.seat ∙ ap (λ (e : EndState Publishing). connector_seat e.work) made.connector)
         ∙ ap₂ origin_if is_honest (begins_at_start config.start held same) in
-        let bindings : (broker_seat new.broker).bindings ≡ config.bindings.items =
-        ap (λ (seat : BrokerSeat). seat.bindings) (are.broker.seat ∙ ap broker_seat made.broker)
+        let bindings : (broker_seat new.broker.work).bindings ≡ config.bindings.items =
+        ap (λ (seat : BrokerSeat). seat.bindings) (are.broker.seat ∙ ap (λ (e : EndState BrokerDesk). broker_seat e.work) made.broker)
         ∙ bindings_of_empty config.bindings.items in
-        let closes : map (λ (s : SubscriberState). s.intake.close_after) new.subscribers.items ≡ made.closes =
+        let closes : map (λ (s : EndState Intake). s.work.close_after) new.subscribers.items ≡ made.closes =
         closes_stay config.system made.wiring.to_broker 1 made.wiring.to_subscribers made.closes new.subscribers.items
         (made.closes_count ∙ sym made.subscribers_count)
         (made_subscribers_left config faults held honest ends made new scripts are) in
         subst (λ (l : List Binding). AreSubscribed report.ledger start l made.closes report.subscribers.items) bindings
         (subst (λ (l : List (Option ℕ)).
-        AreSubscribed report.ledger start (broker_seat new.broker).bindings l report.subscribers.items) closes
+        AreSubscribed report.ledger start (broker_seat new.broker.work).bindings l report.subscribers.items) closes
         (reported.subscribers start seat))

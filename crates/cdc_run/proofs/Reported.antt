@@ -5,14 +5,16 @@ use Rattle.std.proofs.lemmas.Bool.{and_parts}
 use Rattle.cdc_broker.specs.Broker.{nobody, queue_of}
 use Rattle.cdc_broker.specs.Queues.{QueueState, empty_queue}
 use Rattle.cdc_ends.specs.BrokerEnds.{Desk as BrokerDesk}
-use Rattle.cdc_ends.specs.ConnectorEnds.{IsAtStart, Origin, has_finished, origin_of}
+use Rattle.cdc_ends.specs.ConnectorEnds.{IsAtStart, Origin, origin_of, Publishing}
 use Rattle.cdc_ends.specs.LedgerEnds.{Desk as LedgerDesk, IsDesk}
-use Rattle.cdc_ends.specs.SubscriberEnds.{SubscriberState}
+use Rattle.cdc_ends.specs.SubscriberEnds.{Intake}
 use Rattle.cdc_run.specs.ClientMail.{HasFinishedWith as LedgerHasFinishedWith}
+use Rattle.cdc_run.specs.Parted.{works_of}
 use Rattle.cdc_run.specs.Reports.{AreFinished, AreSubscribed}
-use Rattle.cdc_run.specs.Seats.{at_start, connector_seat, origin_if}
+use Rattle.cdc_ends.specs.Seats.{at_start, connector_seat, origin_if}
+use Rattle.cdc_ends.specs.Ends.{EndState, has_finished}
 use Rattle.cdc_run.specs.Streams.{AllCome, AreLeftBy, Middle}
-use Rattle.cdc_run.specs.SubscriberMail.{HasFinishedWith as BrokerHasFinishedWith, intakes_of}
+use Rattle.cdc_run.specs.SubscriberMail.{HasFinishedWith as BrokerHasFinishedWith}
 use Rattle.cdc_run.specs.Subscribing.{HasCome}
 use Rattle.cdc_run.specs.declared.ends.Ends.{Ends}
 use Rattle.cdc_run.proofs.Seated.{AreBetween}
@@ -25,16 +27,16 @@ began false origin known same = cc
 
 -- where a run began at its start
 pub start_known : {S : Type 0} (ends : Ends S) (start : ℕ)
-    → (connector_seat ends.connector).origin ≡ Some (at_start start) → (origin_of ends.connector.work).start ≡ start
+    → (connector_seat ends.connector.work).origin ≡ Some (at_start start) → (origin_of ends.connector.work).start ≡ start
 start_known ends start known =
     let work = ends.connector.work in
     ap (λ (o : Origin). o.start) (began work.honest (origin_of work) (at_start start) known).1
 
 -- the connector, with the ends of its links, where the run is known to have begun at its start
-pub left_by : {S : Type 0} (ends : Ends S) (m : Middle) → AreBetween ends m → IsDesk ends.ledger.desk
-    → has_finished ends.connector ≡ true → (start : ℕ)
-    → (connector_seat ends.connector).origin ≡ Some (at_start start)
-    → AreLeftBy ends.ledger.desk ends.connector.work m
+pub left_by : {S : Type 0} (ends : Ends S) (m : Middle) → AreBetween ends m → IsDesk ends.ledger.work
+    → has_finished (λ (c : Publishing). c.finished) ends.connector ≡ true → (start : ℕ)
+    → (connector_seat ends.connector.work).origin ≡ Some (at_start start)
+    → AreLeftBy ends.ledger.work ends.connector.work m
 left_by ends m are desk over start seat =
     let work = ends.connector.work in
     let known = began work.honest (origin_of work) (at_start start) seat in
@@ -50,11 +52,11 @@ left_by ends m are desk over start seat =
     }
 
 -- subscribers that have come to what they may rely on, with the queue of each
-pub subscribed : (d : LedgerDesk) (start : ℕ) (b : BrokerDesk) (place : ℕ) (subscribers : List SubscriberState)
-    (queues : List QueueState) → AllCome d start b place (intakes_of subscribers) → length subscribers ≡ length queues
+pub subscribed : (d : LedgerDesk) (start : ℕ) (b : BrokerDesk) (place : ℕ) (subscribers : List (EndState Intake))
+    (queues : List QueueState) → AllCome d start b place (works_of subscribers) → length subscribers ≡ length queues
     → ((k : ℕ) (q : QueueState) → slice_get queues k ≡ Some q → queue_of b.broker (place + k + 1) ≡ q)
-    → AreSubscribed d.ledger start (map (λ q. q.binding) queues) (map (λ s. s.intake.close_after) subscribers)
-    (map (λ s. s.subscriber) (intakes_of subscribers))
+    → AreSubscribed d.ledger start (map (λ q. q.binding) queues) (map (λ s. s.work.close_after) subscribers)
+    (map (λ s. s.subscriber) (works_of subscribers))
 subscribed d start b place [] [] come many there = tt
 subscribed d start b place [] (q ∷ queues) come many there = absurd (omega arith)
 subscribed d start b place (s ∷ subscribers) [] come many there = absurd (omega arith)
@@ -65,7 +67,7 @@ subscribed d start b place (s ∷ subscribers) (q ∷ queues) come many there =
     let rest : length subscribers ≡ length queues = omega arith in (
       record {
         heard = come.0.heard;
-        come = subst (λ (x : QueueState). HasCome d.ledger start x.binding s.intake.close_after come.0.heard) its come.0.come;
+        come = subst (λ (x : QueueState). HasCome d.ledger start x.binding s.work.close_after come.0.heard) its come.0.come;
         keeps = come.0.keeps;
       },
       subscribed d start b (place + 1) subscribers queues come.1 rest (λ k next found.
@@ -74,10 +76,10 @@ subscribed d start b place (s ∷ subscribers) (q ∷ queues) come many there =
     )
 
 -- all of them
-pub all_subscribed : (d : LedgerDesk) (start : ℕ) (b : BrokerDesk) (subscribers : List SubscriberState)
-    → AllCome d start b 0 (intakes_of subscribers) → length subscribers ≡ length b.broker.queues
-    → AreSubscribed d.ledger start (map (λ q. q.binding) b.broker.queues) (map (λ s. s.intake.close_after) subscribers)
-    (map (λ s. s.subscriber) (intakes_of subscribers))
+pub all_subscribed : (d : LedgerDesk) (start : ℕ) (b : BrokerDesk) (subscribers : List (EndState Intake))
+    → AllCome d start b 0 (works_of subscribers) → length subscribers ≡ length b.broker.queues
+    → AreSubscribed d.ledger start (map (λ q. q.binding) b.broker.queues) (map (λ s. s.work.close_after) subscribers)
+    (map (λ s. s.subscriber) (works_of subscribers))
 all_subscribed d start b subscribers come many =
     subscribed d start b 0 subscribers b.broker.queues come many (λ k q found.
     let same : k ≡ 0 + k + 1 - 1 = omega arith in
@@ -86,7 +88,7 @@ all_subscribed d start b subscribers come many =
 
 -- ends of a run that have finished
 pub finished : {S : Type 0} (ends : Ends S) → LedgerHasFinishedWith ends.ledger ends.clients.items
-    → has_finished ends.connector ≡ true → ends.connector.system ≡ ends.ledger.system
+    → has_finished (λ (c : Publishing). c.finished) ends.connector ≡ true → ends.connector.system ≡ ends.ledger.system
     → BrokerHasFinishedWith ends.ledger.system ends.broker ends.subscribers.items → AreFinished ends
 finished ends books over same streams = record {
   ledger = books.over;

@@ -4,14 +4,16 @@ use Rattle.std.specs.Prelude.{Option, None, All}
 use Rattle.std.proofs.lemmas.List.{length-map}
 use Rattle.std.proofs.lemmas.List.Elements.{All-cons, All-nil}
 use Rattle.cdc_broker.specs.Broker.{empty_broker}
-use Rattle.cdc_ends.specs.BrokerEnds.{BrokerEndState}
+use Rattle.cdc_ends.specs.BrokerEnds.{Desk as BrokerDesk}
 use Rattle.cdc_ends.specs.BrokerTurns.{first_desk as first_broker}
-use Rattle.cdc_ends.specs.ConnectorEnds.{ConnectorEndState, first_work}
-use Rattle.cdc_ends.specs.LedgerEnds.{LedgerEndState, first_desk as first_ledger}
+use Rattle.cdc_ends.specs.ConnectorEnds.{first_work, Publishing}
+use Rattle.cdc_ends.specs.LedgerEnds.{first_desk as first_ledger, Desk as LedgerDesk}
 use Rattle.cdc_ends.specs.declared.broker_plans.BrokerPlan.{BrokerPlan}
+use Rattle.cdc_ends.specs.Ends.{EndState}
 use Rattle.cdc_links.specs.Links.{Incoming, LinkId, Outgoing, fresh_end}
 use Rattle.cdc_match.specs.declared.binding.Binding.{Binding}
 use Rattle.cdc_progress.specs.Records.{Saved}
+use Rattle.cdc_progress.specs.Stores.{Risks}
 use Rattle.cdc_traffic.specs.declared.messages.ToBroker.{ToBroker}
 use Rattle.cdc_traffic.specs.declared.messages.ToConnector.{ToConnector}
 use Rattle.cdc_traffic.specs.declared.messages.ToLedger.{ToLedger}
@@ -66,9 +68,9 @@ wiring_of w = record {
 }
 
 abbrev ledger_of : ℕ → Incoming ToLedger (Unit {0}) → List (Outgoing Reply Past) → Outgoing ToConnector (Option Past)
-    → LedgerEndState
+    → EndState LedgerDesk
 ledger_of system inbox clients connector =
-    record { system = system; desk = first_ledger inbox clients connector; fault = None }
+    record { system = system; work = first_ledger inbox clients connector; fault = None }
 
 ledger_made : (system n m : ℕ) (w : Wires) → AreWired n m w
     → ledger_of system w.to_ledger w.replies.items w.poll_replies ≡ made_ledger system (wiring_of w)
@@ -83,27 +85,27 @@ ledger_made system n m w wired =
     ∙ ap (λ o. ledger_of system inbox (map (λ link. fresh_end link 0) links) o) wired.poll_replies
 
 abbrev connector_of : ℕ → Incoming ToConnector (Option Past) → Outgoing ToLedger (Unit {0})
-    → Outgoing ToBroker (Unit {0}) → Option Saved → Bool → Option ℕ → ℕ → List ℕ → ConnectorEndState
-connector_of system inbox polls packets held honest start window restarts =
-    record { system = system; work = first_work inbox polls packets held honest start window restarts; fault = None }
+    → Outgoing ToBroker (Unit {0}) → Option Saved → Bool → Risks → Option ℕ → ℕ → List ℕ → EndState Publishing
+connector_of system inbox polls packets held honest risks start window restarts =
+    record { system = system; work = first_work inbox polls packets held honest risks start window restarts; fault = None }
 
-connector_made : (system n m : ℕ) (w : Wires) (held : Option Saved) (honest : Bool) (start : Option ℕ)
-    (window : ℕ) (restarts : List ℕ) → AreWired n m w
-    → connector_of system w.to_connector w.polls w.packets held honest start window restarts
-    ≡ made_connector system (wiring_of w) held honest start window restarts
-connector_made system n m w held honest start window restarts wired =
+connector_made : (system n m : ℕ) (w : Wires) (held : Option Saved) (honest : Bool) (risks : Risks)
+    (start : Option ℕ) (window : ℕ) (restarts : List ℕ) → AreWired n m w
+    → connector_of system w.to_connector w.polls w.packets held honest risks start window restarts
+    ≡ made_connector system (wiring_of w) held honest risks start window restarts
+connector_made system n m w held honest risks start window restarts wired =
     let inbox : Incoming ToConnector (Option Past) = fresh_inbox w.to_connector.link 2 in
     let polls : Outgoing ToLedger (Unit {0}) = fresh_end w.to_ledger.link 0 in
-    ap (λ i. connector_of system i w.polls w.packets held honest start window restarts)
+    ap (λ i. connector_of system i w.polls w.packets held honest risks start window restarts)
     (is_fresh 2 w.to_connector wired.to_connector)
-    ∙ ap (λ o. connector_of system inbox o w.packets held honest start window restarts) wired.polls
-    ∙ ap (λ o. connector_of system inbox polls o held honest start window restarts) wired.packets
+    ∙ ap (λ o. connector_of system inbox o w.packets held honest risks start window restarts) wired.polls
+    ∙ ap (λ o. connector_of system inbox polls o held honest risks start window restarts) wired.packets
 
 abbrev broker_of : ℕ → Incoming ToBroker (Unit {0}) → Outgoing ToConnector (Option Past)
-    → List (Outgoing ToSubscriber (Unit {0})) → List Binding → BrokerPlan → ℕ → BrokerEndState
+    → List (Outgoing ToSubscriber (Unit {0})) → List Binding → BrokerPlan → ℕ → EndState BrokerDesk
 broker_of system inbox confirms links bindings plan prefetch = record {
   system = system;
-  desk = first_broker inbox confirms links (empty_broker bindings) plan prefetch;
+  work = first_broker inbox confirms links (empty_broker bindings) plan prefetch;
   fault = None;
 }
 
@@ -125,18 +127,18 @@ broker_made config faults n m w wired =
     (wired.deliveries.sender ∙ senders w.inboxes.items)
 
 -- all ends of a run
-pub are_made : {S : Type 0} (config : Config) (faults : Faults) (held : Option Saved) (honest : Bool) (ends : Ends S)
-    (w : Wires) → AreWired config.clients (length config.bindings.items) w
+pub are_made : {S : Type 0} (config : Config) (faults : Faults) (held : Option Saved) (honest : Bool) (risks : Risks)
+    (ends : Ends S) (w : Wires) → AreWired config.clients (length config.bindings.items) w
     → ends.ledger ≡ ledger_of config.system w.to_ledger w.replies.items w.poll_replies
     → ends.clients.items ≡ made_clients config.system w.to_ledger.link 1 (map (λ i. i.link) w.answers.items)
-    → ends.connector ≡ connector_of config.system w.to_connector w.polls w.packets held honest config.start config.window
-    faults.restart_after.items
+    → ends.connector ≡ connector_of config.system w.to_connector w.polls w.packets held honest risks config.start
+    config.window faults.restart_after.items
     → ends.broker ≡ broker_of config.system w.to_broker w.confirms w.deliveries.items config.bindings.items
     (plan_of faults) config.prefetch
     → AreFreshSubscribers config.system w.to_broker.link faults.close.items (map (λ i. i.link) w.inboxes.items)
     ends.subscribers.items
     → AreMade config faults held honest ends
-are_made config faults held honest ends w wired ledger clients connector broker subscribers =
+are_made config faults held honest risks ends w wired ledger clients connector broker subscribers =
     let n : ℕ = config.clients in
     let m : ℕ = length config.bindings.items in
     let answers : length (map (λ i. i.link) w.answers.items) ≡ n =
@@ -152,9 +154,11 @@ are_made config faults held honest ends w wired ledger clients connector broker 
       closes_are = subscribers.closes_are;
       ledger = ledger ∙ ledger_made config.system n m w wired;
       clients = clients;
+      risks = risks;
       connector =
           connector
-          ∙ connector_made config.system n m w held honest config.start config.window faults.restart_after.items wired;
+          ∙ connector_made config.system n m w held honest risks config.start config.window faults.restart_after.items
+          wired;
       broker = broker ∙ broker_made config faults n m w wired;
       subscribers = subscribers.subscribers_are;
     }

@@ -8,10 +8,10 @@ use Rattle.std.proofs.lemmas.List.Elements.{All-cons, All-head, All-nil, All-tai
 use Rattle.std.proofs.lemmas.Option.{slice_get-map}
 use Rattle.std.proofs.lemmas.Simd.{map-map}
 use Rattle.cdc_ends.specs.BrokerTurns.{first_consumer}
-use Rattle.cdc_ends.specs.Clients.{ClientState, Talk}
-use Rattle.cdc_ends.specs.ConnectorEnds.{IsConnectorEnd}
-use Rattle.cdc_ends.specs.LedgerEnds.{links_of}
-use Rattle.cdc_ends.specs.SubscriberEnds.{Intake, SubscriberState}
+use Rattle.cdc_ends.specs.Clients.{Talk}
+use Rattle.cdc_ends.specs.ConnectorEnds.{IsConnectorEnd, Publishing}
+use Rattle.cdc_ends.specs.LedgerEnds.{links_of, Desk as LedgerDesk}
+use Rattle.cdc_ends.specs.SubscriberEnds.{Intake}
 use Rattle.cdc_ends.specs.declared.consumers.Consumer.{Consumer}
 use Rattle.cdc_laws.proofs.Places.{slice_get-behind}
 use Rattle.cdc_links.specs.Links.{Incoming, LinkId, Outgoing, fresh_end}
@@ -24,11 +24,14 @@ use Rattle.cdc_traffic.specs.declared.pasts.Past.{Past}
 use Rattle.cdc_traffic.specs.declared.requests.Reply.{Reply}
 use Rattle.cdc_types.specs.declared.batches.Batch.{Batch}
 use Rattle.cdc_run.specs.Accounts.{IsOnlySender}
-use Rattle.cdc_run.specs.ClientMail.{AreClientsOf, ArePollsTo, AreWiredTo, talks_of}
+use Rattle.cdc_run.specs.ClientMail.{AreClientsOf, ArePollsTo, AreWiredTo}
 use Rattle.cdc_run.specs.Made.{AreMade, made_clients, made_subscribers}
-use Rattle.cdc_run.specs.Seats.{broker_seat, client_seat, connector_seat, ledger_seat, subscriber_seat}
+use Rattle.cdc_run.specs.Parted.{works_of}
+use Rattle.cdc_ends.specs.Seats.{broker_seat, client_seat, connector_seat, ledger_seat, subscriber_seat}
+use Rattle.cdc_ends.specs.Ends.{EndState}
+use Rattle.cdc_ends.specs.BrokerEnds.{Desk as BrokerDesk}
 use Rattle.cdc_run.specs.Streams.{AreJoined, Middle}
-use Rattle.cdc_run.specs.SubscriberMail.{AreSubscribersOf, intakes_of}
+use Rattle.cdc_run.specs.SubscriberMail.{AreSubscribersOf}
 use Rattle.cdc_run.specs.Tasks.{AreLeft, ClientLeaves, SubscriberLeaves, places_of, with_scripts}
 use Rattle.cdc_run.specs.Wirings.{AreSeated, BrokerSits, ClientSits, ConnectorSits, LedgerSits, SubscriberSits, Wiring}
 use Rattle.cdc_run.specs.declared.configs.Config.{Config}
@@ -67,17 +70,17 @@ consumers_made (link ∷ links) = ap (λ (l : List (LinkId ToSubscriber)). link 
 module _ (system : ℕ) (w : Wiring) where
   -- each client, behind those of some links
   clients_seated : (before links : List (LinkId Reply)) (number : ℕ) (scripts : List (List Batch))
-      (news : List ClientState) → before ++ links ≡ w.to_clients → number ≡ length before + 1
+      (news : List (EndState Talk)) → before ++ links ≡ w.to_clients → number ≡ length before + 1
       → AllZip ClientLeaves (with_scripts (made_clients system w.to_ledger number links) scripts) news
-      → All (λ c. ClientSits w (client_seat c)) news
+      → All (λ c. ClientSits w (client_seat c.work)) news
   clients_seated before [] number scripts [] split count all = λ k d below. absurd (omega arith)
   clients_seated before [] number scripts (new ∷ news) split count all = absurd all
   clients_seated before (link ∷ links) number [] [] split count all = λ k d below. absurd (omega arith)
   clients_seated before (link ∷ links) number [] (new ∷ news) split count all = absurd all
   clients_seated before (link ∷ links) number (script ∷ scripts) [] split count all = absurd all
   clients_seated before (link ∷ links) number (script ∷ scripts) (new ∷ news) split count all =
-      All-cons (λ c. ClientSits w (client_seat c)) new news
-      (subst (ClientSits w) (sym all.0.seat) (record {
+      All-cons (λ c. ClientSits w (client_seat c.work)) new news
+      (subst (ClientSits w) (sym all.0.left.seat) (record {
         requests = refl;
         answers = at_place before link links w.to_clients number split count;
       }))
@@ -86,16 +89,16 @@ module _ (system : ℕ) (w : Wiring) where
 
   -- each subscriber, behind those of some links
   subscribers_seated : (before links : List (LinkId ToSubscriber)) (number : ℕ) (closes : List (Option ℕ))
-      (news : List SubscriberState) → before ++ links ≡ w.to_subscribers → number ≡ length before + 1
+      (news : List (EndState Intake)) → before ++ links ≡ w.to_subscribers → number ≡ length before + 1
       → AllZip SubscriberLeaves (made_subscribers system w.to_broker number links closes) news
-      → All (λ s. SubscriberSits w (subscriber_seat s)) news
+      → All (λ s. SubscriberSits w (subscriber_seat s.work)) news
   subscribers_seated before [] number closes [] split count all = λ k d below. absurd (omega arith)
   subscribers_seated before [] number closes (new ∷ news) split count all = absurd all
   subscribers_seated before (link ∷ links) number [] [] split count all = λ k d below. absurd (omega arith)
   subscribers_seated before (link ∷ links) number [] (new ∷ news) split count all = absurd all
   subscribers_seated before (link ∷ links) number (close ∷ closes) [] split count all = absurd all
   subscribers_seated before (link ∷ links) number (close ∷ closes) (new ∷ news) split count all =
-      All-cons (λ s. SubscriberSits w (subscriber_seat s)) new news
+      All-cons (λ s. SubscriberSits w (subscriber_seat s.work)) new news
       (subst (SubscriberSits w) (sym all.0.seat) (record {
         acks = refl;
         inbox = at_place before link links w.to_subscribers number split count;
@@ -110,13 +113,13 @@ pub all_seated : {S : Type 0} (config : Config) (faults : Faults) (held : Option
 all_seated config faults held honest ends new scripts made are =
     let w : Wiring = made.wiring in
     record {
-      ledger = subst (LedgerSits w) (sym (are.ledger.seat ∙ ap ledger_seat made.ledger))
+      ledger = subst (LedgerSits w) (sym (are.ledger.seat ∙ ap (λ (e : EndState LedgerDesk). ledger_seat e.work) made.ledger))
           (record { inbox = refl; clients = links_made w.to_clients; connector = refl });
       clients = clients_seated config.system w [] w.to_clients 1 scripts new.clients.items refl refl
           (made_clients_left config faults held honest ends made new scripts are);
-      connector = subst (ConnectorSits w) (sym (are.connector.seat ∙ ap connector_seat made.connector))
+      connector = subst (ConnectorSits w) (sym (are.connector.seat ∙ ap (λ (e : EndState Publishing). connector_seat e.work) made.connector))
           (record { inbox = refl; polls = refl; packets = refl });
-      broker = subst (BrokerSits w) (sym (are.broker.seat ∙ ap broker_seat made.broker))
+      broker = subst (BrokerSits w) (sym (are.broker.seat ∙ ap (λ (e : EndState BrokerDesk). broker_seat e.work) made.broker))
           (record { inbox = refl; confirms = refl; subscribers = consumers_made w.to_subscribers });
       subscribers = subscribers_seated config.system w [] w.to_subscribers 1 made.closes new.subscribers.items refl refl
           (made_subscribers_left config faults held honest ends made new scripts are);
@@ -165,67 +168,67 @@ module _ {M N : Type 0} where
 -- ---- ledger and clients
 
 module _ (wiring : ℕ → Wiring) (system : ℕ) where
-  abbrev ClientIsSeated : ClientState → Type 0
-  ClientIsSeated c = ClientSits (wiring c.system) (client_seat c)
+  abbrev ClientIsSeated : EndState Talk → Type 0
+  ClientIsSeated c = ClientSits (wiring c.system) (client_seat c.work)
 
   -- the clients of one system ask over its link
-  clients_ask : (link : LinkId ToLedger) (number : ℕ) (clients : List ClientState) → (wiring system).to_ledger ≡ link
+  clients_ask : (link : LinkId ToLedger) (number : ℕ) (clients : List (EndState Talk)) → (wiring system).to_ledger ≡ link
       → AreClientsOf system number clients → All ClientIsSeated clients
-      → All (λ c. c.talk.requests.link ≡ link) clients
-  clients_ask link number [] same are seated = All-nil (λ (c : ClientState). c.talk.requests.link ≡ link)
+      → All (λ c. c.work.requests.link ≡ link) clients
+  clients_ask link number [] same are seated = All-nil (λ (c : EndState Talk). c.work.requests.link ≡ link)
   clients_ask link number (c ∷ clients) same are seated =
-      let sits : ClientSits (wiring c.system) (client_seat c) = All-head ClientIsSeated c clients seated in
-      All-cons (λ (s : ClientState). s.talk.requests.link ≡ link) c clients
+      let sits : ClientSits (wiring c.system) (client_seat c.work) = All-head ClientIsSeated c clients seated in
+      All-cons (λ (s : EndState Talk). s.work.requests.link ≡ link) c clients
       (sits.requests ∙ ap (λ (n : ℕ). (wiring n).to_ledger) are.0 ∙ same)
       (clients_ask link (number + 1) clients same are.4 (All-tail ClientIsSeated c clients seated))
 
   -- and are answered each over the link at its place
-  clients_at : (place : ℕ) (clients : List ClientState) → AreClientsOf system (place + 1) clients
-      → All ClientIsSeated clients → AreAt (wiring system).to_clients place (map (λ c. c.answers) (talks_of clients))
+  clients_at : (place : ℕ) (clients : List (EndState Talk)) → AreClientsOf system (place + 1) clients
+      → All ClientIsSeated clients → AreAt (wiring system).to_clients place (map (λ c. c.answers) (works_of clients))
   clients_at place [] are seated = tt
   clients_at place (c ∷ clients) are seated =
-      let sits : ClientSits (wiring c.system) (client_seat c) = All-head ClientIsSeated c clients seated in
-      let own : slice_get (wiring system).to_clients (c.talk.number - 1) ≡ Some c.talk.answers.link =
-      subst (λ (n : ℕ). slice_get (wiring n).to_clients (c.talk.number - 1) ≡ Some c.talk.answers.link) are.0
+      let sits : ClientSits (wiring c.system) (client_seat c.work) = All-head ClientIsSeated c clients seated in
+      let own : slice_get (wiring system).to_clients (c.work.number - 1) ≡ Some c.work.answers.link =
+      subst (λ (n : ℕ). slice_get (wiring n).to_clients (c.work.number - 1) ≡ Some c.work.answers.link) are.0
       sits.answers in
-      let named : c.talk.number ≡ place + 1 = are.1 in
-      let here : c.talk.number - 1 ≡ place = omega arith in (
-        subst (λ (k : ℕ). slice_get (wiring system).to_clients k ≡ Some c.talk.answers.link) here own,
+      let named : c.work.number ≡ place + 1 = are.1 in
+      let here : c.work.number - 1 ≡ place = omega arith in (
+        subst (λ (k : ℕ). slice_get (wiring system).to_clients k ≡ Some c.work.answers.link) here own,
         are.2.alone,
         clients_at (place + 1) clients are.4 (All-tail ClientIsSeated c clients seated),
       )
 
-  abbrev SubscriberIsSeated : SubscriberState → Type 0
-  SubscriberIsSeated s = SubscriberSits (wiring s.system) (subscriber_seat s)
+  abbrev SubscriberIsSeated : EndState Intake → Type 0
+  SubscriberIsSeated s = SubscriberSits (wiring s.system) (subscriber_seat s.work)
 
   -- the subscribers of one system acknowledge over its link
-  subscribers_acknowledge : (link : LinkId ToBroker) (number : ℕ) (subscribers : List SubscriberState)
+  subscribers_acknowledge : (link : LinkId ToBroker) (number : ℕ) (subscribers : List (EndState Intake))
       → (wiring system).to_broker ≡ link → AreSubscribersOf system number subscribers
-      → All SubscriberIsSeated subscribers → All (λ s. s.intake.acks.link ≡ link) subscribers
+      → All SubscriberIsSeated subscribers → All (λ s. s.work.acks.link ≡ link) subscribers
   subscribers_acknowledge link number [] same are seated =
-      All-nil (λ (s : SubscriberState). s.intake.acks.link ≡ link)
+      All-nil (λ (s : EndState Intake). s.work.acks.link ≡ link)
   subscribers_acknowledge link number (s ∷ subscribers) same are seated =
-      let sits : SubscriberSits (wiring s.system) (subscriber_seat s) =
+      let sits : SubscriberSits (wiring s.system) (subscriber_seat s.work) =
       All-head SubscriberIsSeated s subscribers seated in
-      All-cons (λ (t : SubscriberState). t.intake.acks.link ≡ link) s subscribers
+      All-cons (λ (t : EndState Intake). t.work.acks.link ≡ link) s subscribers
       (sits.acks ∙ ap (λ (n : ℕ). (wiring n).to_broker) are.0 ∙ same)
       (subscribers_acknowledge link (number + 1) subscribers same are.4
       (All-tail SubscriberIsSeated s subscribers seated))
 
   -- and are handed out to each over the link at its place
-  subscribers_at : (place : ℕ) (subscribers : List SubscriberState) → AreSubscribersOf system (place + 1) subscribers
+  subscribers_at : (place : ℕ) (subscribers : List (EndState Intake)) → AreSubscribersOf system (place + 1) subscribers
       → All SubscriberIsSeated subscribers
-      → AreAt (wiring system).to_subscribers place (map (λ s. s.inbox) (intakes_of subscribers))
+      → AreAt (wiring system).to_subscribers place (map (λ s. s.inbox) (works_of subscribers))
   subscribers_at place [] are seated = tt
   subscribers_at place (s ∷ subscribers) are seated =
-      let sits : SubscriberSits (wiring s.system) (subscriber_seat s) =
+      let sits : SubscriberSits (wiring s.system) (subscriber_seat s.work) =
       All-head SubscriberIsSeated s subscribers seated in
-      let own : slice_get (wiring system).to_subscribers (s.intake.number - 1) ≡ Some s.intake.inbox.link =
-      subst (λ (n : ℕ). slice_get (wiring n).to_subscribers (s.intake.number - 1) ≡ Some s.intake.inbox.link) are.0
+      let own : slice_get (wiring system).to_subscribers (s.work.number - 1) ≡ Some s.work.inbox.link =
+      subst (λ (n : ℕ). slice_get (wiring n).to_subscribers (s.work.number - 1) ≡ Some s.work.inbox.link) are.0
       sits.inbox in
-      let named : s.intake.number ≡ place + 1 = are.1 in
-      let here : s.intake.number - 1 ≡ place = omega arith in (
-        subst (λ (k : ℕ). slice_get (wiring system).to_subscribers k ≡ Some s.intake.inbox.link) here own,
+      let named : s.work.number ≡ place + 1 = are.1 in
+      let here : s.work.number - 1 ≡ place = omega arith in (
+        subst (λ (k : ℕ). slice_get (wiring system).to_subscribers k ≡ Some s.work.inbox.link) here own,
         are.2.alone,
         subscribers_at (place + 1) subscribers are.4 (All-tail SubscriberIsSeated s subscribers seated),
       )
@@ -235,7 +238,7 @@ pub record AreBetween {S : Type 0} (ends : Ends S) (m : Middle) : Type 0 where
   pub same : ends.connector.system ≡ ends.ledger.system
   pub connector : IsConnectorEnd ends.connector.work
   pub inbox : m.inbox ≡ ends.connector.work.inbox
-  pub replies : m.replies ≡ ends.ledger.desk.connector
+  pub replies : m.replies ≡ ends.ledger.work.connector
   pub packets : m.packets ≡ ends.connector.work.packets
 
 module _ {S : Type 0} (wiring : ℕ → Wiring) (ends : Ends S) (seated : AreSeated wiring ends) where
@@ -243,16 +246,16 @@ module _ {S : Type 0} (wiring : ℕ → Wiring) (ends : Ends S) (seated : AreSea
   pub wired : AreClientsOf ends.ledger.system 1 ends.clients.items → AreWiredTo ends.ledger ends.clients.items
   wired are =
       let system : ℕ = ends.ledger.system in
-      let clients : List ClientState = ends.clients.items in
-      let outs : List (Outgoing Reply Past) = ends.ledger.desk.clients in
+      let clients : List (EndState Talk) = ends.clients.items in
+      let outs : List (Outgoing Reply Past) = ends.ledger.work.clients in
       record {
-        requests = clients_ask wiring system ends.ledger.desk.inbox.link 1 clients (sym seated.ledger.inbox) are
+        requests = clients_ask wiring system ends.ledger.work.inbox.link 1 clients (sym seated.ledger.inbox) are
             seated.clients;
         answers = λ many.
-            joined_at (wiring system).to_clients (map (λ (c : Talk). c.answers) (talks_of clients)) outs
+            joined_at (wiring system).to_clients (map (λ (c : Talk). c.answers) (works_of clients)) outs
             (clients_at wiring system 0 clients are seated.clients) seated.ledger.clients
-            (length-map (talks_of clients) (λ (c : Talk). c.answers)
-            ∙ length-map clients (λ (s : ClientState). s.talk) ∙ many);
+            (length-map (works_of clients) (λ (c : Talk). c.answers)
+            ∙ length-map clients (λ (s : EndState Talk). s.work) ∙ many);
       }
 
   -- so is the connector
@@ -268,15 +271,15 @@ module _ {S : Type 0} (wiring : ℕ → Wiring) (ends : Ends S) (seated : AreSea
   -- and the broker is joined to the connector and to the subscribers
   pub joined : (m : Middle) → AreBetween ends m → ends.broker.system ≡ ends.ledger.system
       → AreSubscribersOf ends.ledger.system 1 ends.subscribers.items
-      → AreJoined m ends.broker.desk ends.subscribers.items
+      → AreJoined m ends.broker.work ends.subscribers.items
   joined m are its subscribers_are =
       let system : ℕ = ends.ledger.system in
-      let subscribers : List SubscriberState = ends.subscribers.items in
-      let consumers : List Consumer = ends.broker.desk.consumers in
+      let subscribers : List (EndState Intake) = ends.subscribers.items in
+      let consumers : List Consumer = ends.broker.work.consumers in
       let inbox : m.inbox.link ≡ (wiring system).to_connector =
       ap (λ (i : Incoming ToConnector (Option Past)). i.link) are.inbox ∙ seated.connector.inbox
       ∙ ap (λ (n : ℕ). (wiring n).to_connector) are.same in
-      let broker : ends.broker.desk.inbox.link ≡ (wiring system).to_broker =
+      let broker : ends.broker.work.inbox.link ≡ (wiring system).to_broker =
       seated.broker.inbox ∙ ap (λ (n : ℕ). (wiring n).to_broker) its in
       record {
         two =
@@ -287,15 +290,15 @@ module _ {S : Type 0} (wiring : ℕ → Wiring) (ends : Ends S) (seated : AreSea
         packets =
             ap (λ (o : Outgoing ToBroker (Unit {0})). o.link) are.packets ∙ seated.connector.packets
             ∙ ap (λ (n : ℕ). (wiring n).to_broker) are.same ∙ sym broker;
-        acks = subscribers_acknowledge wiring system ends.broker.desk.inbox.link 1 subscribers (sym broker)
+        acks = subscribers_acknowledge wiring system ends.broker.work.inbox.link 1 subscribers (sym broker)
             subscribers_are seated.subscribers;
         inboxes = λ many.
-            joined_at (wiring system).to_subscribers (map (λ (s : Intake). s.inbox) (intakes_of subscribers))
+            joined_at (wiring system).to_subscribers (map (λ (s : Intake). s.inbox) (works_of subscribers))
             (map (λ (x : Consumer). x.link) consumers)
             (subscribers_at wiring system 0 subscribers subscribers_are seated.subscribers)
             (map-map (λ (o : Outgoing ToSubscriber (Unit {0})). o.link) (λ (x : Consumer). x.link) consumers
             ∙ seated.broker.subscribers ∙ ap (λ (n : ℕ). (wiring n).to_subscribers) its)
-            (length-map (intakes_of subscribers) (λ (s : Intake). s.inbox)
-            ∙ length-map subscribers (λ (s : SubscriberState). s.intake) ∙ many
+            (length-map (works_of subscribers) (λ (s : Intake). s.inbox)
+            ∙ length-map subscribers (λ (s : EndState Intake). s.work) ∙ many
             ∙ sym (length-map consumers (λ (x : Consumer). x.link)));
       }

@@ -7,8 +7,9 @@ use Rattle.std.proofs.lemmas.List.Elements.{All-head, All-tail}
 use Rattle.cdc_ends.specs.BrokerEnds.{Desk as BrokerDesk, IsBrokerEnd}
 use Rattle.cdc_ends.specs.ConnectorEnds.{Publishing, origin_of}
 use Rattle.cdc_ends.specs.LedgerEnds.{Desk as LedgerDesk}
-use Rattle.cdc_ends.specs.SubscriberEnds.{SubscriberState}
+use Rattle.cdc_ends.specs.SubscriberEnds.{Intake}
 use Rattle.cdc_ends.specs.declared.consumers.Consumer.{Consumer}
+use Rattle.cdc_ends.specs.Ends.{EndState}
 use Rattle.cdc_links.specs.Links.{CanSend, Incoming, IsAccount, Outgoing, of_sender}
 use Rattle.cdc_traffic.specs.Following.{FollowsToConnector}
 use Rattle.cdc_traffic.specs.declared.messages.ToBroker.{ToBroker}
@@ -16,8 +17,9 @@ use Rattle.cdc_traffic.specs.declared.messages.ToConnector.{ToConnector}
 use Rattle.cdc_traffic.specs.declared.pasts.Past.{Past}
 use Rattle.cdc_run.specs.Accounts.{IsAccounted}
 use Rattle.cdc_run.specs.Passing.{AreThrough, EndsCome}
+use Rattle.cdc_run.specs.Parted.{works_of}
 use Rattle.cdc_run.specs.Streams.{AllCome, AreLeftBy, Middle}
-use Rattle.cdc_run.specs.SubscriberMail.{AreSubscribersOf, intakes_of}
+use Rattle.cdc_run.specs.SubscriberMail.{AreSubscribersOf}
 
 -- what an account says of an end whose number is known
 its_own : {M N : Type 0} (entries : List (ℕ × (M × N))) (end : Outgoing M N) (number : ℕ) → end.number ≡ number
@@ -78,21 +80,21 @@ through d c b m acks left left_of_packets are broker finished account lawful pac
 
 -- so each subscriber has come
 pub all_come : EndsCome → (d : LedgerDesk) (c : Publishing) (b : BrokerDesk) → AreThrough d c b
-    → (place system number : ℕ) (subscribers : List SubscriberState) (consumers : List Consumer)
+    → (place system number : ℕ) (subscribers : List (EndState Intake)) (consumers : List Consumer)
     → AreSubscribersOf system number subscribers
-    → AllZip IsAccounted (map (λ s. s.inbox) (intakes_of subscribers)) (map (λ x. x.link) consumers)
+    → AllZip IsAccounted (map (λ s. s.inbox) (works_of subscribers)) (map (λ x. x.link) consumers)
     → ((k : ℕ) (x : Consumer) → slice_get consumers k ≡ Some x → slice_get b.consumers (place + k) ≡ Some x)
-    → AllCome d (origin_of c).start b place (intakes_of subscribers)
+    → AllCome d (origin_of c).start b place (works_of subscribers)
 all_come law d c b are place system number [] consumers of_system accounts there = tt
 all_come law d c b are place system number (s ∷ subscribers) [] of_system accounts there = absurd accounts
 all_come law d c b are place system number (s ∷ subscribers) (x ∷ consumers) of_system accounts there =
     let here : place + 0 ≡ place = omega arith in
     let first : slice_get b.consumers place ≡ Some x =
     subst (λ (k : ℕ). slice_get b.consumers k ≡ Some x) here (there 0 x refl) in (
-      law d c b place x s.intake are first
+      law d c b place x s.work are first
           (record {
             is = of_system.2;
-            finished = (and_parts (is_none s.fault) s.intake.finished of_system.3).1;
+            finished = (and_parts (is_none s.fault) s.work.finished of_system.3).1;
             account = accounts.0;
           }),
       all_come law d c b are (place + 1) system (number + 1) subscribers consumers of_system.4 accounts.1

@@ -7,11 +7,11 @@ pub mod Jobs
 pub mod Made
 pub mod Meeting
 pub mod Outcomes
+pub mod Parted
 pub mod Passing
 pub mod Plans
 pub mod Reports
 pub mod Scripted
-pub mod Seats
 pub mod Settling
 pub mod Shares
 pub mod Streams

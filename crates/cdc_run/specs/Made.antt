@@ -1,15 +1,17 @@
 -- The ends of a run before the first turn of any.
 use Rattle.std.specs.Prelude.{◌≡◌, ℕ, ◌+◌, Bool, Option, None, List, [], ◌∷◌, length, map}
 use Rattle.cdc_broker.specs.Broker.{empty_broker}
-use Rattle.cdc_ends.specs.BrokerEnds.{BrokerEndState}
+use Rattle.cdc_ends.specs.BrokerEnds.{Desk as BrokerDesk}
 use Rattle.cdc_ends.specs.BrokerTurns.{first_desk as first_broker}
-use Rattle.cdc_ends.specs.Clients.{ClientState, first_words}
-use Rattle.cdc_ends.specs.ConnectorEnds.{ConnectorEndState, first_work}
-use Rattle.cdc_ends.specs.LedgerEnds.{LedgerEndState, first_desk as first_ledger}
-use Rattle.cdc_ends.specs.SubscriberEnds.{SubscriberState, new_intake}
+use Rattle.cdc_ends.specs.Clients.{first_words, Talk}
+use Rattle.cdc_ends.specs.ConnectorEnds.{first_work, Publishing}
+use Rattle.cdc_ends.specs.LedgerEnds.{first_desk as first_ledger, Desk as LedgerDesk}
+use Rattle.cdc_ends.specs.SubscriberEnds.{new_intake, Intake}
 use Rattle.cdc_ends.specs.declared.broker_plans.BrokerPlan.{BrokerPlan}
+use Rattle.cdc_ends.specs.Ends.{EndState}
 use Rattle.cdc_links.specs.Links.{Incoming, LinkId, fresh_end}
 use Rattle.cdc_progress.specs.Records.{Saved}
+use Rattle.cdc_progress.specs.Stores.{Risks}
 use Rattle.cdc_run.specs.Plans.{IsLeastClose}
 use Rattle.cdc_run.specs.Wirings.{Wiring}
 use Rattle.cdc_run.specs.declared.configs.Config.{Config}
@@ -30,30 +32,30 @@ AreCloses number given [] = Unit {0}
 AreCloses number given (close ∷ closes) = IsLeastClose number given close × AreCloses (number + 1) given closes
 
 -- a ledger that has taken nothing
-abbrev pub made_ledger : ℕ → Wiring → LedgerEndState
+abbrev pub made_ledger : ℕ → Wiring → EndState LedgerDesk
 made_ledger system w = record {
   system = system;
-  desk = first_ledger (fresh_inbox w.to_ledger (length w.to_clients + 1)) (map (λ link. fresh_end link 0) w.to_clients)
+  work = first_ledger (fresh_inbox w.to_ledger (length w.to_clients + 1)) (map (λ link. fresh_end link 0) w.to_clients)
       (fresh_end w.to_connector 0);
   fault = None;
 }
 
 -- clients that have said nothing, numbered from this number on
-abbrev pub made_clients : ℕ → LinkId ToLedger → ℕ → List (LinkId Reply) → List ClientState
+abbrev pub made_clients : ℕ → LinkId ToLedger → ℕ → List (LinkId Reply) → List (EndState Talk)
 made_clients system requests number [] = []
 made_clients system requests number (answers ∷ rest) = record {
   system = system;
-  talk = first_words number (fresh_end requests number) (fresh_inbox answers 1);
+  work = first_words number (fresh_end requests number) (fresh_inbox answers 1);
   fault = None;
 } ∷ made_clients system requests (number + 1) rest
 
--- a connector that has said nothing, over a store that holds this; its first session is to start after this moment, if
--- there is one
-abbrev pub made_connector : ℕ → Wiring → Option Saved → Bool → Option ℕ → ℕ → List ℕ → ConnectorEndState
-made_connector system w held honest start window restarts = record {
+-- a connector that has said nothing, over a store that holds this, and may refuse so; its first session is to start after
+-- this moment, if there is one
+abbrev pub made_connector : ℕ → Wiring → Option Saved → Bool → Risks → Option ℕ → ℕ → List ℕ → EndState Publishing
+made_connector system w held honest risks start window restarts = record {
   system = system;
   work = first_work (fresh_inbox w.to_connector 2) (fresh_end w.to_ledger 0) (fresh_end w.to_broker 0) held honest
-      start window restarts;
+      risks start window restarts;
   fault = None;
 }
 
@@ -66,10 +68,10 @@ plan_of faults = record {
 }
 
 -- a broker that nothing has come to, with a queue for each binding
-abbrev pub made_broker : Config → Faults → Wiring → BrokerEndState
+abbrev pub made_broker : Config → Faults → Wiring → EndState BrokerDesk
 made_broker config faults w = record {
   system = config.system;
-  desk = first_broker (fresh_inbox w.to_broker (length w.to_subscribers + 1)) (fresh_end w.to_connector 1)
+  work = first_broker (fresh_inbox w.to_broker (length w.to_subscribers + 1)) (fresh_end w.to_connector 1)
       (map (λ link. fresh_end link 0) w.to_subscribers) (empty_broker config.bindings.items) (plan_of faults)
       config.prefetch;
   fault = None;
@@ -77,18 +79,18 @@ made_broker config faults w = record {
 
 -- subscribers to which nothing has come, numbered from this number on, which are to close after so many events
 abbrev pub made_subscribers : ℕ → LinkId ToBroker → ℕ → List (LinkId ToSubscriber) → List (Option ℕ)
-    → List SubscriberState
+    → List (EndState Intake)
 made_subscribers system acks number [] closes = []
 made_subscribers system acks number (inbox ∷ rest) [] = []
 made_subscribers system acks number (inbox ∷ rest) (close ∷ closes) = record {
   system = system;
-  intake = new_intake number (fresh_inbox inbox 1) (fresh_end acks number) close;
+  work = new_intake number (fresh_inbox inbox 1) (fresh_end acks number) close;
   fault = None;
 } ∷ made_subscribers system acks (number + 1) rest closes
 
 -- so they are of a system, numbered from 1, each to close after the least number given for it
 pub record AreFreshSubscribers (system : ℕ) (acks : LinkId ToBroker) (given : List (ℕ × ℕ))
-    (inboxes : List (LinkId ToSubscriber)) (subscribers : List SubscriberState) : Type 0 where
+    (inboxes : List (LinkId ToSubscriber)) (subscribers : List (EndState Intake)) : Type 0 where
   pub closes : List (Option ℕ)
   pub count : length closes ≡ length inboxes
   pub closes_are : AreCloses 1 given closes
@@ -105,8 +107,9 @@ pub record AreMade {S : Type 0} (config : Config) (faults : Faults) (held : Opti
   pub closes_are : AreCloses 1 faults.close.items closes
   pub ledger : ends.ledger ≡ made_ledger config.system wiring
   pub clients : ends.clients.items ≡ made_clients config.system wiring.to_ledger 1 wiring.to_clients
+  pub risks : Risks
   pub connector : ends.connector
-      ≡ made_connector config.system wiring held honest config.start config.window faults.restart_after.items
+      ≡ made_connector config.system wiring held honest risks config.start config.window faults.restart_after.items
   pub broker : ends.broker ≡ made_broker config faults wiring
   pub subscribers : ends.subscribers.items
       ≡ made_subscribers config.system wiring.to_broker 1 wiring.to_subscribers closes

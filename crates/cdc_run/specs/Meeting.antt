@@ -1,24 +1,21 @@
 -- Which faults the ends of a run may meet, and which of them the run answers.
 use Rattle.std.specs.Prelude.{◌⊎◌, ◌≡◌, ℕ, zero, suc, ◌+◌, Option, Some, None, List, [], ◌∷◌, ◌++◌, IfSome}
 use Rattle.std.specs.List.{AllZip}
-use Rattle.cdc_ends.specs.BrokerTurns.{IsTurnFault as IsBrokerFault}
-use Rattle.cdc_ends.specs.Clients.{IsTurnFault as IsClientFault}
 use Rattle.cdc_ends.specs.ConnectorEnds.{IsTurnFault as IsConnectorFault}
-use Rattle.cdc_ends.specs.LedgerEnds.{IsTurnFault as IsLedgerFault}
-use Rattle.cdc_ends.specs.SubscriberEnds.{IsTurnFault as IsSubscriberFault}
 use Rattle.cdc_ends.specs.declared.faults.RunFault.{RunFault}
 use Rattle.cdc_ends.specs.declared.faults.RunFault.TheVariants.{OutOfMemory, NotOneSystem}
+use Rattle.cdc_ends.specs.Faults.{IsTurnFault}
 use Rattle.cdc_run.specs.Outcomes.{first_of}
 use Rattle.cdc_run.specs.declared.places.Place.{Place}
 use Rattle.cdc_run.specs.declared.places.Place.TheVariants as place
 
 -- the end of a place may meet such a fault; where its thread can't be started, that is a want of memory
 abbrev pub MayMeet : Place → RunFault → Type 0
-MayMeet place.Ledger fault = IsLedgerFault fault
-MayMeet (place.Client number) fault = IsClientFault fault
+MayMeet place.Ledger fault = IsTurnFault fault
+MayMeet (place.Client number) fault = IsTurnFault fault
 MayMeet place.Connector fault = IsConnectorFault fault
-MayMeet place.Broker fault = IsBrokerFault fault
-MayMeet (place.Subscriber number) fault = IsSubscriberFault fault
+MayMeet place.Broker fault = IsTurnFault fault
+MayMeet (place.Subscriber number) fault = IsTurnFault fault
 
 -- it has met such a fault, or none
 abbrev pub MayHaveMet : Place → Option RunFault → Type 0

@@ -1,8 +1,6 @@
 -- What is reported of a run once all its ends have finished.
 use Rattle.std.specs.Prelude.{◌≡◌, ℕ, Option, Some, List, [], ◌∷◌, length, map, true}
-use Rattle.cdc_ends.specs.BrokerTurns.{has_finished as broker_has_finished}
-use Rattle.cdc_ends.specs.ConnectorEnds.{has_finished as connector_has_finished}
-use Rattle.cdc_ends.specs.LedgerEnds.{has_finished as ledger_has_finished, order_of}
+use Rattle.cdc_ends.specs.LedgerEnds.{order_of, is_over}
 use Rattle.cdc_ends.specs.declared.faults.RunFault.{RunFault}
 use Rattle.cdc_ledger.specs.History.{History}
 use Rattle.cdc_match.specs.declared.binding.Binding.{Binding}
@@ -13,7 +11,10 @@ use Rattle.cdc_types.specs.declared.batches.Batch.{Batch}
 use Rattle.cdc_run.specs.Accounts.{IsRefused}
 use Rattle.cdc_run.specs.Books.{AreBooks}
 use Rattle.cdc_run.specs.ClientMail.{AreClientsOf}
-use Rattle.cdc_run.specs.Seats.{at_start, broker_seat, connector_seat}
+use Rattle.cdc_ends.specs.Seats.{at_start, broker_seat, connector_seat}
+use Rattle.cdc_ends.specs.Ends.{has_finished}
+use Rattle.cdc_ends.specs.BrokerEnds.{Desk as BrokerDesk}
+use Rattle.cdc_ends.specs.ConnectorEnds.{Publishing}
 use Rattle.cdc_run.specs.SubscriberMail.{AreSubscribersOf}
 use Rattle.cdc_run.specs.Subscribing.{HasCome}
 use Rattle.cdc_run.specs.declared.ends.Ends.{Ends}
@@ -41,14 +42,14 @@ AreSubscribed h start (binding ∷ bindings) (close ∷ closes) (subscriber ∷ 
 
 -- ends of one system, all of its places, each of which has finished and has met no fault
 pub record AreFinished {S : Type 0} (ends : Ends S) : Type 0 where
-  pub ledger : ledger_has_finished ends.ledger ≡ true
-  pub clients_count : length ends.clients.items ≡ length ends.ledger.desk.clients
+  pub ledger : has_finished is_over ends.ledger ≡ true
+  pub clients_count : length ends.clients.items ≡ length ends.ledger.work.clients
   pub clients : AreClientsOf ends.ledger.system 1 ends.clients.items
-  pub connector : connector_has_finished ends.connector ≡ true
+  pub connector : has_finished (λ (c : Publishing). c.finished) ends.connector ≡ true
   pub connector_system : ends.connector.system ≡ ends.ledger.system
-  pub broker : broker_has_finished ends.broker ≡ true
+  pub broker : has_finished (λ (d : BrokerDesk). d.finished) ends.broker ≡ true
   pub broker_system : ends.broker.system ≡ ends.ledger.system
-  pub subscribers_count : length ends.subscribers.items ≡ length ends.broker.desk.consumers
+  pub subscribers_count : length ends.subscribers.items ≡ length ends.broker.work.consumers
   pub subscribers : AreSubscribersOf ends.ledger.system 1 ends.subscribers.items
 
 -- what ends that have finished come to. All batches, in the order in which the ledger's end has received them, give the
@@ -56,11 +57,11 @@ pub record AreFinished {S : Type 0} (ends : Ends S) : Type 0 where
 -- subscriber has come to what it may rely on after it
 pub record IsReportOf {S : Type 0} (ends : Ends S) (report : Report) : Type 0 where
   pub finished : AreFinished ends
-  pub replies : replies_of report ≡ map (λ c. c.talk.replies) ends.clients.items
-  pub books : AreBooks (order_of ends.ledger.desk.inbox.received) report.ledger (replies_of report)
-  pub subscribers : (start : ℕ) → (connector_seat ends.connector).origin ≡ Some (at_start start)
-      → AreSubscribed report.ledger start (broker_seat ends.broker).bindings
-      (map (λ s. s.intake.close_after) ends.subscribers.items) report.subscribers.items
+  pub replies : replies_of report ≡ map (λ c. c.work.replies) ends.clients.items
+  pub books : AreBooks (order_of ends.ledger.work.inbox.received) report.ledger (replies_of report)
+  pub subscribers : (start : ℕ) → (connector_seat ends.connector.work).origin ≡ Some (at_start start)
+      → AreSubscribed report.ledger start (broker_seat ends.broker.work).bindings
+      (map (λ s. s.work.close_after) ends.subscribers.items) report.subscribers.items
 
 -- nothing is reported: the ends aren't of one system that has finished, or there was no memory to put them together
 abbrev pub IsUnreported : {S : Type 0} → Ends S → RunFault → Type 0

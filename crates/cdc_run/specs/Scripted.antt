@@ -1,8 +1,9 @@
 -- A client's end with the script that it is to submit.
 use Rattle.std.specs.Prelude.{List}
-use Rattle.cdc_ends.specs.Clients.{ClientState}
+use Rattle.cdc_ends.specs.Clients.{Talk}
+use Rattle.cdc_ends.specs.Ends.{EndState}
 use Rattle.cdc_types.specs.declared.batches.Batch.{Batch}
 
 pub record ScriptedState : Type 0 where
-  pub end : ClientState
+  pub end : EndState Talk
   pub script : List Batch

@@ -4,14 +4,15 @@ use Rattle.std.specs.List.{AllZip}
 use Rattle.cdc_ends.specs.BrokerEnds.{Desk as BrokerDesk}
 use Rattle.cdc_ends.specs.ConnectorEnds.{IsAtStart, IsConnectorEnd, Publishing, origin_of}
 use Rattle.cdc_ends.specs.LedgerEnds.{Desk as LedgerDesk, IsDesk}
-use Rattle.cdc_ends.specs.SubscriberEnds.{Intake, SubscriberState}
+use Rattle.cdc_ends.specs.SubscriberEnds.{Intake}
+use Rattle.cdc_ends.specs.Ends.{EndState}
 use Rattle.cdc_links.specs.Links.{Incoming, Outgoing}
 use Rattle.cdc_traffic.specs.declared.messages.ToBroker.{ToBroker}
 use Rattle.cdc_traffic.specs.declared.messages.ToConnector.{ToConnector}
 use Rattle.cdc_traffic.specs.declared.pasts.Past.{Past}
 use Rattle.cdc_run.specs.Accounts.{IsOnlySender}
 use Rattle.cdc_run.specs.Passing.{ComesOf}
-use Rattle.cdc_run.specs.SubscriberMail.{intakes_of}
+use Rattle.cdc_run.specs.Parted.{works_of}
 
 -- the ends of a connector's links
 pub record Middle : Type 0 where
@@ -21,14 +22,14 @@ pub record Middle : Type 0 where
 
 -- they are wired to a broker's end, and that one to subscribers: the ledger and the broker send to the connector, the
 -- connector and the subscribers to the broker, and the broker to each subscriber over that one's link
-pub record AreJoined (m : Middle) (b : BrokerDesk) (subscribers : List SubscriberState) : Type 0 where
+pub record AreJoined (m : Middle) (b : BrokerDesk) (subscribers : List (EndState Intake)) : Type 0 where
   pub two : m.inbox.senders ≡ 2
   pub replies : m.replies.link ≡ m.inbox.link
   pub confirms : b.confirms.link ≡ m.inbox.link
   pub packets : m.packets.link ≡ b.inbox.link
-  pub acks : All (λ s. s.intake.acks.link ≡ b.inbox.link) subscribers
+  pub acks : All (λ s. s.work.acks.link ≡ b.inbox.link) subscribers
   pub inboxes : length subscribers ≡ length b.consumers
-      → AllZip IsOnlySender (map (λ s. s.inbox) (intakes_of subscribers)) (map (λ c. c.link) b.consumers)
+      → AllZip IsOnlySender (map (λ s. s.inbox) (works_of subscribers)) (map (λ c. c.link) b.consumers)
 
 -- they are what a ledger's end and a connector that has finished had of them; and the connector's store is honest, and
 -- the run began at its start

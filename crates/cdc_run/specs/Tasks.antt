@@ -1,15 +1,17 @@
--- What each end of a run leaves once it has worked: it has finished, and stands where it stood.
-use Rattle.std.specs.Prelude.{◌≡◌, ℕ, ◌+◌, true, Some, List, [], ◌∷◌, ◌++◌, ◌&&◌, is_none, map}
+-- What each end of a run leaves once it has worked.
+use Rattle.std.specs.Prelude.{◌≡◌, ℕ, ◌+◌, Bool, true, Some, List, [], ◌∷◌, ◌++◌, map}
 use Rattle.std.specs.List.{AllZip}
-use Rattle.cdc_ends.specs.BrokerEnds.{BrokerEndState}
-use Rattle.cdc_ends.specs.BrokerTurns.{IsTurnFault as IsBrokerFault, has_finished as broker_has_finished}
-use Rattle.cdc_ends.specs.Clients.{ClientState, IsTurnFault as IsClientFault, has_finished as client_has_finished}
-use Rattle.cdc_ends.specs.ConnectorEnds.{ConnectorEndState, IsTurnFault as IsConnectorFault, has_finished as connector_has_finished}
-use Rattle.cdc_ends.specs.LedgerEnds.{IsTurnFault as IsLedgerFault, LedgerEndState, has_finished as ledger_has_finished}
-use Rattle.cdc_ends.specs.SubscriberEnds.{IsTurnFault as IsSubscriberFault, SubscriberState}
+use Rattle.cdc_ends.specs.BrokerEnds.{Desk as BrokerDesk}
+use Rattle.cdc_ends.specs.Clients.{Talk}
+use Rattle.cdc_ends.specs.ConnectorEnds.{Publishing}
+use Rattle.cdc_ends.specs.ConnectorSoFar.{IsFaultOf}
+use Rattle.cdc_ends.specs.LedgerEnds.{Desk as LedgerDesk, is_over}
+use Rattle.cdc_ends.specs.SubscriberEnds.{Intake}
 use Rattle.cdc_ends.specs.declared.faults.RunFault.{RunFault}
 use Rattle.cdc_run.specs.Scripted.{ScriptedState}
-use Rattle.cdc_run.specs.Seats.{broker_seat, client_seat, connector_seat, ledger_seat, subscriber_seat}
+use Rattle.cdc_ends.specs.Seats.{broker_seat, client_seat, connector_seat, ledger_seat, subscriber_seat}
+use Rattle.cdc_ends.specs.Ends.{EndState, has_finished}
+use Rattle.cdc_ends.specs.Faults.{IsTurnFault}
 use Rattle.cdc_run.specs.declared.ends.Ends.{Ends}
 use Rattle.cdc_run.specs.declared.placed.Left.{Left}
 use Rattle.cdc_run.specs.declared.placed.Left.TheVariants as left
@@ -21,11 +23,11 @@ use Rattle.cdc_types.specs.declared.batches.Batch.{Batch}
 
 -- the ends of a run, clients and subscribers by place
 pub record Placed : Type 0 where
-  pub ledger : LedgerEndState
-  pub clients : List ClientState
-  pub connector : ConnectorEndState
-  pub broker : BrokerEndState
-  pub subscribers : List SubscriberState
+  pub ledger : EndState LedgerDesk
+  pub clients : List (EndState Talk)
+  pub connector : EndState Publishing
+  pub broker : EndState BrokerDesk
+  pub subscribers : List (EndState Intake)
 
 abbrev pub places_of : {S : Type 0} → Ends S → Placed
 places_of ends = record {
@@ -37,14 +39,14 @@ places_of ends = record {
 }
 
 -- each client with its script
-abbrev pub with_scripts : List ClientState → List (List Batch) → List ScriptedState
+abbrev pub with_scripts : List (EndState Talk) → List (List Batch) → List ScriptedState
 with_scripts [] scripts = []
 with_scripts (client ∷ clients) [] = []
 with_scripts (client ∷ clients) (script ∷ scripts) =
     record { end = client; script = script } ∷ with_scripts clients scripts
 
 -- each subscriber with its number, from this number on
-abbrev pub numbered : {S : Type 0} → ℕ → List SubscriberState → List (Task S)
+abbrev pub numbered : {S : Type 0} → ℕ → List (EndState Intake) → List (Task S)
 numbered number [] = []
 numbered number (s ∷ subscribers) = task.Subscriber number s ∷ numbered (number + 1) subscribers
 
@@ -62,53 +64,46 @@ left_at p =
 
 -- ---- what each leaves
 
-pub record LedgerLeaves (old new : LedgerEndState) : Type 0 where
-  pub seat : ledger_seat new ≡ ledger_seat old
-  pub done : ledger_has_finished new ≡ true
+-- an end has worked to its end: it is of the same system, stands where it stood, and has finished
+pub record HasLeft {W Seat : Type 0} (seat_of : W → Seat) (is_over : W → Bool) (old new : EndState W) : Type 0 where
+  pub system : new.system ≡ old.system
+  pub seat : seat_of new.work ≡ seat_of old.work
+  pub done : has_finished is_over new ≡ true
+
+abbrev pub LedgerLeaves : EndState LedgerDesk → EndState LedgerDesk → Type 0
+LedgerLeaves = HasLeft ledger_seat is_over
 
 -- it has submitted its script, in its order, and nothing else
-pub record ClientLeaves (old : ScriptedState) (new : ClientState) : Type 0 where
-  pub seat : client_seat new ≡ client_seat old.end
-  pub done : client_has_finished new ≡ true
-  pub batches : map (λ r. r.batch) new.talk.replies ≡ map (λ r. r.batch) old.end.talk.replies ++ old.script
+pub record ClientLeaves (old : ScriptedState) (new : EndState Talk) : Type 0 where
+  pub left : HasLeft client_seat (λ c. c.finished) old.end new
+  pub batches : map (λ r. r.batch) new.work.replies ≡ map (λ r. r.batch) old.end.work.replies ++ old.script
 
-pub record ConnectorLeaves (old new : ConnectorEndState) : Type 0 where
-  pub seat : connector_seat new ≡ connector_seat old
-  pub done : connector_has_finished new ≡ true
+abbrev pub ConnectorLeaves : EndState Publishing → EndState Publishing → Type 0
+ConnectorLeaves = HasLeft connector_seat (λ c. c.finished)
 
-pub record BrokerLeaves (old new : BrokerEndState) : Type 0 where
-  pub seat : broker_seat new ≡ broker_seat old
-  pub done : broker_has_finished new ≡ true
+abbrev pub BrokerLeaves : EndState BrokerDesk → EndState BrokerDesk → Type 0
+BrokerLeaves = HasLeft broker_seat (λ d. d.finished)
 
-pub record SubscriberLeaves (old new : SubscriberState) : Type 0 where
-  pub seat : subscriber_seat new ≡ subscriber_seat old
-  pub done : (is_none new.fault && new.intake.finished) ≡ true
+abbrev pub SubscriberLeaves : EndState Intake → EndState Intake → Type 0
+SubscriberLeaves = HasLeft subscriber_seat (λ c. c.finished)
 
 -- ---- a fault
 
 -- an end that has met a fault keeps it, and it is one that such an end may meet
-abbrev pub LedgerMeets : LedgerEndState → RunFault → Type 0
-LedgerMeets end fault = (end.fault ≡ Some fault) × IsLedgerFault fault
+abbrev pub Meets : {W : Type 0} → (W → RunFault → Type 0) → EndState W → RunFault → Type 0
+Meets fails_as end fault = (end.fault ≡ Some fault) × fails_as end.work fault
 
-abbrev pub ClientMeets : ClientState → RunFault → Type 0
-ClientMeets end fault = (end.fault ≡ Some fault) × IsClientFault fault
-
-abbrev pub ConnectorMeets : ConnectorEndState → RunFault → Type 0
-ConnectorMeets end fault = (end.fault ≡ Some fault) × IsConnectorFault fault
-
-abbrev pub BrokerMeets : BrokerEndState → RunFault → Type 0
-BrokerMeets end fault = (end.fault ≡ Some fault) × IsBrokerFault fault
-
-abbrev pub SubscriberMeets : SubscriberState → RunFault → Type 0
-SubscriberMeets end fault = (end.fault ≡ Some fault) × IsSubscriberFault fault
+-- some end of a kind has
+abbrev pub IsMet : {W : Type 0} → (W → RunFault → Type 0) → RunFault → Type 0
+IsMet {W} fails_as fault = (left : EndState W) × Meets fails_as left fault
 
 -- an end has worked until it met this fault
 abbrev pub Fails : {S : Type 0} → Task S → RunFault → Type 0
-Fails (task.Ledger old) fault = (left : LedgerEndState) × LedgerMeets left fault
-Fails (task.Client old) fault = (left : ClientState) × ClientMeets left fault
-Fails (task.Connector old) fault = (left : ConnectorEndState) × ConnectorMeets left fault
-Fails (task.Broker old) fault = (left : BrokerEndState) × BrokerMeets left fault
-Fails (task.Subscriber number old) fault = (left : SubscriberState) × SubscriberMeets left fault
+Fails (task.Ledger old) fault = IsMet {W = LedgerDesk} (λ _. IsTurnFault) fault
+Fails (task.Client old) fault = IsMet {W = Talk} (λ _. IsTurnFault) fault
+Fails (task.Connector old) fault = IsMet IsFaultOf fault
+Fails (task.Broker old) fault = IsMet {W = BrokerDesk} (λ _. IsTurnFault) fault
+Fails (task.Subscriber number old) fault = IsMet {W = Intake} (λ _. IsTurnFault) fault
 
 -- ---- all of them
 

@@ -1,7 +1,7 @@
 -- Which links each end of a run stands at.
 use Rattle.std.specs.Prelude.{◌≡◌, ℕ, ◌-◌, Some, List, All, slice_get}
 use Rattle.cdc_links.specs.Links.{LinkId}
-use Rattle.cdc_run.specs.Seats.{BrokerSeat, ClientSeat, ConnectorSeat, LedgerSeat, SubscriberSeat, broker_seat, client_seat, connector_seat, ledger_seat, subscriber_seat}
+use Rattle.cdc_ends.specs.Seats.{BrokerSeat, ClientSeat, ConnectorSeat, LedgerSeat, SubscriberSeat, broker_seat, client_seat, connector_seat, ledger_seat, subscriber_seat}
 use Rattle.cdc_run.specs.declared.ends.Ends.{Ends}
 use Rattle.cdc_traffic.specs.declared.messages.ToBroker.{ToBroker}
 use Rattle.cdc_traffic.specs.declared.messages.ToConnector.{ToConnector}
@@ -49,8 +49,8 @@ pub record SubscriberSits (w : Wiring) (seat : SubscriberSeat) : Type 0 where
 -- each end sits where the wiring of its own system has it; so ends of several systems may be among them, as long as
 -- those have different numbers
 pub record AreSeated {S : Type 0} (wiring : ℕ → Wiring) (ends : Ends S) : Type 0 where
-  pub ledger : LedgerSits (wiring ends.ledger.system) (ledger_seat ends.ledger)
-  pub clients : All (λ c. ClientSits (wiring c.system) (client_seat c)) ends.clients.items
-  pub connector : ConnectorSits (wiring ends.connector.system) (connector_seat ends.connector)
-  pub broker : BrokerSits (wiring ends.broker.system) (broker_seat ends.broker)
-  pub subscribers : All (λ s. SubscriberSits (wiring s.system) (subscriber_seat s)) ends.subscribers.items
+  pub ledger : LedgerSits (wiring ends.ledger.system) (ledger_seat ends.ledger.work)
+  pub clients : All (λ c. ClientSits (wiring c.system) (client_seat c.work)) ends.clients.items
+  pub connector : ConnectorSits (wiring ends.connector.system) (connector_seat ends.connector.work)
+  pub broker : BrokerSits (wiring ends.broker.system) (broker_seat ends.broker.work)
+  pub subscribers : All (λ s. SubscriberSits (wiring s.system) (subscriber_seat s.work)) ends.subscribers.items

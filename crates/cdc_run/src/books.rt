@@ -4,9 +4,10 @@ ghost use Rattle.std.specs.Prelude.{◌≡◌, ◌++◌, ◌∷◌, [], All, IfE
 ghost use Rattle.cdc_ends.specs.LedgerEnds.{IsDesk, order_of};
 ghost use Rattle.cdc_run.specs.Accounts.{IsRefused};
 ghost use Rattle.cdc_run.specs.Books.{AreBooks};
-ghost use Rattle.cdc_run.specs.ClientMail.{AreClientsOf, ArePollsTo, AreWiredTo, HasFinishedWith, IsMailOf, IsMoreMail};
+ghost use Rattle.cdc_run.specs.ClientMail.{AreClientsOf, ArePollsTo, AreWiredTo, HasAllOf, HasFinishedWith, IsMailOf, IsMoreMail};
 
 use crate::accounts::{hand_back_all, settle_each};
+use crate::parting::part_ends;
 use crate::settling::settle_laws;
 use cdc_ends::{ClientEnd, ClientParts, LedgerEnd, RunFault};
 use cdc_ledger::Ledger;
@@ -25,7 +26,7 @@ pub(crate) struct ClientMail {
 impl ClientMail {
     // Nobody has left anything.
     fn new(alloc: Global) -> ClientMail
-        ensures { IsMailOf [] result }
+        ensures { HasAllOf [] result }
     {
         ClientMail {
             requests: Vec::new(alloc),
@@ -51,6 +52,17 @@ impl ClientMail {
         self.replies.push_reserved(replies);
         Ok(())
     }
+
+    // All of them.
+    fn of(alloc: Global, all: Vec<ClientParts>) -> Result<ClientMail, AllocError>
+        ensures { IfOk result (HasAllOf all.items) }
+    {
+        let mut mail = ClientMail::new(alloc);
+        for parts in all {
+            mail.add(parts)?;
+        }
+        Ok(mail)
+    }
 }
 
 /// Takes the clients' ends of a system apart, all of which have to have finished. `NotOneSystem`: one is of another
@@ -64,17 +76,8 @@ pub(crate) fn part_clients(
     ensures mail { IfOk result (λ mail. IsMailOf clients.items mail) }
     ensures refused { IfErr result (IsRefused (AreClientsOf system 1 clients.items)) }
 {
-    let mut mail = ClientMail::new(alloc);
-    for client in clients {
-        let number = mail.requests.len() as u64 + 1;
-        if client.system() != system || client.number() != number {
-            return Err(RunFault::NotOneSystem);
-        }
-        let Some(parts) = client.into_parts() else {
-            return Err(RunFault::NotOneSystem);
-        };
-        mail.add(parts)?;
-    }
+    let parts = part_ends(alloc, system, clients)?;
+    let mail = ClientMail::of(alloc, parts)?;
     Ok(mail)
 }
 
@@ -101,13 +104,13 @@ pub(crate) fn settle_books(
     requires polls { ArePollsTo ledger polls }
     requires wired { AreClientsOf ledger.system 1 clients.items → AreWiredTo ledger clients.items }
     ensures books { IfOk result (λ books.
-        AreBooks (order_of ledger.desk.inbox.received) books.ledger
+        AreBooks (order_of ledger.work.inbox.received) books.ledger
         (map (λ v. v.items) books.replies.items)) }
-    ensures ledger { IfOk result (λ books. books.ledger ≡ ledger.desk.ledger) }
+    ensures ledger { IfOk result (λ books. books.ledger ≡ ledger.work.ledger) }
     ensures replies { IfOk result (λ books.
-        map (λ v. v.items) books.replies.items ≡ map (λ c. c.talk.replies) clients.items) }
-    ensures connector { IfOk result (λ books. books.connector ≡ ledger.desk.connector) }
-    ensures desk { IfOk result (λ _. IsDesk ledger.desk) }
+        map (λ v. v.items) books.replies.items ≡ map (λ c. c.work.replies) clients.items) }
+    ensures connector { IfOk result (λ books. books.connector ≡ ledger.work.connector) }
+    ensures desk { IfOk result (λ _. IsDesk ledger.work) }
     ensures finished { IfOk result (λ _. HasFinishedWith ledger clients.items) }
     ensures refused { IfErr result (IsRefused (HasFinishedWith ledger clients.items)) }
 {

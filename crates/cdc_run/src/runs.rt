@@ -31,7 +31,7 @@ fn tasks_of<S: ProgressStore + Drop>(
     ends: Ends<S>,
     scripts: Vec<Vec<Batch>>,
 ) -> Result<Vec<Task<S>>, AllocError>
-    requires { All (λ c. c.talk.finished ≡ false) ends.clients.items }
+    requires { All (λ c. c.work.finished ≡ false) ends.clients.items }
     ensures { IfOk result (λ tasks. tasks.items
         ≡ tasks_at (places_of ends) (map (λ s. s.items) scripts.items)) }
 {

@@ -21,13 +21,13 @@ impl Model for Scripted {
 
     ghost view = { λ c. record { end = c.end; script = c.script.items } };
 
-    ghost invariant = { λ c. c.end.talk.finished ≡ false };
+    ghost invariant = { λ c. c.end.work.finished ≡ false };
 }
 
 impl Scripted {
     /// A client that is to submit this script.
     pub(crate) fn new(end: ClientEnd, script: Vec<Batch>) -> Scripted
-        requires { end.talk.finished ≡ false }
+        requires { end.work.finished ≡ false }
         ensures { result ≡ record { end = end; script = script.items } }
     {
         Scripted { end, script }
@@ -37,7 +37,7 @@ impl Scripted {
     pub(crate) fn into_parts(self) -> (ClientEnd, Vec<Batch>)
         ensures end { result.0 ≡ self.end }
         ensures script { result.1.items ≡ self.script }
-        ensures talks { result.0.talk.finished ≡ false }
+        ensures talks { result.0.work.finished ≡ false }
     {
         (self.end, self.script)
     }

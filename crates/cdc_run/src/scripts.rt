@@ -1,9 +1,9 @@
 //! A client's script: its batches, one after another, and then that it is done.
 
-ghost use Rattle.std.specs.Prelude.{◌≡◌, ◌++◌, IfErr, IfOk, false, map, true};
-ghost use Rattle.cdc_ends.specs.Clients.{ClientState, has_finished};
-ghost use Rattle.cdc_run.specs.Seats.{client_seat};
-ghost use Rattle.cdc_run.specs.Tasks.{ClientMeets};
+ghost use Rattle.std.specs.Prelude.{◌≡◌, IfErr, IfOk, false};
+ghost use Rattle.cdc_ends.specs.Clients.{Talk};
+ghost use Rattle.cdc_ends.specs.Faults.{IsTurnFault};
+ghost use Rattle.cdc_run.specs.Tasks.{ClientLeaves, IsMet};
 
 use crate::gates::Gate;
 use crate::places::Place;
@@ -21,12 +21,9 @@ pub(crate) fn run_script<R: Wait, G: Gate>(
     alloc: Global,
     gate: &G,
 ) -> Result<ClientEnd, RunFault>
-    requires { end.talk.finished ≡ false }
-    ensures seat { IfOk result (λ left. client_seat left ≡ client_seat end) }
-    ensures done { IfOk result (λ left. has_finished left ≡ true) }
-    ensures batches { IfOk result (λ left. map (λ r. r.batch) left.talk.replies
-        ≡ map (λ r. r.batch) end.talk.replies ++ script.items) }
-    ensures met { IfErr result (λ fault. (left : ClientState) × ClientMeets left fault) }
+    requires { end.work.finished ≡ false }
+    ensures left { IfOk result (ClientLeaves (record { end = end; script = script.items })) }
+    ensures met { IfErr result (IsMet {W = Talk} (λ _. IsTurnFault)) }
 {
     let place = Place::Client(end.number());
     let mut turn: u64 = 0;

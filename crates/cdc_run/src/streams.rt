@@ -5,8 +5,9 @@ ghost use Rattle.cdc_ends.specs.BrokerEnds.{IsBrokerEnd};
 ghost use Rattle.cdc_ends.specs.ConnectorEnds.{Publishing, origin_of};
 ghost use Rattle.cdc_ends.specs.LedgerEnds.{Desk as LedgerDesk};
 ghost use Rattle.cdc_run.specs.Accounts.{IsRefused};
+ghost use Rattle.cdc_run.specs.Parted.{works_of};
 ghost use Rattle.cdc_run.specs.Streams.{AllCome, AreJoined, AreLeftBy};
-ghost use Rattle.cdc_run.specs.SubscriberMail.{AreSubscribersOf, HasFinishedWith, intakes_of};
+ghost use Rattle.cdc_run.specs.SubscriberMail.{AreSubscribersOf, HasFinishedWith};
 
 use crate::accounts::{settle_each, settle_link, settle_pair};
 use crate::settling::passing_laws;
@@ -50,13 +51,13 @@ pub(crate) fn settle_streams(
 ) -> Result<Vec<Subscriber>, RunFault>
     requires { broker.system ≡ system → AreSubscribersOf system 1 subscribers.items
         → AreJoined (record { inbox = inbox; replies = replies; packets = packets })
-        broker.desk subscribers.items }
+        broker.work subscribers.items }
     ensures come { IfOk result (λ _. (d : LedgerDesk) (c : Publishing)
         → AreLeftBy d c (record { inbox = inbox; replies = replies; packets = packets })
-        → AllCome d (origin_of c).start broker.desk 0 (intakes_of subscribers.items)) }
+        → AllCome d (origin_of c).start broker.work 0 (works_of subscribers.items)) }
     ensures keeps { IfOk result (λ kept.
-        kept.items ≡ map (λ s. s.subscriber) (intakes_of subscribers.items)) }
-    ensures desk { IfOk result (λ _. IsBrokerEnd broker.desk) }
+        kept.items ≡ map (λ s. s.subscriber) (works_of subscribers.items)) }
+    ensures desk { IfOk result (λ _. IsBrokerEnd broker.work) }
     ensures finished { IfOk result (λ _. HasFinishedWith system broker subscribers.items) }
     ensures refused { IfErr result (IsRefused (HasFinishedWith system broker subscribers.items)) }
 {

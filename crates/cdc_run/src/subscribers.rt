@@ -2,8 +2,9 @@
 
 ghost use Rattle.std.specs.Prelude.{[], IfErr, IfOk, OnOk};
 ghost use Rattle.cdc_run.specs.Accounts.{IsRefused};
-ghost use Rattle.cdc_run.specs.SubscriberMail.{AreSubscribersOf, IsLeftBy, IsMoreLeft};
+ghost use Rattle.cdc_run.specs.SubscriberMail.{AreSubscribersOf, HasAllOf, IsLeftBy, IsMoreLeft};
 
+use crate::parting::part_ends;
 use cdc_ends::{RunFault, SubscriberEnd, SubscriberParts};
 use cdc_links::{LinkIn, LinkOut};
 use cdc_subscriber::Subscriber;
@@ -21,7 +22,7 @@ pub(crate) struct SubscriberMail {
 impl SubscriberMail {
     // Nobody has left anything.
     fn new(alloc: Global) -> SubscriberMail
-        ensures { IsLeftBy [] result }
+        ensures { HasAllOf [] result }
     {
         SubscriberMail {
             acks: Vec::new(alloc),
@@ -48,6 +49,17 @@ impl SubscriberMail {
         self.subscribers.push_reserved(subscriber);
         Ok(())
     }
+
+    // All of them.
+    fn of(alloc: Global, all: Vec<SubscriberParts>) -> Result<SubscriberMail, AllocError>
+        ensures { IfOk result (HasAllOf all.items) }
+    {
+        let mut mail = SubscriberMail::new(alloc);
+        for parts in all {
+            mail.add(parts)?;
+        }
+        Ok(mail)
+    }
 }
 
 /// Takes the subscribers' ends of a system apart, all of which have to have finished. `NotOneSystem`: one is of another
@@ -61,17 +73,7 @@ pub(crate) fn part_subscribers(
     ensures mail { IfOk result (λ mail. IsLeftBy subscribers.items mail) }
     ensures refused { IfErr result (IsRefused (AreSubscribersOf system 1 subscribers.items)) }
 {
-    let mut mail = SubscriberMail::new(alloc);
-    for subscriber in subscribers {
-        let number = mail.acks.len() as u64 + 1;
-        if subscriber.system() != system || !subscriber.has_finished() {
-            return Err(RunFault::NotOneSystem);
-        }
-        let parts = subscriber.into_parts();
-        if parts.number != number {
-            return Err(RunFault::NotOneSystem);
-        }
-        mail.add(parts)?;
-    }
+    let parts = part_ends(alloc, system, subscribers)?;
+    let mail = SubscriberMail::of(alloc, parts)?;
     Ok(mail)
 }

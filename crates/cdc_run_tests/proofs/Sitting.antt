@@ -1,23 +1,27 @@
 -- Where the ends of a system sit, from where they were made, and to where they are settled.
 use Rattle.std.proofs.Common.{◌≡◌, ◌==◌, ℕ, ◌+◌, ◌-◌, ◌<◌, List, [], ◌∷◌, ◌++◌, refl, sym, ap, ◌∙◌, subst, arith, cond, length, map}
-use Rattle.std.specs.Prelude.{All, Bool, IfOk, Ok, Option, Result, Some, slice_get}
+use Rattle.std.specs.Prelude.{All, Bool, true, false, IfOk, if◌then◌else◌, Ok, Option, Result, Some, slice_get}
 use Rattle.std.proofs.Math.ListN.{get_or-map}
 use Rattle.std.proofs.lemmas.List.{append_assoc, length_push, length-map}
 use Rattle.std.proofs.lemmas.List.Elements.{All-cons, All-nil, All-weaker}
 use Rattle.std.proofs.lemmas.Result.{IfOk-at_ok}
-use Rattle.cdc_ends.specs.BrokerEnds.{BrokerEndState}
+use Rattle.cdc_ends.specs.BrokerEnds.{Desk as BrokerDesk}
 use Rattle.cdc_ends.specs.BrokerTurns.{first_consumer}
-use Rattle.cdc_ends.specs.LedgerEnds.{links_of}
+use Rattle.cdc_ends.specs.Clients.{Talk, finished_talk}
+use Rattle.cdc_ends.specs.ConnectorEnds.{Publishing}
+use Rattle.cdc_ends.specs.LedgerEnds.{Desk as LedgerDesk, links_of}
 use Rattle.cdc_ends.specs.declared.faults.RunFault.{RunFault}
-use Rattle.cdc_links.specs.Links.{LinkId, fresh_end}
+use Rattle.cdc_links.specs.Links.{LinkId, fresh_end, with_sent}
 use Rattle.cdc_progress.specs.Records.{Saved}
 use Rattle.cdc_run.specs.Made.{AreMade, made_clients, made_subscribers}
-use Rattle.cdc_run.specs.Seats.{BrokerSeat, ClientSeat, ConnectorSeat, LedgerSeat, SubscriberSeat, broker_seat, client_seat, connector_seat, ledger_seat, subscriber_seat}
+use Rattle.cdc_ends.specs.Seats.{BrokerSeat, ClientSeat, ConnectorSeat, LedgerSeat, SubscriberSeat, broker_seat, client_seat, connector_seat, ledger_seat, subscriber_seat}
+use Rattle.cdc_ends.specs.Ends.{EndState}
 use Rattle.cdc_run.specs.Wirings.{AreSeated, BrokerSits, ClientSits, ConnectorSits, LedgerSits, SubscriberSits, Wiring}
 use Rattle.cdc_run.specs.declared.configs.Config.{Config}
 use Rattle.cdc_run.specs.declared.ends.Ends.{Ends}
 use Rattle.cdc_run.specs.declared.plans.Faults.{Faults}
-use Rattle.cdc_run_tests.specs.Systems.{AreOfSystem, MayBeSettled, RunSeats, seats_of}
+use Rattle.cdc_run_tests.specs.Systems.{AreOfSystem, MayBeSettled, RunSeats, seats_of, sits_at}
+use Rattle.cdc_traffic.specs.declared.messages.ToLedger.TheVariants.{Done}
 use Rattle.cdc_traffic.specs.declared.messages.ToSubscriber.{ToSubscriber}
 use Rattle.cdc_traffic.specs.declared.requests.Reply.{Reply}
 
@@ -49,37 +53,37 @@ consumers_made (link ∷ links) = ap (λ (l : List (LinkId ToSubscriber)). link 
 
 module _ (system : ℕ) (w : Wiring) where
   -- a client's, and a subscriber's
-  abbrev IsClient : ClientSeat → Type 0
-  IsClient c = (c.system ≡ system) × ClientSits w c
+  abbrev IsClient : ℕ × ClientSeat → Type 0
+  IsClient c = (c.0 ≡ system) × ClientSits w c.1
 
-  abbrev IsSubscriber : SubscriberSeat → Type 0
-  IsSubscriber s = (s.system ≡ system) × SubscriberSits w s
+  abbrev IsSubscriber : ℕ × SubscriberSeat → Type 0
+  IsSubscriber s = (s.0 ≡ system) × SubscriberSits w s.1
 
   -- each client, behind those of some links
   clients_made : (before links : List (LinkId Reply)) (number : ℕ) → before ++ links ≡ w.to_clients
-      → number ≡ length before + 1 → All IsClient (map client_seat (made_clients system w.to_ledger number links))
+      → number ≡ length before + 1 → All IsClient (map (sits_at client_seat) (made_clients system w.to_ledger number links))
   clients_made before [] number split count = All-nil IsClient
   clients_made before (link ∷ links) number split count =
       let long = length_push before link in
       let next : number + 1 ≡ length (before ++ link ∷ []) + 1 = omega arith in
       All-cons IsClient
-      (record { system = system; number = number; requests = w.to_ledger; answers = link })
-      (map client_seat (made_clients system w.to_ledger (number + 1) links))
+      (system, record { number = number; requests = w.to_ledger; answers = link })
+      (map (sits_at client_seat) (made_clients system w.to_ledger (number + 1) links))
       (refl, record { requests = refl; answers = at_place before link links w.to_clients number split count })
       (clients_made (before ++ link ∷ []) links (number + 1) (append_assoc before (link ∷ []) links ∙ split) next)
 
   -- each subscriber, behind those of some links
   subscribers_made : (before links : List (LinkId ToSubscriber)) (number : ℕ) (closes : List (Option ℕ))
       → before ++ links ≡ w.to_subscribers → number ≡ length before + 1
-      → All IsSubscriber (map subscriber_seat (made_subscribers system w.to_broker number links closes))
+      → All IsSubscriber (map (sits_at subscriber_seat) (made_subscribers system w.to_broker number links closes))
   subscribers_made before [] number closes split count = All-nil IsSubscriber
   subscribers_made before (link ∷ links) number [] split count = All-nil IsSubscriber
   subscribers_made before (link ∷ links) number (close ∷ closes) split count =
       let long = length_push before link in
       let next : number + 1 ≡ length (before ++ link ∷ []) + 1 = omega arith in
       All-cons IsSubscriber
-      (record { system = system; number = number; inbox = link; acks = w.to_broker; close_after = close })
-      (map subscriber_seat (made_subscribers system w.to_broker (number + 1) links closes))
+      (system, record { number = number; inbox = link; acks = w.to_broker; close_after = close })
+      (map (sits_at subscriber_seat) (made_subscribers system w.to_broker (number + 1) links closes))
       (refl, record { acks = refl; inbox = at_place before link links w.to_subscribers number split count })
       (subscribers_made (before ++ link ∷ []) links (number + 1) closes
       (append_assoc before (link ∷ []) links ∙ split) next)
@@ -92,18 +96,18 @@ system_made config faults held honest ends made =
     let system : ℕ = config.system in
     record {
       wiring = w;
-      ledger = subst (LedgerSits w) (sym (ap ledger_seat made.ledger))
+      ledger = subst (LedgerSits w) (sym (ap (λ (e : EndState LedgerDesk). ledger_seat e.work) made.ledger))
           (record { inbox = refl; clients = links_made w.to_clients; connector = refl });
       ledger_system = ap (λ e. e.system) made.ledger;
-      clients = subst (λ l. All (IsClient system w) (map client_seat l)) (sym made.clients)
+      clients = subst (λ l. All (IsClient system w) (map (sits_at client_seat) l)) (sym made.clients)
           (clients_made system w [] w.to_clients 1 refl refl);
-      connector = subst (ConnectorSits w) (sym (ap connector_seat made.connector))
+      connector = subst (ConnectorSits w) (sym (ap (λ (e : EndState Publishing). connector_seat e.work) made.connector))
           (record { inbox = refl; polls = refl; packets = refl });
       connector_system = ap (λ e. e.system) made.connector;
-      broker = subst (BrokerSits w) (sym (ap broker_seat made.broker))
+      broker = subst (BrokerSits w) (sym (ap (λ (e : EndState BrokerDesk). broker_seat e.work) made.broker))
           (record { inbox = refl; confirms = refl; subscribers = consumers_made w.to_subscribers });
       broker_system = ap (λ e. e.system) made.broker;
-      subscribers = subst (λ l. All (IsSubscriber system w) (map subscriber_seat l)) (sym made.subscribers)
+      subscribers = subst (λ l. All (IsSubscriber system w) (map (sits_at subscriber_seat) l)) (sym made.subscribers)
           (subscribers_made system w [] w.to_subscribers 1 made.closes refl refl);
     }
 
@@ -118,7 +122,8 @@ wired_up config faults held honest system wired ends made is named =
 -- ---- turns
 
 -- all ends, by where they sit
-abbrev all_seats : LedgerSeat → List ClientSeat → ConnectorSeat → BrokerSeat → List SubscriberSeat → RunSeats
+abbrev all_seats : ℕ × LedgerSeat → List (ℕ × ClientSeat) → ℕ × ConnectorSeat → ℕ × BrokerSeat → List (ℕ × SubscriberSeat)
+    → RunSeats
 all_seats ledger clients connector broker subscribers = record {
   ledger = ledger;
   clients = clients;
@@ -127,16 +132,27 @@ all_seats ledger clients connector broker subscribers = record {
   subscribers = subscribers;
 }
 
+-- who says that it is done sits where it sat
+pub finished_sits : (system : ℕ) (c : Talk) → (system, client_seat (finished_talk c)) ≡ (system, client_seat c)
+finished_sits system c = go c.finished
+  where
+    go : (b : Bool) → (system, client_seat (if b then c else record c {
+      requests = with_sent c.requests (Done c.number, tt);
+      finished = true;
+    })) ≡ (system, client_seat c)
+    go true = refl
+    go false = refl
+
 -- where each sits where it sat, all do
-pub same_seats : {l l' : LedgerSeat} {c c' : List ClientSeat} {k k' : ConnectorSeat} {b b' : BrokerSeat}
-    {s s' : List SubscriberSeat} → l ≡ l' → c ≡ c' → k ≡ k' → b ≡ b' → s ≡ s'
+pub same_seats : {l l' : ℕ × LedgerSeat} {c c' : List (ℕ × ClientSeat)} {k k' : ℕ × ConnectorSeat}
+    {b b' : ℕ × BrokerSeat} {s s' : List (ℕ × SubscriberSeat)} → l ≡ l' → c ≡ c' → k ≡ k' → b ≡ b' → s ≡ s'
     → all_seats l c k b s ≡ all_seats l' c' k' b' s'
 same_seats {l} {l'} {c} {c'} {k} {k'} {b} {b'} {s} {s'} ledger clients connector broker subscribers =
-    ap (λ (x : LedgerSeat). all_seats x c k b s) ledger
-    ∙ ap (λ (x : List ClientSeat). all_seats l' x k b s) clients
-    ∙ ap (λ (x : ConnectorSeat). all_seats l' c' x b s) connector
-    ∙ ap (λ (x : BrokerSeat). all_seats l' c' k' x s) broker
-    ∙ ap (λ (x : List SubscriberSeat). all_seats l' c' k' b' x) subscribers
+    ap (λ (x : ℕ × LedgerSeat). all_seats x c k b s) ledger
+    ∙ ap (λ (x : List (ℕ × ClientSeat)). all_seats l' x k b s) clients
+    ∙ ap (λ (x : ℕ × ConnectorSeat). all_seats l' c' x b s) connector
+    ∙ ap (λ (x : ℕ × BrokerSeat). all_seats l' c' k' x s) broker
+    ∙ ap (λ (x : List (ℕ × SubscriberSeat)). all_seats l' c' k' b' x) subscribers
 
 -- ---- to be settled
 
@@ -148,27 +164,27 @@ read_back P read xs all = λ k d below.
     subst P (get_or-map read xs k d) (all k (read d) within)
 
 -- the ends of a system, with a broker's end in the place of its own
-pub seated : {S : Type 0} (wiring : ℕ → Wiring) (system : ℕ) (ends : Ends S) (broker : BrokerEndState)
+pub seated : {S : Type 0} (wiring : ℕ → Wiring) (system : ℕ) (ends : Ends S) (broker : EndState BrokerDesk)
     (are : AreOfSystem system (seats_of ends)) → wiring system ≡ are.wiring
-    → BrokerSits (wiring broker.system) (broker_seat broker) → AreSeated wiring (record ends { broker = broker })
+    → BrokerSits (wiring broker.system) (broker_seat broker.work) → AreSeated wiring (record ends { broker = broker })
 seated wiring system ends broker are same sits =
     let w : Wiring = are.wiring in
     record {
-      ledger = subst (λ n. LedgerSits (wiring n) (ledger_seat ends.ledger)) (sym are.ledger_system)
-          (subst (λ (v : Wiring). LedgerSits v (ledger_seat ends.ledger)) (sym same) are.ledger);
-      clients = All-weaker (λ c. IsClient system w (client_seat c)) (λ c. ClientSits (wiring c.system) (client_seat c))
-          (λ c h. subst (λ n. ClientSits (wiring n) (client_seat c)) (sym h.0)
-          (subst (λ (v : Wiring). ClientSits v (client_seat c)) (sym same) h.1))
-          ends.clients.items (read_back (IsClient system w) client_seat ends.clients.items are.clients);
-      connector = subst (λ n. ConnectorSits (wiring n) (connector_seat ends.connector)) (sym are.connector_system)
-          (subst (λ (v : Wiring). ConnectorSits v (connector_seat ends.connector)) (sym same) are.connector);
+      ledger = subst (λ n. LedgerSits (wiring n) (ledger_seat ends.ledger.work)) (sym are.ledger_system)
+          (subst (λ (v : Wiring). LedgerSits v (ledger_seat ends.ledger.work)) (sym same) are.ledger);
+      clients = All-weaker (λ c. IsClient system w (sits_at client_seat c)) (λ c. ClientSits (wiring c.system) (client_seat c.work))
+          (λ c h. subst (λ n. ClientSits (wiring n) (client_seat c.work)) (sym h.0)
+          (subst (λ (v : Wiring). ClientSits v (client_seat c.work)) (sym same) h.1))
+          ends.clients.items (read_back (IsClient system w) (sits_at client_seat) ends.clients.items are.clients);
+      connector = subst (λ n. ConnectorSits (wiring n) (connector_seat ends.connector.work)) (sym are.connector_system)
+          (subst (λ (v : Wiring). ConnectorSits v (connector_seat ends.connector.work)) (sym same) are.connector);
       broker = sits;
-      subscribers = All-weaker (λ s. IsSubscriber system w (subscriber_seat s))
-          (λ s. SubscriberSits (wiring s.system) (subscriber_seat s))
-          (λ s h. subst (λ n. SubscriberSits (wiring n) (subscriber_seat s)) (sym h.0)
-          (subst (λ (v : Wiring). SubscriberSits v (subscriber_seat s)) (sym same) h.1))
+      subscribers = All-weaker (λ s. IsSubscriber system w (sits_at subscriber_seat s))
+          (λ s. SubscriberSits (wiring s.system) (subscriber_seat s.work))
+          (λ s h. subst (λ n. SubscriberSits (wiring n) (subscriber_seat s.work)) (sym h.0)
+          (subst (λ (v : Wiring). SubscriberSits v (subscriber_seat s.work)) (sym same) h.1))
           ends.subscribers.items
-          (read_back (IsSubscriber system w) subscriber_seat ends.subscribers.items are.subscribers);
+          (read_back (IsSubscriber system w) (sits_at subscriber_seat) ends.subscribers.items are.subscribers);
     }
 
 -- the ends of one system
@@ -189,7 +205,7 @@ module _ {S : Type 0} (first second : Ends S) (one : AreOfSystem 1 (seats_of fir
   first_seated = (
     wiring_by,
     seated wiring_by 1 first second.broker one refl
-        (subst (λ n. BrokerSits (wiring_by n) (broker_seat second.broker)) (sym two.broker_system) two.broker),
+        (subst (λ n. BrokerSits (wiring_by n) (broker_seat second.broker.work)) (sym two.broker_system) two.broker),
   )
 
   -- and the other way round
@@ -197,5 +213,5 @@ module _ {S : Type 0} (first second : Ends S) (one : AreOfSystem 1 (seats_of fir
   second_seated = (
     wiring_by,
     seated wiring_by 2 second first.broker two refl
-        (subst (λ n. BrokerSits (wiring_by n) (broker_seat first.broker)) (sym one.broker_system) one.broker),
+        (subst (λ n. BrokerSits (wiring_by n) (broker_seat first.broker.work)) (sym one.broker_system) one.broker),
   )

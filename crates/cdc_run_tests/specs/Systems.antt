@@ -1,37 +1,42 @@
 -- Ends of one system, by where they sit. What the tests of settling say of their helpers, and no other contract.
 use Rattle.std.specs.Prelude.{◌≡◌, ℕ, List, All, map}
-use Rattle.cdc_run.specs.Seats.{BrokerSeat, ClientSeat, ConnectorSeat, LedgerSeat, SubscriberSeat, broker_seat, client_seat, connector_seat, ledger_seat, subscriber_seat}
+use Rattle.cdc_ends.specs.Ends.{EndState}
+use Rattle.cdc_ends.specs.Seats.{BrokerSeat, ClientSeat, ConnectorSeat, LedgerSeat, SubscriberSeat, broker_seat, client_seat, connector_seat, ledger_seat, subscriber_seat}
 use Rattle.cdc_run.specs.Wirings.{AreSeated, BrokerSits, ClientSits, ConnectorSits, LedgerSits, SubscriberSits, Wiring}
 use Rattle.cdc_run.specs.declared.ends.Ends.{Ends}
 
+-- where an end sits: the number of its system, and its seat there
+abbrev pub sits_at : {W Seat : Type 0} → (W → Seat) → EndState W → ℕ × Seat
+sits_at seat_of end = (end.system, seat_of end.work)
+
 -- where all ends of a run sit
 pub record RunSeats : Type 0 where
-  pub ledger : LedgerSeat
-  pub clients : List ClientSeat
-  pub connector : ConnectorSeat
-  pub broker : BrokerSeat
-  pub subscribers : List SubscriberSeat
+  pub ledger : ℕ × LedgerSeat
+  pub clients : List (ℕ × ClientSeat)
+  pub connector : ℕ × ConnectorSeat
+  pub broker : ℕ × BrokerSeat
+  pub subscribers : List (ℕ × SubscriberSeat)
 
 abbrev pub seats_of : {S : Type 0} → Ends S → RunSeats
 seats_of ends = record {
-  ledger = ledger_seat ends.ledger;
-  clients = map client_seat ends.clients.items;
-  connector = connector_seat ends.connector;
-  broker = broker_seat ends.broker;
-  subscribers = map subscriber_seat ends.subscribers.items;
+  ledger = sits_at ledger_seat ends.ledger;
+  clients = map (sits_at client_seat) ends.clients.items;
+  connector = sits_at connector_seat ends.connector;
+  broker = sits_at broker_seat ends.broker;
+  subscribers = map (sits_at subscriber_seat) ends.subscribers.items;
 }
 
 -- all of one system, where its wiring has them
 pub record AreOfSystem (system : ℕ) (seats : RunSeats) : Type 0 where
   pub wiring : Wiring
-  pub ledger : LedgerSits wiring seats.ledger
-  pub ledger_system : seats.ledger.system ≡ system
-  pub clients : All (λ c. (c.system ≡ system) × ClientSits wiring c) seats.clients
-  pub connector : ConnectorSits wiring seats.connector
-  pub connector_system : seats.connector.system ≡ system
-  pub broker : BrokerSits wiring seats.broker
-  pub broker_system : seats.broker.system ≡ system
-  pub subscribers : All (λ s. (s.system ≡ system) × SubscriberSits wiring s) seats.subscribers
+  pub ledger : LedgerSits wiring seats.ledger.1
+  pub ledger_system : seats.ledger.0 ≡ system
+  pub clients : All (λ c. (c.0 ≡ system) × ClientSits wiring c.1) seats.clients
+  pub connector : ConnectorSits wiring seats.connector.1
+  pub connector_system : seats.connector.0 ≡ system
+  pub broker : BrokerSits wiring seats.broker.1
+  pub broker_system : seats.broker.0 ≡ system
+  pub subscribers : All (λ s. (s.0 ≡ system) × SubscriberSits wiring s.1) seats.subscribers
 
 -- ends that may be handed to settle: each sits where the wiring of its own system has it, whichever that is
 abbrev pub MayBeSettled : {S : Type 0} → Ends S → Type 0

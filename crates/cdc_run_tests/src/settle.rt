@@ -1,13 +1,14 @@
-//! Ends of one system that have finished are settled; ends of two systems aren't, nor are ends that haven't begun.
+//! Ends of one system that have finished are settled; ends of two systems aren't, nor are ends that haven't begun, or of
+//! which one has met a fault.
 
 ghost use Rattle.std.specs.Prelude.{◌≡◌, map};
 ghost use Rattle.cdc_run.specs.Configs.{Fits};
-ghost use Rattle.cdc_run.specs.Seats.{broker_seat, client_seat, connector_seat, ledger_seat, subscriber_seat};
-ghost use Rattle.cdc_run_tests.specs.Systems.{AreOfSystem, MayBeSettled, seats_of};
+ghost use Rattle.cdc_ends.specs.Seats.{broker_seat, client_seat, connector_seat, ledger_seat, subscriber_seat};
+ghost use Rattle.cdc_run_tests.specs.Systems.{AreOfSystem, MayBeSettled, seats_of, sits_at};
 
 use cdc_ends::{BrokerEnd, ClientEnd, ConnectorEnd, LedgerEnd, RunFault, SubscriberEnd};
 use cdc_match::Binding;
-use cdc_progress::MemoryStore;
+use cdc_progress::{MemoryStore, StoreError};
 use cdc_run::{Config, Ends, Faults, settle, wire_up};
 use std::alloc::Global;
 use std::mem::swap;
@@ -32,42 +33,73 @@ fn config_of(rt: &impl Abort, alloc: Global, system: u64) -> Config
     }
 }
 
-// The ends of a system of one client and one subscriber, before any turn.
-fn new_ends(rt: &impl Abort, alloc: Global, system: u64) -> Ends<MemoryStore>
+// The ends of a system of one client and one subscriber over a store, before any turn.
+fn ends_over(
+    rt: &impl Abort,
+    alloc: Global,
+    system: u64,
+    store: MemoryStore,
+) -> Ends<MemoryStore>
     ensures { AreOfSystem system (seats_of result) }
 {
     let config = config_of(rt, alloc, system);
-    wire_up(alloc, config, Faults::none(alloc), MemoryStore::new()).expect(rt, "ends")
+    wire_up(alloc, config, Faults::none(alloc), store).expect(rt, "ends")
+}
+
+// The same over a store that holds nothing.
+fn new_ends(rt: &impl Abort, alloc: Global, system: u64) -> Ends<MemoryStore>
+    ensures { AreOfSystem system (seats_of result) }
+{
+    ends_over(rt, alloc, system, MemoryStore::new())
+}
+
+// The same, of which the connector has met a fault.
+fn failed_ends<R: Wait + Abort>(rt: &R, alloc: Global, system: u64) -> Ends<MemoryStore>
+    ensures { AreOfSystem system (seats_of result) }
+{
+    let mut ends = ends_over(rt, alloc, system, MemoryStore::with_faults(None, 1, false));
+    fail_connector(rt, alloc, &mut ends.connector);
+    ends
 }
 
 // Each of these takes one turn, or the one that a client without batches takes. The end stays where it sits.
 
 fn turn_ledger<R: Wait + Abort>(rt: &R, alloc: Global, end: &mut LedgerEnd)
-    ensures { ledger_seat end.new ≡ ledger_seat end.old }
+    ensures { sits_at ledger_seat end.new ≡ sits_at ledger_seat end.old }
 {
     end.turn(rt, alloc).expect(rt, "a turn");
 }
 
 fn turn_connector<R: Wait + Abort>(rt: &R, alloc: Global, end: &mut ConnectorEnd<MemoryStore>)
-    ensures { connector_seat end.new ≡ connector_seat end.old }
+    ensures { sits_at connector_seat end.new ≡ sits_at connector_seat end.old }
 {
     end.turn(rt, alloc).expect(rt, "a turn");
 }
 
+// A turn of a connector whose store fails.
+fn fail_connector<R: Wait + Abort>(rt: &R, alloc: Global, end: &mut ConnectorEnd<MemoryStore>)
+    ensures { sits_at connector_seat end.new ≡ sits_at connector_seat end.old }
+{
+    let turn = end.turn(rt, alloc);
+    assert!(rt; matches!(&turn, Err(RunFault::Store(StoreError::ReadFault))));
+    let again = end.turn(rt, alloc);
+    assert!(rt; matches!(&again, Err(RunFault::Store(StoreError::ReadFault))));
+}
+
 fn turn_broker<R: Wait + Abort>(rt: &R, alloc: Global, end: &mut BrokerEnd)
-    ensures { broker_seat end.new ≡ broker_seat end.old }
+    ensures { sits_at broker_seat end.new ≡ sits_at broker_seat end.old }
 {
     end.turn(rt, alloc).expect(rt, "a turn");
 }
 
 fn turn_subscriber<R: Wait + Abort>(rt: &R, alloc: Global, end: &mut SubscriberEnd)
-    ensures { subscriber_seat end.new ≡ subscriber_seat end.old }
+    ensures { sits_at subscriber_seat end.new ≡ sits_at subscriber_seat end.old }
 {
     end.turn(rt, alloc).expect(rt, "a turn");
 }
 
 fn finish_client<R: Wait + Abort>(rt: &R, end: &mut ClientEnd)
-    ensures { client_seat end.new ≡ client_seat end.old }
+    ensures { sits_at client_seat end.new ≡ sits_at client_seat end.old }
 {
     end.finish(rt).expect(rt, "a client that is done");
 }
@@ -75,7 +107,7 @@ fn finish_client<R: Wait + Abort>(rt: &R, end: &mut ClientEnd)
 // All clients, and all subscribers.
 
 fn finish_clients<R: Wait + Abort>(rt: &R, ends: &mut Vec<ClientEnd>)
-    ensures { map client_seat ends.new.items ≡ map client_seat ends.old.items }
+    ensures { map (sits_at client_seat) ends.new.items ≡ map (sits_at client_seat) ends.old.items }
 {
     for end in ends.iter_mut() {
         finish_client(rt, end);
@@ -83,7 +115,8 @@ fn finish_clients<R: Wait + Abort>(rt: &R, ends: &mut Vec<ClientEnd>)
 }
 
 fn turn_subscribers<R: Wait + Abort>(rt: &R, alloc: Global, ends: &mut Vec<SubscriberEnd>)
-    ensures { map subscriber_seat ends.new.items ≡ map subscriber_seat ends.old.items }
+    ensures { map (sits_at subscriber_seat) ends.new.items
+        ≡ map (sits_at subscriber_seat) ends.old.items }
 {
     for end in ends.iter_mut() {
         turn_subscriber(rt, alloc, end);
@@ -178,5 +211,11 @@ fn systems_whose_brokers_are_exchanged_are_not_settled(rt: HostRuntime) {
 #[test]
 fn nothing_is_settled_before_any_turn(rt: HostRuntime) {
     let ends = new_ends(&rt, rt.alloc(), 1);
+    assert!(rt; are_refused(rt.alloc(), ends));
+}
+
+#[test]
+fn an_end_that_has_met_a_fault_is_not_settled(rt: HostRuntime) {
+    let ends = failed_ends(&rt, rt.alloc(), 1);
     assert!(rt; are_refused(rt.alloc(), ends));
 }

@@ -23,7 +23,7 @@ struct Count {
     count: u64,
 }
 
-/// What the words of a script's lines tell.
+/// What the lines of a script tell.
 #[derive(Clone, Copy)]
 struct Slips {
     /// Posts without an amount.
@@ -32,6 +32,40 @@ struct Slips {
     transfers: Count,
     /// Whether the moment of a batch may be before a timestamp that was given out.
     may_go_back: bool,
+    /// What the last timestamp that was given out is at the most.
+    last: u128,
+    /// How many transfers at the most may still expire.
+    waiting: u128,
+}
+
+/// What a line is.
+#[derive(Clone, Copy)]
+enum Kind {
+    /// The request of an account.
+    Account,
+    /// The request of a transfer.
+    Transfer,
+    /// The line of a batch.
+    Batch,
+    /// A pulse.
+    Pulse,
+    /// Anything else.
+    Other,
+}
+
+/// What the words of a line have said so far.
+#[derive(Clone, Copy)]
+struct Line {
+    /// What it is; nothing before its first word.
+    kind: Option<Kind>,
+    /// The moment of a batch.
+    moment: u128,
+    /// The flags of a transfer.
+    flags: u128,
+    /// Whether a transfer has an amount.
+    has_amount: bool,
+    /// Whether a transfer has a timeout.
+    has_timeout: bool,
 }
 
 /// A batch whose moment is before a timestamp that was given out.
@@ -69,44 +103,129 @@ pub fn has_one_client(script: &[u8]) -> bool {
         .any(|line| first_word(line) == Some(b"client".as_slice()))
 }
 
-/// What the lines of a script tell. Each request gives one timestamp out, and a transfer may expire under another one:
-/// so the last that was given out is less than the greatest moment and all of those.
+/// What the lines of a script tell, in one pass over its bytes.
 fn slips_of(script: &[u8]) -> Slips {
     let mut slips = Slips {
         posts: Count { line: 0, count: 0 },
         transfers: Count { line: 0, count: 0 },
         may_go_back: false,
+        last: 0,
+        waiting: 0,
     };
-    let mut number: u64 = 0;
-    let mut greatest: u128 = 0;
-    let mut given: u128 = 0;
-    for line in script.split(|byte| *byte == b'\n') {
-        number = number.saturating_add(1);
-        match first_word(line) {
-            Some(b"account") => given = given.saturating_add(1),
-            Some(b"transfer") => {
-                given = given.saturating_add(2);
+    let mut number: u64 = 1;
+    let mut line = Line::new();
+    let mut begins = true;
+    for (place, byte) in script.iter().enumerate() {
+        match *byte {
+            b'\n' => {
                 slips.add(line, number);
+                number = number.saturating_add(1);
+                line = Line::new();
+                begins = true;
             }
-            Some(b"accounts" | b"transfers" | b"pulse") => {
-                let now = moment_in(line);
-                slips.may_go_back = slips.may_go_back || now < greatest.saturating_add(given);
-                greatest = greatest.max(now);
+            b' ' | b'\r' => begins = true,
+            _ => {
+                if begins {
+                    line.see(script.get(place..).unwrap_or(&[]));
+                }
+                begins = false;
             }
-            _ => {}
         }
     }
+    slips.add(line, number);
     slips
 }
 
-impl Slips {
-    /// Counts the line of a transfer, which has this number.
-    fn add(&mut self, line: &[u8], number: u64) {
-        if value_in(line, b"amount=").is_some() {
-            return;
+impl Line {
+    /// One of which no word was seen.
+    fn new() -> Line {
+        Line {
+            kind: None,
+            moment: 0,
+            flags: 0,
+            has_amount: false,
+            has_timeout: false,
         }
-        let flags = value_in(line, b"flags=").and_then(|word| decimal_up_to(word, u16::MAX.into()));
-        let flags = flags.unwrap_or(0);
+    }
+
+    /// Takes its next word, with which this text begins.
+    fn see(&mut self, text: &[u8]) {
+        match self.kind {
+            None => self.kind = Some(kind_of(text)),
+            Some(Kind::Batch | Kind::Pulse) => {
+                if let Some(moment) = number_at(text, u64::MAX.into()) {
+                    self.moment = moment;
+                }
+            }
+            Some(Kind::Transfer) => self.see_field(text),
+            Some(Kind::Account | Kind::Other) => {}
+        }
+    }
+
+    /// Takes a field of a transfer.
+    fn see_field(&mut self, text: &[u8]) {
+        if text.starts_with(b"amount=") {
+            self.has_amount = true;
+        } else if text.starts_with(b"timeout=") {
+            self.has_timeout = true;
+        } else if let Some(flags) = text.strip_prefix(b"flags=") {
+            self.flags = number_at(flags, u16::MAX.into()).unwrap_or(0);
+        }
+    }
+}
+
+/// What a line of a good script is that begins with this text.
+fn kind_of(text: &[u8]) -> Kind {
+    if text.starts_with(b"transfers") || text.starts_with(b"accounts") {
+        Kind::Batch
+    } else if text.starts_with(b"transfer") {
+        Kind::Transfer
+    } else if text.starts_with(b"account") {
+        Kind::Account
+    } else if text.starts_with(b"pulse") {
+        Kind::Pulse
+    } else {
+        Kind::Other
+    }
+}
+
+/// The number with which a text begins, up to a space or the end of its line.
+fn number_at(text: &[u8], greatest: u128) -> Option<u128> {
+    let mut words = text.split(|byte| *byte == b' ' || *byte == b'\r' || *byte == b'\n');
+    decimal_up_to(words.next()?, greatest)
+}
+
+impl Slips {
+    /// Takes a line, which has this number. A batch counts on from its moment, or from the last timestamp that was given
+    /// out; each of its requests takes one, and at a pulse each transfer that expires.
+    fn add(&mut self, line: Line, number: u64) {
+        match line.kind {
+            Some(Kind::Account) => self.last = self.last.saturating_add(1),
+            Some(Kind::Transfer) => {
+                self.last = self.last.saturating_add(1);
+                self.waiting = self.waiting.saturating_add(u128::from(line.has_timeout));
+                if !line.has_amount {
+                    self.add_empty(line.flags, number);
+                }
+            }
+            Some(Kind::Batch) => self.go_to(line.moment),
+            Some(Kind::Pulse) => {
+                self.go_to(line.moment);
+                self.last = self.last.saturating_add(self.waiting);
+                self.waiting = 0;
+            }
+            Some(Kind::Other) | None => {}
+        }
+    }
+
+    /// Takes the moment of a batch.
+    fn go_to(&mut self, moment: u128) {
+        self.may_go_back = self.may_go_back || moment < self.last;
+        self.last = self.last.max(moment.saturating_sub(1));
+    }
+
+    /// Counts the line of a transfer without an amount, which has these flags.
+    fn add_empty(&mut self, flags: u128, number: u64) {
         if flags & POST != 0 {
             self.posts.add(number);
         } else if flags & VOID == 0 {
@@ -123,24 +242,6 @@ impl Count {
         }
         self.count = self.count.saturating_add(1);
     }
-}
-
-/// What stands behind a key and its `=` in a line.
-fn value_in<'a>(line: &'a [u8], key: &[u8]) -> Option<&'a [u8]> {
-    for word in line.split(|byte| *byte == b' ' || *byte == b'\r') {
-        if let Some(value) = word.strip_prefix(key) {
-            return Some(value);
-        }
-    }
-    None
-}
-
-/// The moment of a batch, which is the second word of its line.
-fn moment_in(line: &[u8]) -> u128 {
-    let words = line.split(|byte| *byte == b' ' || *byte == b'\r');
-    let word = words.filter(|word| !word.is_empty()).nth(1);
-    word.and_then(|word| decimal_up_to(word, u64::MAX.into()))
-        .unwrap_or(0)
 }
 
 /// Says that posts have no amount.

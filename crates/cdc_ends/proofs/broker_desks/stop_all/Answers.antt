@@ -1,7 +1,13 @@
-use Rattle.std.proofs.Common.{◌<◌, ◌∙◌, length, sym, ap, arith}
+use Rattle.std.proofs.Common.{◌≡◌, ◌<◌, ◌∙◌, length, sym, ap, arith}
 use Rattle.std.proofs.lemmas.List.{length-set}
 use Rattle.cdc_ends.specs.BrokerTurns.{with_stop}
 use Rattle.cdc_ends.proofs.Subscribers.{stopped_more}
+use Rattle.std.specs.Prelude.{slice_set}
+use Rattle.std.proofs.lemmas.List.{set-get_or}
+use Rattle.cdc_ends.specs.BrokerFails.{AreStopping}
+use Rattle.cdc_ends.specs.declared.faults.RunFault.TheVariants.{PeerGone}
+use Rattle.cdc_ends.proofs.BrokerFailing.{stopping_so}
+use Rattle.cdc_ends.proofs.HandedOn.{handed_on}
 use Rattle.cdc_ends.proofs.broker_desks.stop_all.Goals as goal
 
 pub loop-i-preserved : goal.loop-i-preserved
@@ -13,4 +19,18 @@ loop-i-preserved g c =
       stopped_more old at.consumers at.i one.result inside at.invariant.0 one.is c.send_stop.new.self
           (c.in_ok-send_stop.ensures.after ∙ ap with_stop (sym one.is)),
       length-set at.consumers at.i c.send_stop.new.self ∙ at.invariant.1,
+    )
+
+pub returns-in_err-send_stop-clause-failed : goal.returns-in_err-send_stop-clause-failed
+returns-in_err-send_stop-clause-failed g c =
+    let at = c.loop-i in
+    let old = c.args.consumers.now in
+    let one = c.index-consumers-i in
+    let gone = c.in_err-send_stop.ensures.refused in
+    handed_on (λ fault. (fault ≡ PeerGone) × AreStopping old _) c.from_residual.result c.in_err-send_stop.field-0.0 c.from_residual.ensures.1 (
+      gone.0,
+      stopping_so at.i old _
+          (ap (slice_set at.consumers at.i) gone.1
+          ∙ set-get_or at.consumers at.i one.result
+          ∙ at.invariant.0),
     )

@@ -11,6 +11,7 @@ use Rattle.cdc_traffic.specs.Pasts.{history_of}
 use Rattle.cdc_traffic.specs.declared.pasts.Past.{Past}
 use Rattle.cdc_traffic.specs.declared.requests.Reply.{Reply}
 use Rattle.cdc_types.specs.declared.batches.Batch.{Batch}
+use Rattle.cdc_ends.proofs.LedgerFails.{untold_so}
 use Rattle.cdc_ends.proofs.Told.{history_push, links_set, may_reply, reply_is, told_at, told_push}
 use Rattle.cdc_ends.proofs.desks.answer.Goals as goal
 
@@ -84,3 +85,14 @@ returns-clause-links g c =
     ∙ links_set (client - 1) c.args.clients.now link (c.in_ok-reply.reply, past_of order)
     c.index-clients-place.is)
     c.tell_client.ensures.sent
+
+pub returns-clause-failed : goal.returns-clause-failed
+returns-clause-failed g c =
+    let order : List (ℕ × Batch) = g.K.Heard.order in
+    let request = c.args.request in
+    untold_so c.args.ledger.now (history_of (past_of (order ++ (request.client, request.batch) ∷ [])))
+    c.answer.new.ledger
+    c.tell_client.result _ c.tell_client.ensures.refused
+    (c.in_ok-reply.ensures.after
+    ∙ ap (λ h. history_or h (submit h request.batch)) c.requires.history
+    ∙ sym (history_push order request.client request.batch))

@@ -2,8 +2,9 @@ use Rattle.std.proofs.Common.{◌≡◌, ◌∙◌, ℕ, true, false, List, ◌�
 use Rattle.std.specs.Prelude.{All}
 use Rattle.std.specs.List.{AllZip}
 use Rattle.std.proofs.lemmas.Simd.{map-map}
-use Rattle.cdc_ends.specs.Clients.{ClientState, Talk}
-use Rattle.cdc_ends.specs.LedgerEnds.{LedgerEndState, has_finished, order_of}
+use Rattle.cdc_ends.specs.Clients.{Talk}
+use Rattle.cdc_ends.specs.LedgerEnds.{order_of, Desk as LedgerDesk, is_over}
+use Rattle.cdc_ends.specs.Ends.{EndState, has_finished}
 use Rattle.cdc_ledger.specs.History.{History}
 use Rattle.cdc_links.specs.Links.{CanSend, Incoming, IsAccount, Outgoing}
 use Rattle.cdc_traffic.specs.Following.{FollowsToLedger}
@@ -12,7 +13,8 @@ use Rattle.cdc_traffic.specs.declared.requests.Reply.{Reply}
 use Rattle.cdc_types.specs.declared.batches.Batch.{Batch}
 use Rattle.cdc_run.specs.Accounts.{IsAccounted}
 use Rattle.cdc_run.specs.Books.{AreBooks}
-use Rattle.cdc_run.specs.ClientMail.{AreClientsOf, HasFinishedWith, talks_of}
+use Rattle.cdc_run.specs.ClientMail.{AreClientsOf, HasFinishedWith}
+use Rattle.cdc_run.specs.Parted.{works_of}
 use Rattle.cdc_run.proofs.ClientsParted.{AreTogether, all_settled, as_many_senders, of_one_link, senders, together}
 use Rattle.cdc_run.proofs.Refused.{asked_more, handed_on}
 use Rattle.cdc_run.proofs.Zips.{same_zip}
@@ -20,12 +22,12 @@ use Rattle.cdc_run.proofs.books.settle_books.Goals as goal
 
 pub settle-tally-requires-clause-ours : goal.settle-tally-requires-clause-ours
 settle-tally-requires-clause-ours c =
-    let ledger : LedgerEndState = c.args.ledger in
-    let clients : List ClientState = c.args.clients.items in
+    let ledger : EndState LedgerDesk = c.args.ledger in
+    let clients : List (EndState Talk) = c.args.clients.items in
     let parts = c.in-Some.parts in
     let is = c.in-Some.ensures.parts in
     let same_len : c.args.clients.len ≡ parts.clients.len = first_of (omega arith, cc, search rules) in
-    let many : length clients ≡ length ledger.desk.clients =
+    let many : length clients ≡ length ledger.work.clients =
     sym c.args.clients.ok.0 ∙ same_len ∙ parts.clients.ok.0 ∙ ap (λ l. length l) is.clients_are in
     let are : AreTogether ledger c.args.polls clients =
     together ledger c.args.polls clients c.system-system.result c.in-Some.ensures.some c.in-Some.ensures.kept
@@ -34,17 +36,17 @@ settle-tally-requires-clause-ours c =
     c.in_ok-handed.ensures ∙ ap (λ l. c.args.polls ∷ l) c.in_ok-mail.ensures.mail.requests in
     subst (λ (into : Incoming ToLedger (Unit {0})). All (λ end. end.link ≡ into.link) c.in_ok-handed.handed.items)
     (sym is.inbox_is)
-    (subst (λ (ends : List (Outgoing ToLedger (Unit {0}))). All (λ end. end.link ≡ ledger.desk.inbox.link) ends)
+    (subst (λ (ends : List (Outgoing ToLedger (Unit {0}))). All (λ end. end.link ≡ ledger.work.inbox.link) ends)
     (sym made) (of_one_link ledger c.args.polls clients are))
 
 pub settle-tally-requires-clause-all : goal.settle-tally-requires-clause-all
 settle-tally-requires-clause-all c =
-    let ledger : LedgerEndState = c.args.ledger in
-    let clients : List ClientState = c.args.clients.items in
+    let ledger : EndState LedgerDesk = c.args.ledger in
+    let clients : List (EndState Talk) = c.args.clients.items in
     let parts = c.in-Some.parts in
     let is = c.in-Some.ensures.parts in
     let same_len : c.args.clients.len ≡ parts.clients.len = first_of (omega arith, cc, search rules) in
-    let many : length clients ≡ length ledger.desk.clients =
+    let many : length clients ≡ length ledger.work.clients =
     sym c.args.clients.ok.0 ∙ same_len ∙ parts.clients.ok.0 ∙ ap (λ l. length l) is.clients_are in
     let are : AreTogether ledger c.args.polls clients =
     together ledger c.args.polls clients c.system-system.result c.in-Some.ensures.some c.in-Some.ensures.kept
@@ -56,12 +58,12 @@ settle-tally-requires-clause-all c =
 
 pub returns-clause-books : goal.returns-clause-books
 returns-clause-books c =
-    let ledger : LedgerEndState = c.args.ledger in
-    let clients : List ClientState = c.args.clients.items in
+    let ledger : EndState LedgerDesk = c.args.ledger in
+    let clients : List (EndState Talk) = c.args.clients.items in
     let parts = c.in-Some.parts in
     let is = c.in-Some.ensures.parts in
     let same_len : c.args.clients.len ≡ parts.clients.len = first_of (omega arith, cc, search rules) in
-    let many : length clients ≡ length ledger.desk.clients =
+    let many : length clients ≡ length ledger.work.clients =
     sym c.args.clients.ok.0 ∙ same_len ∙ parts.clients.ok.0 ∙ ap (λ l. length l) is.clients_are in
     let are : AreTogether ledger c.args.polls clients =
     together ledger c.args.polls clients c.system-system.result c.in-Some.ensures.some c.in-Some.ensures.kept
@@ -69,37 +71,37 @@ returns-clause-books c =
     let made : c.in_ok-handed.handed.items ≡ senders ledger c.args.polls clients are =
     c.in_ok-handed.ensures ∙ ap (λ l. c.args.polls ∷ l) c.in_ok-mail.ensures.mail.requests in
     let account = c.settle-tally.ensures.account in
-    let whole : IsAccount ledger.desk.inbox (senders ledger c.args.polls clients are) account.0 =
+    let whole : IsAccount ledger.work.inbox (senders ledger c.args.polls clients are) account.0 =
     subst (λ (into : Incoming ToLedger (Unit {0})). IsAccount into (senders ledger c.args.polls clients are) account.0)
     is.inbox_is
     (subst (λ (ends : List (Outgoing ToLedger (Unit {0}))). IsAccount parts.inbox ends account.0) made account.1) in
     let lawful : All (λ end. CanSend FollowsToLedger end.number end.sent) (senders ledger c.args.polls clients are) =
     subst (λ (ends : List (Outgoing ToLedger (Unit {0}))).
     All (λ end. CanSend FollowsToLedger end.number end.sent) ends) made c.settle-tally.ensures.lawful in
-    let answers : AllZip IsAccounted (map (λ (t : Talk). t.answers) (talks_of clients)) ledger.desk.clients =
-    same_zip IsAccounted c.in_ok-mail.mail.answers.items (map (λ (t : Talk). t.answers) (talks_of clients))
-    parts.clients.items ledger.desk.clients c.in_ok-mail.ensures.mail.answers is.clients_are
+    let answers : AllZip IsAccounted (map (λ (t : Talk). t.answers) (works_of clients)) ledger.work.clients =
+    same_zip IsAccounted c.in_ok-mail.mail.answers.items (map (λ (t : Talk). t.answers) (works_of clients))
+    parts.clients.items ledger.work.clients c.in_ok-mail.ensures.mail.answers is.clients_are
     c.in_ok-settle_each.ensures in
-    let order : List (ℕ × Batch) = order_of ledger.desk.inbox.received in
-    let books = c.settle_laws.ensures.books ledger.desk c.args.polls (talks_of clients)
+    let order : List (ℕ × Batch) = order_of ledger.work.inbox.received in
+    let books = c.settle_laws.ensures.books ledger.work c.args.polls (works_of clients)
     (all_settled ledger c.args.polls clients are account.0 whole lawful answers) in
     subst (λ (h : History). AreBooks order h (map (λ v. v.items) c.in_ok-mail.mail.replies.items)) (sym is.ledger_is)
-    (subst (λ (replies : List (List Reply)). AreBooks order ledger.desk.ledger replies)
+    (subst (λ (replies : List (List Reply)). AreBooks order ledger.work.ledger replies)
     (sym c.in_ok-mail.ensures.mail.replies) books)
 
 pub returns-clause-replies : goal.returns-clause-replies
 returns-clause-replies c =
-    let clients : List ClientState = c.args.clients.items in
-    c.in_ok-mail.ensures.mail.replies ∙ map-map (λ (t : Talk). t.replies) (λ (s : ClientState). s.talk) clients
+    let clients : List (EndState Talk) = c.args.clients.items in
+    c.in_ok-mail.ensures.mail.replies ∙ map-map (λ (t : Talk). t.replies) (λ (s : EndState Talk). s.work) clients
 
 pub returns-clause-finished : goal.returns-clause-finished
 returns-clause-finished c =
-    let ledger : LedgerEndState = c.args.ledger in
-    let clients : List ClientState = c.args.clients.items in
+    let ledger : EndState LedgerDesk = c.args.ledger in
+    let clients : List (EndState Talk) = c.args.clients.items in
     let parts = c.in-Some.parts in
     let is = c.in-Some.ensures.parts in
     let same_len : c.args.clients.len ≡ parts.clients.len = first_of (omega arith, cc, search rules) in
-    let many : length clients ≡ length ledger.desk.clients =
+    let many : length clients ≡ length ledger.work.clients =
     sym c.args.clients.ok.0 ∙ same_len ∙ parts.clients.ok.0 ∙ ap (λ l. length l) is.clients_are in
     let are : AreTogether ledger c.args.polls clients =
     together ledger c.args.polls clients c.system-system.result c.in-Some.ensures.some c.in-Some.ensures.kept
@@ -112,8 +114,8 @@ returns-in_default-clause-refused c =
     inr (
       refl,
       λ fit.
-          let over : has_finished c.args.ledger ≡ true = fit.over in
-          let not_over : false ≡ has_finished c.args.ledger = c.in_default.ensures.some in
+          let over : has_finished is_over c.args.ledger ≡ true = fit.over in
+          let not_over : false ≡ has_finished is_over c.args.ledger = c.in_default.ensures.some in
           cc,
     )
 
@@ -121,21 +123,21 @@ returns-in_default-clause-refused c =
 pub returns-then-len-clause-refused : goal.returns-then-len-clause-refused
 returns-then-len-clause-refused c =
     let parts = c.in-Some.parts in
-    let same : length parts.clients.items ≡ length c.args.ledger.desk.clients =
+    let same : length parts.clients.items ≡ length c.args.ledger.work.clients =
     ap (λ l. length l) c.in-Some.ensures.parts.clients_are in
     let ours : c.args.clients.len ≡ length c.args.clients.items = c.args.clients.ok.0 in
     let its : parts.clients.len ≡ length parts.clients.items = parts.clients.ok.0 in
     inr (
       refl,
       λ fit.
-          let count : length c.args.clients.items ≡ length c.args.ledger.desk.clients = fit.count in
+          let count : length c.args.clients.items ≡ length c.args.ledger.work.clients = fit.count in
           c.if-len.true (omega arith),
     )
 
 -- one of them isn't as it has to be
 pub returns-in_err-mail-clause-refused : goal.returns-in_err-mail-clause-refused
 returns-in_err-mail-clause-refused c =
-    let clients : List ClientState = c.args.clients.items in
+    let clients : List (EndState Talk) = c.args.clients.items in
     handed_on (HasFinishedWith c.args.ledger clients) c.from_residual.result c.in_err-mail.field-0.0
     c.from_residual.ensures.1
     (asked_more (AreClientsOf c.system-system.result 1 clients) (HasFinishedWith c.args.ledger clients)

@@ -1,14 +1,16 @@
 use Rattle.std.proofs.Common.{◌≡◌, ◌∙◌, ℕ, true, false, List, refl, sym, arith, subst, map, inr, rules}
 use Rattle.std.proofs.lemmas.Bool.{false≢true}
-use Rattle.cdc_ends.specs.ConnectorEnds.{has_finished}
-use Rattle.cdc_ends.specs.SubscriberEnds.{SubscriberState}
+use Rattle.cdc_ends.specs.SubscriberEnds.{Intake}
 use Rattle.cdc_ledger.specs.History.{History}
 use Rattle.cdc_subscriber.specs.Kept.{Kept}
 use Rattle.cdc_run.specs.ClientMail.{HasFinishedWith as LedgerHasFinishedWith}
+use Rattle.cdc_run.specs.Parted.{works_of}
 use Rattle.cdc_run.specs.Reports.{AreFinished, AreSubscribed}
-use Rattle.cdc_run.specs.Seats.{broker_seat}
+use Rattle.cdc_ends.specs.Seats.{broker_seat}
+use Rattle.cdc_ends.specs.Ends.{EndState, has_finished}
+use Rattle.cdc_ends.specs.ConnectorEnds.{Publishing}
 use Rattle.cdc_run.specs.Streams.{AllCome, Middle}
-use Rattle.cdc_run.specs.SubscriberMail.{AreSubscribersOf, HasFinishedWith as BrokerHasFinishedWith, intakes_of}
+use Rattle.cdc_run.specs.SubscriberMail.{AreSubscribersOf, HasFinishedWith as BrokerHasFinishedWith}
 use Rattle.cdc_run.proofs.Refused.{asked_more, handed_on}
 use Rattle.cdc_run.proofs.Reported.{all_subscribed, books_of, finished, left_by, start_known, streams_of}
 use Rattle.cdc_run.proofs.Seated.{AreBetween, joined, polls_to, wired}
@@ -66,8 +68,8 @@ returns-clause-report g c =
       replies = books.connector;
       packets = is.sent;
     } in
-    let over : has_finished ends.connector ≡ true = sym c.in-Some.ensures.some in
-    let subscribers : List SubscriberState = ends.subscribers.items in
+    let over : has_finished (λ (c : Publishing). c.finished) ends.connector ≡ true = sym c.in-Some.ensures.some in
+    let subscribers : List (EndState Intake) = ends.subscribers.items in
     let broker : BrokerHasFinishedWith ends.ledger.system ends.broker subscribers =
     subst (λ (n : ℕ). BrokerHasFinishedWith n ends.broker subscribers) named streams.finished in
     record {
@@ -75,16 +77,16 @@ returns-clause-report g c =
       replies = books.replies;
       books = books.books;
       subscribers = λ start seat.
-          let come : AllCome ends.ledger.desk start ends.broker.desk 0 (intakes_of subscribers) =
-          subst (λ (n : ℕ). AllCome ends.ledger.desk n ends.broker.desk 0 (intakes_of subscribers))
+          let come : AllCome ends.ledger.work start ends.broker.work 0 (works_of subscribers) =
+          subst (λ (n : ℕ). AllCome ends.ledger.work n ends.broker.work 0 (works_of subscribers))
           (start_known ends start seat)
-          (streams.come ends.ledger.desk ends.connector.work (left_by ends m between books.desk over start seat)) in
-          subst (λ (h : History). AreSubscribed h start (broker_seat ends.broker).bindings
-          (map (λ (s : SubscriberState). s.intake.close_after) subscribers)
+          (streams.come ends.ledger.work ends.connector.work (left_by ends m between books.desk over start seat)) in
+          subst (λ (h : History). AreSubscribed h start (broker_seat ends.broker.work).bindings
+          (map (λ (s : EndState Intake). s.work.close_after) subscribers)
           c.in_ok-subscribers.subscribers.items) (sym books.ledger)
-          (subst (λ (kept : List Kept). AreSubscribed ends.ledger.desk.ledger start (broker_seat ends.broker).bindings
-          (map (λ (s : SubscriberState). s.intake.close_after) subscribers) kept) (sym streams.keeps)
-          (all_subscribed ends.ledger.desk start ends.broker.desk subscribers come
+          (subst (λ (kept : List Kept). AreSubscribed ends.ledger.work.ledger start (broker_seat ends.broker.work).bindings
+          (map (λ (s : EndState Intake). s.work.close_after) subscribers) kept) (sym streams.keeps)
+          (all_subscribed ends.ledger.work start ends.broker.work subscribers come
           (broker.count ∙ sym streams.desk.desk.queues)));
     }
 
@@ -104,8 +106,8 @@ returns-in_default-clause-refused g c =
     inr (
       refl,
       λ fit.
-          let over : has_finished c.args.ends.connector ≡ true = fit.connector in
-          let not_over : false ≡ has_finished c.args.ends.connector = c.in_default.ensures.some in
+          let over : has_finished (λ (c : Publishing). c.finished) c.args.ends.connector ≡ true = fit.connector in
+          let not_over : false ≡ has_finished (λ (c : Publishing). c.finished) c.args.ends.connector = c.in_default.ensures.some in
           false≢true (not_over ∙ over),
     )
 

@@ -179,6 +179,6 @@ returns-clause-made g c =
     let requests = wired.requests ∙ ap (λ n. fresh_from w.to_ledger.link 1 n) (sym wired.clients) in
     let acks = wired.acks ∙ ap (λ n. fresh_from w.to_broker.link 1 n) (sym wired.subscribers) in
     are_made c.args.config c.args.faults (g.S.ProgressStore.held c.args.store)
-    (g.S.ProgressStore.is_honest c.args.store) _ w all c.new-2.ensures
+    (g.S.ProgressStore.is_honest c.args.store) (g.S.ProgressStore.risks c.args.store) _ w all c.new-2.ensures
     (c.in_ok-clients.ensures w.to_ledger.link requests) c.new-3.ensures c.in_ok-broker.ensures
     (c.in_ok-subscribers.ensures w.to_broker.link acks)

@@ -3,6 +3,9 @@ use Rattle.cdc_ends.specs.BrokerDesks.{desk_of}
 use Rattle.cdc_ends.specs.BrokerEnds.{Desk}
 use Rattle.cdc_ends.specs.BrokerTurns.{all_served, with_served}
 use Rattle.cdc_ends.proofs.Hearing.{IsServedTo, IsServedTo-next}
+use Rattle.cdc_ends.specs.BrokerFails.{IsCutOff}
+use Rattle.cdc_ends.proofs.BrokerFailing.{cut_served}
+use Rattle.cdc_ends.proofs.HandedOn.{handed_on}
 use Rattle.cdc_ends.proofs.broker_desks.BrokerDesk.serve_all.Goals as goal
 
 pub loop-place-preserved : goal.loop-place-preserved
@@ -20,3 +23,12 @@ loop-place-preserved g c =
           (subst (IsServedTo count (suc at.place)) (sym after)
           (IsServedTo-next count at.place (desk_of at.self) at.invariant.1 inside)),
     )
+
+pub returns-in_err-serve-clause-failed : goal.returns-in_err-serve-clause-failed
+returns-in_err-serve-clause-failed g c =
+    let at = c.loop-place in
+    handed_on (λ fault. IsCutOff (desk_of c.args.self.now) fault (desk_of c.serve.new.self)) c.from_residual.result
+    c.in_err-serve.field-0.0 c.from_residual.ensures.1
+    (cut_served at.place (desk_of c.args.self.now) (desk_of at.self) (desk_of c.serve.new.self)
+    c.in_err-serve.field-0.0 at.invariant.0
+    c.in_err-serve.ensures.failed)

@@ -3,14 +3,12 @@ use Rattle.cdc_ends.specs.BrokerEnds.{IsBrokerEnd}
 use Rattle.cdc_ends.proofs.Finishing.{IsBrokerEnd-first}
 use Rattle.cdc_ends.proofs.broker_ends.BrokerEnd.new.Goals as goal
 
-pub invariant_of-result : goal.invariant_of-result
-invariant_of-result c =
+pub of-requires : goal.of-requires
+of-requires c =
     let a = c.args in
     let r = c.requires in
-    let count : a.links.len ≡ length a.links.items = a.links.ok.0 in (
-      λ none. subst IsBrokerEnd (sym c.in_ok-new.ensures)
-          (IsBrokerEnd-first a.inbox a.confirms a.links.items a.bindings.items a.plan a.prefetch r.fresh
-          (r.senders ∙ ap (λ n. n + 1) count) r.own r.silent r.fresh_links (sym a.bindings.ok.0 ∙ r.queues ∙ count)
-          r.some r.few),
-      tt,
-    )
+    let count : a.links.len ≡ length a.links.items = a.links.ok.0 in
+    subst IsBrokerEnd (sym c.in_ok-work.ensures)
+    (IsBrokerEnd-first a.inbox a.confirms a.links.items a.bindings.items a.plan a.prefetch r.fresh
+    (r.senders ∙ ap (λ n. n + 1) count) r.own r.silent r.fresh_links (sym a.bindings.ok.0 ∙ r.queues ∙ count) r.some
+    r.few)

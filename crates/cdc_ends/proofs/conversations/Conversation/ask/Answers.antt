@@ -2,6 +2,11 @@ use Rattle.std.proofs.Common.{◌≡◌, ◌+◌, true, false, [], ◌∷◌, �
 use Rattle.cdc_ends.specs.Clients.{IsAnswered, IsClient, Talk}
 use Rattle.cdc_traffic.specs.declared.requests.Reply.{Reply}
 use Rattle.cdc_ends.proofs.Talking.{answered_so, may_ask}
+use Rattle.std.proofs.Common.{inl, inr}
+use Rattle.cdc_ends.specs.ClientSoFar.{AsksSoFar}
+use Rattle.cdc_ends.specs.declared.faults.RunFault.TheVariants.{OutOfMemory}
+use Rattle.cdc_ends.proofs.ClientFails.{its_so, other_so, received_so, unheard_so}
+use Rattle.cdc_ends.proofs.HandedOn.{handed_on}
 use Rattle.cdc_ends.proofs.conversations.Conversation.ask.Goals as goal
 
 pub say-requires : goal.say-requires
@@ -53,3 +58,91 @@ returns-clause-answered g c =
 
 pub returns-clause-talks : goal.returns-clause-talks
 returns-clause-talks g c = ap (λ (t : Talk). t.finished) c.self.view_is
+
+pub returns-in_err-reply-clause-failed : goal.returns-in_err-reply-clause-failed
+returns-in_err-reply-clause-failed g c =
+    let inside = c.self.inside in
+    let now = c.args.self.now in
+    let talk : Talk = record {
+      number = inside.number;
+      requests = inside.requests;
+      answers = inside.answers;
+      replies = inside.replies.items;
+      finished = inside.finished;
+    } in
+    let is : IsClient talk = subst IsClient (sym c.self.view_is) c.requires.kept in
+    let talks : talk.finished ≡ false =
+    subst (λ (t : Talk). t.finished ≡ false) (sym c.self.view_is) c.requires.talks in
+    let next : c.in-Some.number ≡ length inside.requests.sent + 1 =
+    first_of (omega (arith, c.in-Some.ensures, c.sent_count.ensures.count), search rules) in
+    let gone = c.in_err-reply.ensures.refused in
+    handed_on (λ fault. AsksSoFar c.args.batch now fault _) c.from_residual-in_err-reply.result
+    c.in_err-reply.field-0.0 c.from_residual-in_err-reply.ensures.1
+    (rw gone.0 (inr (inl (unheard_so talk now c.self.view_is is talks c.args.batch c.in-Some.number next
+    c.say.new.requests c.in_ok-say.ensures.sent c.reserve.new.self.items c.reserve.ensures.items c.hear.new.answers
+    gone.1))))
+
+pub returns-in_err-try_copy-clause-failed : goal.returns-in_err-try_copy-clause-failed
+returns-in_err-try_copy-clause-failed g c =
+    let inside = c.self.inside in
+    let now = c.args.self.now in
+    let talk : Talk = record {
+      number = inside.number;
+      requests = inside.requests;
+      answers = inside.answers;
+      replies = inside.replies.items;
+      finished = inside.finished;
+    } in
+    let is : IsClient talk = subst IsClient (sym c.self.view_is) c.requires.kept in
+    let talks : talk.finished ≡ false =
+    subst (λ (t : Talk). t.finished ≡ false) (sym c.self.view_is) c.requires.talks in
+    let next : c.in-Some.number ≡ length inside.requests.sent + 1 =
+    first_of (omega (arith, c.in-Some.ensures, c.sent_count.ensures.count), search rules) in
+    let reply : Reply = c.in_ok-reply.reply in
+    let yes : c.is_to.result ≡ true = first_of (cc, search rules, grind arith) in
+    let agree : (reply.number ≡ c.in-Some.number) × (reply.batch ≡ c.in_ok-copy.copy) = c.is_to.ensures.0 yes in
+    handed_on (λ fault. AsksSoFar c.args.batch now fault _) c.from_residual-in_err-try_copy.result OutOfMemory
+    c.from_residual-in_err-try_copy.ensures.1
+    (inr (
+      reply,
+      (
+        received_so talk now c.self.view_is is talks c.args.batch c.in-Some.number next c.say.new.requests
+            c.in_ok-say.ensures.sent c.reserve.new.self.items c.reserve.ensures.items c.hear.new.answers reply
+            c.in_ok-reply.ensures.heard,
+        its_so talk now c.self.view_is is talks c.args.batch c.in-Some.number next c.say.new.requests
+            c.in_ok-say.ensures.sent c.reserve.new.self.items c.reserve.ensures.items reply agree.0
+            (agree.1 ∙ c.in_ok-copy.ensures),
+      ),
+    ))
+
+pub returns-then-not-is_to-clause-failed : goal.returns-then-not-is_to-clause-failed
+returns-then-not-is_to-clause-failed g c =
+    let inside = c.self.inside in
+    let now = c.args.self.now in
+    let talk : Talk = record {
+      number = inside.number;
+      requests = inside.requests;
+      answers = inside.answers;
+      replies = inside.replies.items;
+      finished = inside.finished;
+    } in
+    let is : IsClient talk = subst IsClient (sym c.self.view_is) c.requires.kept in
+    let talks : talk.finished ≡ false =
+    subst (λ (t : Talk). t.finished ≡ false) (sym c.self.view_is) c.requires.talks in
+    let next : c.in-Some.number ≡ length inside.requests.sent + 1 =
+    first_of (omega (arith, c.in-Some.ensures, c.sent_count.ensures.count), search rules) in
+    let reply : Reply = c.in_ok-reply.reply in
+    let other : (reply.number ≡ c.in-Some.number) × (reply.batch ≡ c.args.batch) → ⊥ =
+    λ its.
+    let yes : c.is_to.result ≡ true = c.is_to.ensures.1 (its.0, its.1 ∙ sym c.in_ok-copy.ensures) in
+    first_of (cc, search rules, grind arith) in
+    inr (inr (
+      reply,
+      (
+        received_so talk now c.self.view_is is talks c.args.batch c.in-Some.number next c.say.new.requests
+            c.in_ok-say.ensures.sent c.reserve.new.self.items c.reserve.ensures.items c.hear.new.answers reply
+            c.in_ok-reply.ensures.heard,
+        other_so talk now c.self.view_is is talks c.args.batch c.in-Some.number next c.say.new.requests
+            c.in_ok-say.ensures.sent c.reserve.new.self.items c.reserve.ensures.items reply other,
+      ),
+    ))

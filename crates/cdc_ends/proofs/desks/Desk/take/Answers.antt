@@ -2,6 +2,7 @@ use Rattle.std.proofs.Common.{◌≡◌, ◌+◌, [], ◌∷◌, ◌++◌, List,
 use Rattle.std.specs.Prelude.{IfOk, Result, Ok, Err}
 use Rattle.std.specs.Vec.{with_items}
 use Rattle.std.proofs.lemmas.List.{with_items_is}
+use Rattle.std.proofs.lemmas.Result.{on_err_weaker}
 use Rattle.cdc_ends.specs.LedgerEnds.{AreTold, Desk, IsDesk, links_of, order_of, past_of_inbox}
 use Rattle.cdc_ends.specs.LedgerSteps.{IsNext, IsTaken}
 use Rattle.cdc_ends.specs.Orders.{batches_by, past_of}
@@ -13,6 +14,12 @@ use Rattle.cdc_traffic.specs.declared.pasts.Past.{Past}
 use Rattle.cdc_traffic.specs.declared.requests.Reply.{Reply}
 use Rattle.cdc_types.specs.declared.batches.Batch.{Batch}
 use Rattle.cdc_ends.proofs.Booked.{history_before, left_before, number_of, taken_done, taken_finish, taken_poll, taken_request}
+use Rattle.std.proofs.Common.{inl, inr}
+use Rattle.std.specs.Prelude.{◌⊎◌, IfErr}
+use Rattle.cdc_ends.specs.LedgerSoFar.{IsUntaken}
+use Rattle.cdc_ends.specs.declared.faults.RunFault.TheVariants.{PeerGone}
+use Rattle.cdc_ends.proofs.HandedOn.{handed_on}
+use Rattle.cdc_ends.proofs.LedgerFails.{poll_failed, request_failed, unheard_so}
 use Rattle.cdc_ends.proofs.desks.Desk.take.Goals as goal
 
 -- three clauses of a call that is answered as it is
@@ -176,3 +183,72 @@ returns-in-Finish-clause-taken g c =
     subst (λ (m : ToLedger). IsNext inside.inbox m c.hear.new.inbox) c.in-Finish.is c.in_ok-message.ensures.next in
     subst (λ (s : Desk). IsTaken s (record d { inbox = c.hear.new.inbox; connector_done = true })) c.self.view_is
     (taken_finish d is c.hear.new.inbox next)
+
+pub returns-in_err-message-clause-failed : goal.returns-in_err-message-clause-failed
+returns-in_err-message-clause-failed g c =
+    let inside = c.self.inside in
+    let now = c.args.self.now in
+    let d : Desk = record {
+      inbox = inside.inbox;
+      clients = inside.clients.items;
+      connector = inside.connector;
+      ledger = inside.ledger;
+      clients_left = inside.clients_left;
+      connector_done = inside.connector_done;
+      kept = inside.kept;
+    } in
+    let gone = c.in_err-message.ensures.refused in
+    handed_on (λ fault. ((fault ≡ PeerGone) × (_ ≡ now)) ⊎ IsUntaken now fault _) c.from_residual.result
+    c.in_err-message.field-0.0 c.from_residual.ensures.1
+    (inl (gone.0, unheard_so d now c.hear.new.inbox c.self.view_is gone.1))
+
+pub returns-in-Request-clause-failed : goal.returns-in-Request-clause-failed
+returns-in-Request-clause-failed g c =
+    let inside = c.self.inside in
+    let now = c.args.self.now in
+    let d : Desk = record {
+      inbox = inside.inbox;
+      clients = inside.clients.items;
+      connector = inside.connector;
+      ledger = inside.ledger;
+      clients_left = inside.clients_left;
+      connector_done = inside.connector_done;
+      kept = inside.kept;
+    } in
+    let next : IsNext inside.inbox (to_ledger.Request c.in-Request.request) c.hear.new.inbox =
+    subst (λ (m : ToLedger). IsNext inside.inbox m c.hear.new.inbox) c.in-Request.is c.in_ok-message.ensures.next in
+    let order : g.K.Heard.order ≡ order_of inside.inbox.received =
+    c.requires.order ∙ ap (λ (s : Desk). order_of s.inbox.received) (sym c.self.view_is) in
+    let clients : List (Outgoing Reply Past) = c.answer.new.clients in
+    let written : (with_items inside.clients clients).items ≡ clients =
+    with_items_is inside.clients clients (c.answer.auto.clients ∙ c.as_mut_slice.ensures.len) in
+    subst
+    (λ (cs : List (Outgoing Reply Past)). IfErr c.answer.result (λ fault. ((fault ≡ PeerGone)
+    × (record d { inbox = c.hear.new.inbox; clients = cs; ledger = c.answer.new.ledger } ≡ now))
+    ⊎ IsUntaken now fault (record d { inbox = c.hear.new.inbox; clients = cs; ledger = c.answer.new.ledger })))
+    (sym written)
+    (request_failed d now c.self.view_is c.in-Request.request c.hear.new.inbox next g.K.Heard.order order clients
+    c.answer.new.ledger c.answer.result c.answer.ensures.failed
+    (on_err_weaker c.answer.result (λ same. same ∙ c.as_mut_slice.ensures.value) c.answer.ensures.untold))
+
+pub returns-in_err-reply_kept-in-Poll-clause-failed : goal.returns-in_err-reply_kept-in-Poll-clause-failed
+returns-in_err-reply_kept-in-Poll-clause-failed g c =
+    let inside = c.self.inside in
+    let now = c.args.self.now in
+    let d : Desk = record {
+      inbox = inside.inbox;
+      clients = inside.clients.items;
+      connector = inside.connector;
+      ledger = inside.ledger;
+      clients_left = inside.clients_left;
+      connector_done = inside.connector_done;
+      kept = inside.kept;
+    } in
+    let next : IsNext inside.inbox (to_ledger.Poll c.in-Poll.poll) c.hear.new.inbox =
+    subst (λ (m : ToLedger). IsNext inside.inbox m c.hear.new.inbox) c.in-Poll.is c.in_ok-message.ensures.next in
+    let err = c.in_err-reply_kept-in-Poll.ensures in
+    handed_on (λ fault. ((fault ≡ PeerGone) × (_ ≡ now)) ⊎ IsUntaken now fault _)
+    c.from_residual-in_err-reply_kept-in-Poll.result c.in_err-reply_kept-in-Poll.field-0.0
+    c.from_residual-in_err-reply_kept-in-Poll.ensures.1
+    (inr (poll_failed d now c.self.view_is c.in-Poll.poll c.hear.new.inbox next c.reply_kept.new.connector err.refused
+    err.asked c.in_err-reply_kept-in-Poll.field-0.0 err.kind))

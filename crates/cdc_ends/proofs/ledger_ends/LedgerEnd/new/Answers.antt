@@ -3,12 +3,9 @@ use Rattle.cdc_ends.specs.LedgerEnds.{IsDesk}
 use Rattle.cdc_ends.proofs.Booked.{desk_first}
 use Rattle.cdc_ends.proofs.ledger_ends.LedgerEnd.new.Goals as goal
 
-pub invariant_of-result : goal.invariant_of-result
-invariant_of-result c = (
-  λ none.
-      let asks = c.requires in
-      subst IsDesk (sym c.new.ensures)
-      (desk_first c.args.inbox c.args.clients.items c.args.connector asks.some asks.senders asks.fresh asks.untold
-      asks.own asks.silent),
-  tt,
-)
+pub of-requires : goal.of-requires
+of-requires c =
+    let asks = c.requires in
+    subst IsDesk (sym c.new.ensures)
+    (desk_first c.args.inbox c.args.clients.items c.args.connector asks.some asks.senders asks.fresh asks.untold asks.own
+    asks.silent)

@@ -8,6 +8,10 @@ use Rattle.cdc_traffic.specs.Following.{FollowsToConnector}
 use Rattle.cdc_traffic.specs.declared.messages.ToConnector.TheVariants as to_connector
 use Rattle.cdc_ends.proofs.ConnectorHearing.{offered_lawful, reply_came}
 use Rattle.cdc_ends.proofs.ConnectorRounds.{heard_confirm, heard_reply, took}
+use Rattle.cdc_ends.specs.ConnectorFails.{IsConfirmFailed}
+use Rattle.cdc_ends.specs.ConnectorSoFar.{HasFailed}
+use Rattle.cdc_ends.proofs.ConnectorFailing.{failed_confirm, failed_unheard, same_inbox}
+use Rattle.cdc_ends.proofs.HandedOn.{handed_on}
 use Rattle.cdc_ends.proofs.publishing.Publishing.hear.Goals as goal
 
 pub take_reply-requires : goal.take_reply-requires
@@ -49,3 +53,31 @@ returns-in_ok-take_confirm-in-Confirm-clause-after g c = λ course is.
     (ap (λ (w : Publishing). record w { inbox = inbox }) c.self.view_is)
     (c.in_ok-take_confirm-in-Confirm.ensures.after course
     (subst (λ (w : Publishing). SessionStands w.session (Some course)) (sym c.self.view_is) is.stands)))
+
+pub returns-in_err-reply-clause-failed : goal.returns-in_err-reply-clause-failed
+returns-in_err-reply-clause-failed g c =
+    let gone = c.in_err-reply.ensures.refused in
+    handed_on (λ fault. HasFailed c.args.self.now fault _) c.from_residual.result c.in_err-reply.field-0.0
+    c.from_residual.ensures.1
+    (failed_unheard c.args.self.now _ c.in_err-reply.field-0.0 c.requires
+    (gone.0, same_inbox _ c.args.self.now c.receive.new.inbox c.self.view_is gone.1))
+
+pub returns-in_err-take_confirm-in-Confirm-clause-failed : goal.returns-in_err-take_confirm-in-Confirm-clause-failed
+returns-in_err-take_confirm-in-Confirm-clause-failed g c =
+    let now = c.args.self.now in
+    let confirm = c.in-Confirm.confirm in
+    let inbox = c.receive.new.inbox in
+    let course = c.requires.course in
+    let fault = c.in_err-take_confirm-in-Confirm.field-0.0 in
+    let takes : Takes FollowsToConnector now.inbox (to_connector.Confirm confirm) inbox =
+    took c.self.inside.inbox now.inbox inbox c.in_ok-reply.field-0 (to_connector.Confirm confirm)
+    (ap (λ (w : Publishing). w.inbox) c.self.view_is) c.in-Confirm.is c.in_ok-reply.ensures.taken in
+    handed_on (λ f. HasFailed now f c.take_confirm.new.self)
+    c.from_residual-in_err-take_confirm-in-Confirm.result fault
+    c.from_residual-in_err-take_confirm-in-Confirm.ensures.1
+    (failed_confirm now c.requires inbox confirm takes fault c.take_confirm.new.self
+    (subst (λ (w : Publishing). IsConfirmFailed w course confirm fault c.take_confirm.new.self)
+    (ap (λ (w : Publishing). record w { inbox = inbox }) c.self.view_is)
+    (c.in_err-take_confirm-in-Confirm.ensures.failed course
+    (subst (λ (w : Publishing). SessionStands w.session (Some course)) (sym c.self.view_is)
+    c.requires.publishing.stands))))

@@ -1,6 +1,6 @@
 use Rattle.std.proofs.Common.{◌+◌, ◌-◌}
 use Rattle.cdc_ends.specs.ConnectorEnds.{RisesBy}
-use Rattle.cdc_ends.specs.ConnectorMoves.{GoesOn, IsSending}
+use Rattle.cdc_ends.specs.ConnectorMoves.{GoesOn, IsSending, KeepsMoment}
 use Rattle.cdc_ends.proofs.publishing.Publishing.send_packets.Given as goal
 
 abbrev pub invariant-loop-self : goal.invariant-loop-self
@@ -8,6 +8,7 @@ invariant-loop-self g l = record {
   sends : IsSending l.self;
   goes_on : GoesOn l.fn.self l.self;
   sessions : RisesBy 0 l.fn.self l.self;
+  moment : KeepsMoment l.fn.self l.self;
 }
 
 abbrev pub decreases-loop-self : goal.decreases-loop-self

@@ -1,36 +1,28 @@
-use Rattle.std.proofs.Common.{◌≡◌, false, sym, ap, ◌∙◌, subst}
-use Rattle.cdc_ends.specs.ConnectorEnds.{IsConnectorEnd, IsTurn, Publishing}
+use Rattle.std.proofs.Common.{true, false, subst, rules}
+use Rattle.std.proofs.lemmas.Result.{IfErr-weaker, IfOk-weaker}
 use Rattle.cdc_ends.specs.ConnectorMoves.{IsAdvanced}
 use Rattle.cdc_ends.proofs.ConnectorRounds.{rests_still, rests_then, turned, turned_still}
+use Rattle.cdc_ends.proofs.ConnectorFailing.{failed_then}
 use Rattle.cdc_ends.proofs.publishing.Publishing.turn.Goals as goal
-use Rattle.cdc_ends.proofs.publishing.Publishing.turn.Goals.{then-branch+in_ok-follow, else-branch}
 
-pub returns-clause-kept : goal.returns-clause-kept
-returns-clause-kept g c =
+pub returns-clause-failed : goal.returns-clause-failed
+returns-clause-failed g c =
+    IfErr-weaker c.follow.result _ _
+    (λ fault cut.
+    failed_then c.args.self.now c.advance.new.self c.follow.new.self _ fault c.requires.goes_on
+    c.in_ok-advance.ensures.after cut) c.follow.ensures.failed
+
+pub returns-then-not-branch-clause-turned : goal.returns-then-not-branch-clause-turned
+returns-then-not-branch-clause-turned g c =
     let now = c.args.self.now in
     let mid = c.advance.new.self in
-    let working : now.finished ≡ false = ap (λ (w : Publishing). w.finished) (sym c.self.view_is) ∙ c.if-self.false in
-    elim c.if-branch.branch [
-      | then-branch+in_ok-follow w ↦
-          subst IsConnectorEnd (sym w.self-is) (rests_then mid w.follow.new.self w.in_ok-follow.ensures.after)
-      | else-branch w ↦
-          subst IsConnectorEnd (sym w.self-is)
-          (rests_still now mid working
-          (subst (λ b. IsAdvanced now b mid) w.if-branch.false c.in_ok-advance.ensures.after))
-    ]
+    let still : IsAdvanced now false mid = search rules in
+    turned_still now mid still
 
-pub returns-clause-turns : goal.returns-clause-turns
-returns-clause-turns g c =
+pub returns-clause-turned : goal.returns-clause-turned
+returns-clause-turned g c =
     let now = c.args.self.now in
     let mid = c.advance.new.self in
-    let working : now.finished ≡ false = ap (λ (w : Publishing). w.finished) (sym c.self.view_is) ∙ c.if-self.false in
-    elim c.if-branch.branch [
-      | then-branch+in_ok-follow w ↦
-          subst (IsTurn now) (sym w.self-is)
-          (turned now mid w.follow.new.self working
-          (subst (λ b. IsAdvanced now b mid) w.if-branch.true c.in_ok-advance.ensures.after) w.in_ok-follow.ensures.after)
-      | else-branch w ↦
-          subst (IsTurn now) (sym w.self-is)
-          (turned_still now mid working
-          (subst (λ b. IsAdvanced now b mid) w.if-branch.false c.in_ok-advance.ensures.after))
-    ]
+    let moved : IsAdvanced now true mid =
+    subst (λ b. IsAdvanced now b mid) c.if-not-branch.false c.in_ok-advance.ensures.after in
+    IfOk-weaker c.follow.result _ _ (λ x is. turned now mid c.follow.new.self moved is) c.follow.ensures.after

@@ -1,0 +1,5 @@
+use Rattle.cdc_run.proofs.turning.run_to_end.Goals as goal
+
+-- the end that has met it
+pub returns-in-Err-clause-met : goal.returns-in-Err-clause-met
+returns-in-Err-clause-met g c = (c.turn.new.self, (c.in-Err.ensures.fault, c.in-Err.ensures.kind))
