@@ -6,8 +6,9 @@
 
 A crate's definitions stand in its specs/, each behind the comment that says what it is, or behind another one of
 which the same comment speaks; each file begins with a comment of its own. Told one by one are those that the clauses
-of CARRIERS cite, and those that these cite in turn. Of the others that a public function's clause needs the page has
-the files; one that only private contracts and proofs cite needs nobody's belief. Crates come in the order of
+of CARRIERS cite, and those that these cite in turn, but for what stands BESIDE the theorems. Of what else the clauses
+of COMMANDS need the page has the files with their first comments, and of the others that a public function's clause
+needs the files; one that only private contracts and proofs cite needs nobody's belief. Crates come in the order of
 crates.txt, and the files of a crate so that each stands behind those that it cites. The last line is 'N passed, M
 failed'. Needs Python 3.8 or later.
 """
@@ -19,19 +20,31 @@ import sys
 sys.dont_write_bytecode = True
 TOP = os.path.dirname(os.path.dirname(os.path.realpath(__file__)))
 PAGE = "docs/DEFINITIONS.md"
-# The sources whose clauses carry the two theorems, or say what a command does.
+# The sources whose clauses carry the two theorems (docs/PROOFS.md).
 CARRIERS = [
-    "cdc_commands",
-    "cdc_run_command",
-    "cdc_app",
+    "cdc_commands/books.rt",
+    "cdc_commands/simulate.rt",
+    "cdc_run_command/run.rt",
+    "cdc_run_command/lone_runs.rt",
     "cdc_world/world.rt",
     "cdc_run/configs.rt",
     "cdc_run/plans.rt",
     "cdc_run/runs.rt",
     "cdc_run/determined.rt",
 ]
-# Definitions that tie what the code keeps to a state of the theorem, which nobody has to believe (docs/PROOFS.md).
-TIES = {("cdc_world", "Stands.antt")}
+# The crates whose clauses say what a command does.
+COMMANDS = ["cdc_commands", "cdc_run_command", "cdc_app"]
+# What those clauses cite and the theorems aren't about: what the bytes of files and the words of a binding say, rule by
+# rule as docs/FORMATS.md has it, and which fault a run answers. A crate, or a file of one.
+BESIDE = {
+    "cdc_script",
+    "cdc_match/Parts.antt",
+    "cdc_match/Parsing.antt",
+    "cdc_run/Outcomes.antt",
+    "cdc_run/Meeting.antt",
+}
+# What the code of a world keeps, and what ties it to a state of the theorem, which nobody has to believe.
+TIES = {("cdc_world", "Parts.antt"), ("cdc_world", "Stands.antt")}
 HEAD = """\
 # The definitions, read aloud
 
@@ -40,11 +53,11 @@ What a reader has to believe: the contracts say that the code does what these de
 size, and nothing wraps. Each file names the public document that its rules come from, where there is one; the rest \
 is this product's own choice. PROOFS.md says which of them the theorems rest on, and in which order to read those.
 
-Told one by one is what the two theorems and the program's commands need: what the clauses of the crates \
-`cdc_commands`, `cdc_run_command` and `cdc_app`, of `World`, and of `run` with its config, its plan and its law on \
-one client cite, and what that cites in turn. What only a promise of a single crate needs beside it is named by \
-file at the end, with what ties the code of a world to its state; it is told in the same way where it stands. A \
-definition that private contracts and proofs alone cite isn't here: nobody has to believe it.
+Told one by one is what the two theorems need: what the clauses of `World`, of `books`, `simulate_command` and \
+`run_command`, and of `run` with its config, its plan and its laws on one client cite, and what that cites in turn. \
+What only the commands, or a promise of a single crate, need beside it is named by file at the end, with what the \
+code of a world keeps; it is told in the same way where it stands. A definition that private contracts and proofs \
+alone cite isn't here: nobody has to believe it.
 
 This page is made from the comments of the definitions (`tests/definitions.py --write`), and the tests see that it \
 is current.
@@ -54,6 +67,12 @@ NAMES = """\
 
 Each result, answer and fault has a number, a name or both, which are those of FORMATS.md. They are definitions \
 too, each called `.._number` or `.._name` behind the name of its type, in these files:
+"""
+READ = """\
+## What the commands need besides
+
+What the bytes of scripts and step files, the words of a binding and those of the command line say, what `messages`, \
+a check and a fault print, and which fault a run answers. FORMATS.md has the rules of it.
 """
 OTHERS = """\
 ## What single crates promise besides
@@ -239,8 +258,10 @@ def page():
         for path in files_below(f"{TOP}/crates/{crate}/specs", ".antt"):
             if os.path.basename(path) != "Lib.antt":
                 files[crate, path] = File(crate, path)
-    told, all_of_them = needed(files, cited_by_clauses(CARRIERS), TIES), needed(files, cited_by_clauses())
-    lines, named, others = [HEAD], [], []
+    beside = TIES | {(of, path) for of, path in files if {of, f"{of}/{path}"} & BESIDE}
+    told, all_of_them = needed(files, cited_by_clauses(CARRIERS), beside), needed(files, cited_by_clauses())
+    of_commands = needed(files, cited_by_clauses([*CARRIERS, *COMMANDS]), TIES)
+    lines, named, said, others = [HEAD], [], [], []
     for crate in crates():
         parts, rest = [], []
         for file in in_reading_order([it for (of, _), it in files.items() if of == crate]):
@@ -251,13 +272,16 @@ def page():
             here = {it for it in of_file if (crate, file.path, it) in told}
             if here:
                 parts.append(f"### {file.path}\n\n{sentence(file.about)}\n\n{''.join(told_of(file, here))}")
+            elif any((crate, file.path, it) in of_commands for it in of_file):
+                said.append(f"- `{crate}` {file.path}: {sentence(file.about)}")
+                continue
             if of_file - here:
                 rest.append(f"{file.path}{f' ({len(of_file - here)} more)' if here else ''}")
         if parts:
             lines += [f"## `{crate}`\n", *parts]
         if rest:
             others.append(f"- `{crate}`: {', '.join(rest)}.")
-    return "\n".join([*lines, NAMES, f"{', '.join(named)}.\n", OTHERS, *others, ""])
+    return "\n".join([*lines, NAMES, f"{', '.join(named)}.\n", READ, *said, "", OTHERS, *others, ""])
 
 
 def main():
