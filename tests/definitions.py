@@ -38,6 +38,7 @@ COMMANDS = ["cdc_commands", "cdc_run_command", "cdc_app"]
 # rule as docs/FORMATS.md has it, and which fault a run answers. A crate, or a file of one.
 BESIDE = {
     "cdc_script",
+    "cdc_run_command/Plans.antt",
     "cdc_match/Parts.antt",
     "cdc_match/Parsing.antt",
     "cdc_run/Outcomes.antt",
@@ -49,9 +50,9 @@ HEAD = """\
 # The definitions, read aloud
 
 What a reader has to believe: the contracts say that the code does what these definitions say. They stand in the \
-`specs/` folders, in antt, and never repeat the code's loops. In a definition a number is a whole number of any \
-size, and nothing wraps. Each file names the public document that its rules come from, where there is one; the rest \
-is this product's own choice. PROOFS.md says which of them the theorems rest on, and in which order to read those.
+`specs/` folders, in antt. In a definition a number is a whole number of any size, and nothing wraps. Each file names \
+the public document that its rules come from, where there is one; the rest is this product's own choice. PROOFS.md \
+says in which order to read those that the theorems rest on.
 
 Told one by one is what the two theorems need: what the clauses of `World`, of `books`, `simulate_command` and \
 `run_command`, and of `run` with its config, its plan and its laws on one client cite, and what that cites in turn. \
@@ -59,8 +60,7 @@ What only the commands, or a promise of a single crate, need beside it is named 
 code of a world keeps; it is told in the same way where it stands. A definition that private contracts and proofs \
 alone cite isn't here: nobody has to believe it.
 
-This page is made from the comments of the definitions (`tests/definitions.py --write`), and the tests see that it \
-is current.
+This page is made from the comments of the definitions (`tests/definitions.py --write`).
 """
 NAMES = """\
 ## Numbers and names
@@ -77,8 +77,8 @@ a check and a fault print, and which fault a run answers. FORMATS.md has the rul
 OTHERS = """\
 ## What single crates promise besides
 
-Whoever relies on a promise of one crate, as that on a turn of one end of a run, has to believe these files too, or \
-so many more definitions of those above. Each says in its first lines what it is about.
+Whoever relies on a promise of one crate has to believe these files too, or so many more definitions of those above. \
+Each says in its first lines what it is about.
 """
 # What begins a definition, with its name; what imports some, and what a module is called.
 KINDS = "abbrev|unfoldable|record|data|inductive|relation|opaque|alias"
