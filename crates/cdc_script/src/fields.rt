@@ -10,7 +10,7 @@ ghost use Rattle.cdc_script.specs.Words.{words as words_of};
 
 use crate::faults::FaultKind;
 use crate::operands::read_number;
-use crate::words::{next_word, printable_text};
+use crate::words::{is_printable_word, is_word, next_word, position_of};
 use cdc_types::{NewAccount, NewTransfer};
 
 /// The name of a field.
@@ -84,10 +84,13 @@ impl ItemKind {
     }
 
     /// The field of that name, if the item has it.
-    fn key_named(self, name: &str) -> Option<Key>
+    fn key_named(self, name: &[u8]) -> Option<Key>
         ensures { result ≡ key_named self name.now }
     {
-        self.keys().iter().copied().find(|key| key.name() == name)
+        self.keys()
+            .iter()
+            .copied()
+            .find(|key| is_word(name, key.name()))
     }
 }
 
@@ -192,10 +195,11 @@ pub fn account_of(fields: NewTransfer) -> NewAccount
 }
 
 /// What stands before the first equals sign of a word, and what stands after it.
-fn parted_at_equals(word: &str) -> Option<(&str, &str)>
+fn parted_at_equals(word: &[u8]) -> Option<(&[u8], &[u8])>
     ensures { option_map (λ parts. (parts.0.now, parts.1.now)) result ≡ parted 61 word.now }
 {
-    word.split_once('=')
+    let end = position_of(word, b'=')?;
+    Some((&word[..end], &word[end + 1..]))
 }
 
 /// The field that one `key=value` word gives, with its value.
@@ -203,10 +207,12 @@ fn read_field(word: &[u8], kind: ItemKind) -> Result<(Key, u128), FaultKind>
     ensures field { result ≡ field_of kind word.now }
     ensures bound { MatchResult result (λ field. field.1 ≤ greatest_of field.0) (λ e. Unit {0}) }
 {
-    let text = printable_text(word).ok_or(FaultKind::BadText)?;
-    let (name, value) = parted_at_equals(text).ok_or(FaultKind::UnknownKey)?;
+    if !is_printable_word(word) {
+        return Err(FaultKind::BadText);
+    }
+    let (name, value) = parted_at_equals(word).ok_or(FaultKind::UnknownKey)?;
     let key = kind.key_named(name).ok_or(FaultKind::UnknownKey)?;
-    let number = read_number(value.as_bytes(), key.greatest())?;
+    let number = read_number(value, key.greatest())?;
     Ok((key, number))
 }
 

@@ -13,10 +13,11 @@ use cdc_message::{decimal_up_to, is_decimal};
 pub fn read_number(word: &[u8], greatest: u128) -> Result<u128, FaultKind>
     ensures { result ≡ number_of greatest word.now }
 {
-    if !is_decimal(word) {
-        return Err(FaultKind::BadNumber);
+    match decimal_up_to(word, greatest) {
+        Some(number) => Ok(number),
+        None if is_decimal(word) => Err(FaultKind::NumberOutOfRange),
+        None => Err(FaultKind::BadNumber),
     }
-    decimal_up_to(word, greatest).ok_or(FaultKind::NumberOutOfRange)
 }
 
 /// A number of 64 bits alone.

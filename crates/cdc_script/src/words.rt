@@ -10,7 +10,7 @@ ghost use Rattle.cdc_script.specs.Words.{words, spoken, is_printable};
 use std::str;
 
 /// Where such a byte stands first.
-fn position_of(bytes: &[u8], wanted: u8) -> Option<usize>
+pub fn position_of(bytes: &[u8], wanted: u8) -> Option<usize>
     ensures { result ≡ position (λ b. b == wanted) bytes.now }
 {
     bytes.iter().position(|byte| *byte == wanted)
