@@ -225,7 +225,8 @@ module _ (d : Desk) (is : IsDesk d) (goes : d.finished ≡ false) (place : ℕ) 
       → IsStuck (place + 1) d.prefetch d.broker c fault b after
       → IsCutOff d fault (record d { broker = b; consumers = slice_set d.consumers place after })
   cut_stuck fault b after stuck =
-      subst (λ (x : BrokerState). IsCutOff d fault (record d { broker = x; consumers = slice_set d.consumers place after }))
+      subst (λ (x : BrokerState).
+      IsCutOff d fault (record d { broker = x; consumers = slice_set d.consumers place after }))
       (sym stuck.broker)
       (stuck_desk fault (record { queue = stuck.queue; consumer = after }) stuck.binding stuck.items stuck.link
       (stuck.served (acks_at d place) (served_one d is goes place c found))
@@ -569,7 +570,8 @@ failed_unheard old new fault is (gone, same) =
 
 -- a message couldn't be taken
 pub failed_message : (old new : Desk) (fault : RunFault) (inbox : Incoming ToBroker (Unit {0})) (message : ToBroker)
-    → Takes FollowsToBroker old.inbox message inbox → IsTurnFault fault → IsCutOff (record old { inbox = inbox }) fault new
+    → Takes FollowsToBroker old.inbox message inbox → IsTurnFault fault
+    → IsCutOff (record old { inbox = inbox }) fault new
     → HasFailed old fault new
 failed_message old new fault inbox message takes kind cut =
     failed_of old (record old { inbox = inbox }) new fault

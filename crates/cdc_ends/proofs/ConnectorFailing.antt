@@ -484,7 +484,8 @@ pub unsent_gone : (inside now : Publishing) (kept : Kept) (packets : Outgoing To
     → StandsFor kept (with_sent (next_packet course) course) → fault ≡ PeerGone
     → IsUnsent now course fault (record inside { session = Some kept; packets = packets })
 unsent_gone inside now kept packets course fault same is there stands gone =
-    subst (λ (f : RunFault). IsUnsent now course f (record inside { session = Some kept; packets = packets })) (sym gone) (
+    subst (λ (f : RunFault). IsUnsent now course f (record inside { session = Some kept; packets = packets }))
+    (sym gone) (
       there,
       stands,
       (λ i. record inside { session = Some kept; packets = is i })

@@ -189,7 +189,8 @@ module _ (old : Publishing) (course : Course) (is : IsPublishing old (Some cours
   saved_if next s publishing true = publishing
   saved_if next s publishing false = IsPublishing-saved (record answered { session = s }) next publishing
 
-  origin_if : (next : Course) (s : Option Kept) → IsPublishing (record answered { session = s }) (Some next) → (b : Bool)
+  origin_if : (next : Course) (s : Option Kept) → IsPublishing (record answered { session = s }) (Some next)
+      → (b : Bool)
       → origin_of (record answered { held = if b then old.held else Some (progress_of next); session = s })
       ≡ origin_of old
   origin_if next s publishing true = refl
@@ -438,7 +439,8 @@ took inside now new message other same is takes =
 -- ---- it begins
 
 -- a store that holds nothing, or a timestamp that is its start
-at_start : (at : Option ℕ) (held : Option Saved) → IsAtStart (first_origin at held) → held_timestamp held ≡ held_start held
+at_start : (at : Option ℕ) (held : Option Saved) → IsAtStart (first_origin at held)
+    → held_timestamp held ≡ held_start held
 at_start at None same = refl
 at_start at (Some saved) same = same
 
@@ -446,7 +448,8 @@ at_start at (Some saved) same = same
 pub begins : (inbox : Incoming ToConnector (Option Past)) (polls : Outgoing ToLedger (Unit {0}))
     (packets : Outgoing ToBroker (Unit {0})) (held : Option Saved) (honest : Bool) (risks : Risks) (start : Option ℕ)
     (window : ℕ)
-    (restarts : List ℕ) → inbox.received ≡ [] → inbox.senders ≡ 2 → polls.number ≡ 0 → polls.sent ≡ [] → packets.number ≡ 0
+    (restarts : List ℕ) → inbox.received ≡ [] → inbox.senders ≡ 2 → polls.number ≡ 0 → polls.sent ≡ []
+    → packets.number ≡ 0
     → packets.sent ≡ [] → IsWindow window
     → IsConnectorEnd (first_work inbox polls packets held honest risks start window restarts)
 begins inbox polls packets held honest risks start window restarts fresh two to_ledger asked to_broker published fits =

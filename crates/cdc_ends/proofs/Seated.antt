@@ -35,7 +35,8 @@ served_seat old new is = λ i. record {
 }
 
 -- so it does where a turn fails
-pub come_seat : (old : Desk) (fault : RunFault) (new : Desk) → LedgerComes old fault new → ledger_seat new ≡ ledger_seat old
+pub come_seat : (old : Desk) (fault : RunFault) (new : Desk) → LedgerComes old fault new
+    → ledger_seat new ≡ ledger_seat old
 come_seat old fault new (inl none) = ap ledger_seat none.1
 come_seat old fault new (inr (inl untaken)) = untaken_seat untaken.message untaken.takes
   where
@@ -154,7 +155,8 @@ finished_seat c = go c.finished
 
 -- ---- whether it fails or not
 
-pub stays_by : {T : Type 0} {Stays : Type 0} (result : Result T RunFault) (Turns : T → Type 0) (Fails : RunFault → Type 0)
+pub stays_by : {T : Type 0} {Stays : Type 0} (result : Result T RunFault) (Turns : T → Type 0)
+    (Fails : RunFault → Type 0)
     → ((x : T) → Turns x → Stays) → ((fault : RunFault) → Fails fault → Stays) → IfOk result Turns → IfErr result Fails
     → Stays
 stays_by (Ok x) Turns Fails turned failed ok err = turned x ok

@@ -25,7 +25,7 @@ pub record Intake : Type 0 where
 
 -- ---- what is heard
 
--- it is asked to close; 0 asks for nothing
+-- a subscriber is asked to close; 0 asks for nothing
 abbrev pub is_asked : Option ℕ → Bool
 is_asked None = false
 is_asked (Some n) = nat_lt 0 n

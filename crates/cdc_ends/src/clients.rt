@@ -73,6 +73,7 @@ impl ClientEnd {
     pub fn finish<R: Wait>(&mut self, rt: &R) -> Result<(), RunFault>
         ensures done { IfOk result (λ _.
             self.new ≡ record self.old { work = finished_talk self.old.work }) }
+        ensures kept { IfOk result (λ _. IsClient self.new.work) }
         ensures system { self.new.system ≡ self.old.system }
         ensures failed { OnErr result (self.new.work ≡ self.old.work) }
         ensures fault { IfErr result (λ fault. self.new.fault ≡ Some fault) }

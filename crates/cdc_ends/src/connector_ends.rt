@@ -25,8 +25,8 @@ pub type ConnectorEnd<S> = End<Publishing<S>>;
 impl<S: ProgressStore> ConnectorEnd<S> {
     /// The end of a connector that has said nothing yet, over its store. Its first session is told to start after the
     /// moment `start`, if there is one; no later session is told so. A session waits for `window` events at a time. The
-    /// connector restarts after its publish packets of the numbers in `restart_after`, which are counted from 1 over the
-    /// whole run: it drops its session and starts the next.
+    /// connector restarts after its publish packets of the numbers in `restart_after`, which are counted from 1 over
+    /// the whole run: it drops its session and starts the next.
     pub fn new(
         system: u64,
         inbox: LinkIn<ToConnector>,

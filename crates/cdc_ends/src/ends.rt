@@ -83,8 +83,8 @@ pub trait Numbered: Work {
         ensures { result ≡ number self.now };
 }
 
-/// An end of a run. A clause sees the number of the system that it is of, what it works with, and the fault that it met,
-/// if it did.
+/// An end of a run. A clause sees the number of the system that it is of, what it works with, and the fault that it
+/// met, if it did.
 pub struct End<W: Work> {
     pub(crate) system: u64,
     pub(crate) work: W,

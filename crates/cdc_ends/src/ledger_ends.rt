@@ -15,9 +15,9 @@ use std::alloc::Global;
 ///
 /// A turn receives one message, and sends what follows from it. A batch is submitted, and its client gets the reply. A
 /// poll for which there is nothing is kept while the ledger is open: it is replied once there is something, once the
-/// ledger is closed, or once a later poll comes. The ledger is closed once all clients are done, and the end is finished
-/// once the connector is done too; from then on nothing is received. `PeerGone`: a link refused to send or to receive.
-/// `OutOfMemory`: there was no memory for a batch or for a reply.
+/// ledger is closed, or once a later poll comes. The ledger is closed once all clients are done, and the end is
+/// finished once the connector is done too; from then on nothing is received. `PeerGone`: a link refused to send or to
+/// receive. `OutOfMemory`: there was no memory for a batch or for a reply.
 pub type LedgerEnd = End<Desk>;
 
 impl LedgerEnd {

@@ -27,9 +27,9 @@ use std::alloc::Global;
 use std::marker::Model;
 use std::sync::Wait;
 
-/// A connector's ends of its links, its store, the moment that its first session is told to start after, its session, if one runs, with how many polls that has sent and the one
-/// that is open; how many packets are without an answer; after which publish packets it restarts, and how many it has
-/// sent; and whether it has finished.
+/// A connector's ends of its links, its store, the moment that its first session is told to start after, its session,
+/// if one runs, with how many polls that has sent and the one that is open; how many packets are without an answer;
+/// after which publish packets it restarts, and how many it has sent; and whether it has finished.
 pub struct Publishing<S: ProgressStore> {
     inbox: LinkIn<ToConnector>,
     polls: LinkOut<ToLedger>,

@@ -58,7 +58,8 @@ finished_of system number (c ∷ clients) are =
     (are.1, are.2, over.1, finished_of system (number + 1) clients are.4)
 
 -- a ledger's end and clients of one system, which have all finished and are wired together
-pub record AreTogether (ledger : EndState LedgerDesk) (polls : Outgoing ToLedger (Unit {0})) (clients : List (EndState Talk))
+pub record AreTogether (ledger : EndState LedgerDesk) (polls : Outgoing ToLedger (Unit {0}))
+    (clients : List (EndState Talk))
     : Type 0 where
   pub desk : IsDesk ledger.work
   pub finished : HasFinishedWith ledger clients

@@ -99,7 +99,8 @@ subscribers_push system acks number (l ∷ links) [] inbox close long = absurd (
 subscribers_push system acks number (l ∷ links) (c ∷ closes) inbox close long =
     let shorter : length closes ≡ length links = omega arith in
     let same : number + 1 + length links ≡ number + suc (length links) = omega arith in
-    ap (λ (rest : List (EndState Intake)). subscriber_of system number (fresh_inbox l 1) (fresh_end acks number) c ∷ rest)
+    ap (λ (rest : List (EndState Intake)).
+    subscriber_of system number (fresh_inbox l 1) (fresh_end acks number) c ∷ rest)
     (subscribers_push system acks (number + 1) links closes inbox close shorter
     ∙ ap (λ (k : ℕ). made_subscribers system acks (number + 1) links closes
     ++ subscriber_of system k (fresh_inbox inbox 1) (fresh_end acks k) close ∷ []) same)

@@ -20,6 +20,7 @@ use Rattle.cdc_types.specs.Timestamps.{last_timestamp}
 use Rattle.cdc_types.specs.Widths.{max_64}
 use Rattle.cdc_run.specs.Determined.{AllKeepTheLine, UnaskedKeepTheLine, kept_of_line}
 use Rattle.cdc_run.specs.Plans.{IsLeastClose}
+use Rattle.cdc_run.proofs.Applied.{kept_told}
 use Rattle.cdc_run.proofs.Firsts.{rises-of_firsts}
 
 -- ---- a subscriber
@@ -42,8 +43,10 @@ keeps_line h start binding heard faithful ended open_yet =
     let whole = faithful.whole ended in
     let rise : TimestampsRise es = subst TimestampsRise whole.1 faithful.rising in
     let took : applied_of heard ≡ es = sym (rises-of_firsts heard.items faithful.rising) ∙ whole.1 in
-    let line_is : queue (line_after h start) binding ≡ told es true = queue-line_after h start binding ∙ ap (told es) whole.0 in
-    let hears : fold next nothing (queue (line_after h start) binding) ≡ record { items = told es true; closed = false } =
+    let line_is : queue (line_after h start) binding ≡ told es true =
+    queue-line_after h start binding ∙ ap (told es) whole.0 in
+    let hears : fold next nothing (queue (line_after h start) binding) ≡
+    record { items = told es true; closed = false } =
     ap (fold next nothing) line_is ∙ hears-told es in
     let all : rises (events_of (told es true)) ≡ es = ap rises (events_told es rise true) ∙ rises-rising es rise in
     ap (λ (l : List Event). kept l (has_ended heard) heard.closed) took
@@ -54,7 +57,9 @@ keeps_line h start binding heard faithful ended open_yet =
 pub unasked_keep : UnaskedKeepTheLine
 unasked_keep h start binding close_after subscriber unasked is =
     let stays = is.come.unasked unasked in
-    is.keeps ∙ keeps_line h start binding is.heard is.come.faithful stays.ended stays.not_closed
+    is.keeps
+    ∙ sym (kept_told is.heard is.come.faithful.rising)
+    ∙ keeps_line h start binding is.heard is.come.faithful stays.ended stays.not_closed
 
 -- ---- all subscribers
 

@@ -9,6 +9,7 @@ use Rattle.cdc_ends.specs.LedgerEnds.{Desk as LedgerDesk}
 use Rattle.cdc_ends.specs.SubscriberEnds.{Intake}
 use Rattle.cdc_ends.specs.Ends.{EndState}
 use Rattle.cdc_progress.specs.Records.{Saved}
+use Rattle.cdc_progress.specs.Stores.{Risks}
 use Rattle.cdc_run.specs.Made.{AreMade, made_clients, made_subscribers}
 use Rattle.cdc_run.specs.Scripted.{ScriptedState}
 use Rattle.cdc_run.specs.Tasks.{AreLeft, BrokerLeaves, ClientLeaves, ConnectorLeaves, LedgerLeaves, Leaves, Placed, SubscriberLeaves, left_at, numbered, places_of, tasks_at, with_scripts}
@@ -138,8 +139,8 @@ module _ (S : Type 0) where
       let placed = all_left old scripts lefts (subst (λ (l : List (Task S)). AllZip Leaves l lefts) same all) in
       subst (AreLeft old scripts) (sym (is placed.0 placed.1)) placed.2
 
-module _ {S : Type 0} (config : Config) (faults : Faults) (held : Option Saved) (honest : Bool) (ends : Ends S)
-    (made : AreMade config faults held honest ends) (new : Ends S) (scripts : List (List Batch))
+module _ {S : Type 0} (config : Config) (faults : Faults) (held : Option Saved) (honest : Bool) (risks : Risks)
+    (ends : Ends S) (made : AreMade config faults held honest risks ends) (new : Ends S) (scripts : List (List Batch))
     (are : AreLeft (places_of ends) scripts (places_of new)) where
   -- the clients that were made have left, each with its script
   pub made_clients_left : AllZip ClientLeaves

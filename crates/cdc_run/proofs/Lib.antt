@@ -1,10 +1,12 @@
 mod Alone
 mod Apart
+mod Applied
 mod Booked
 mod ClientsParted
 mod Closes
 mod Counted
 mod EndsMade
+mod Finished
 mod Firsts
 mod Found
 mod Fresh

@@ -12,6 +12,7 @@ use Rattle.cdc_laws.specs.Connectors.{held_start, held_timestamp}
 use Rattle.cdc_links.specs.Links.{LinkId, fresh_end}
 use Rattle.cdc_match.specs.declared.binding.Binding.{Binding}
 use Rattle.cdc_progress.specs.Records.{Saved}
+use Rattle.cdc_progress.specs.Stores.{Risks}
 use Rattle.cdc_run.specs.Made.{AreMade, fresh_inbox, made_clients, made_subscribers}
 use Rattle.cdc_run.specs.Reports.{AreSubscribed, HasRun, IsReportOf}
 use Rattle.cdc_ends.specs.Seats.{BrokerSeat, ConnectorSeat, SubscriberSeat, at_start, broker_seat, connector_seat, origin_if}
@@ -84,8 +85,8 @@ bindings_of_empty : (bindings : List Binding)
 bindings_of_empty [] = refl
 bindings_of_empty (binding ∷ bindings) = ap (λ (l : List Binding). binding ∷ l) (bindings_of_empty bindings)
 
-module _ {S : Type 0} (config : Config) (faults : Faults) (held : Option Saved) (honest : Bool) (ends : Ends S)
-    (made : AreMade config faults held honest ends) where
+module _ {S : Type 0} (config : Config) (faults : Faults) (held : Option Saved) (honest : Bool) (risks : Risks)
+    (ends : Ends S) (made : AreMade config faults held honest risks ends) where
   -- no client has finished before the first turn
   pub no_client_done : All (λ (c : EndState Talk). c.work.finished ≡ false) ends.clients.items
   no_client_done =
@@ -102,7 +103,7 @@ module _ {S : Type 0} (config : Config) (faults : Faults) (held : Option Saved) 
       scripts_are =
           ap (map (map (λ (r : Reply). r.batch))) reported.replies
           ∙ scripts_submitted config.system made.wiring.to_ledger 1 made.wiring.to_clients scripts new.clients.items
-          (many ∙ sym made.clients_count) (made_clients_left config faults held honest ends made new scripts are);
+          (many ∙ sym made.clients_count) (made_clients_left config faults held honest risks ends made new scripts are);
     }
 
     -- and its subscribers have come to what they may rely on
@@ -112,15 +113,17 @@ module _ {S : Type 0} (config : Config) (faults : Faults) (held : Option Saved) 
     have_subscribed is_honest same =
         let start : ℕ = (first_origin config.start held).start in
         let seat : (connector_seat new.connector.work).origin ≡ Some (at_start start) =
-        ap (λ (seat : ConnectorSeat). seat.origin) (are.connector.seat ∙ ap (λ (e : EndState Publishing). connector_seat e.work) made.connector)
+        ap (λ (seat : ConnectorSeat). seat.origin)
+        (are.connector.seat ∙ ap (λ (e : EndState Publishing). connector_seat e.work) made.connector)
         ∙ ap₂ origin_if is_honest (begins_at_start config.start held same) in
         let bindings : (broker_seat new.broker.work).bindings ≡ config.bindings.items =
-        ap (λ (seat : BrokerSeat). seat.bindings) (are.broker.seat ∙ ap (λ (e : EndState BrokerDesk). broker_seat e.work) made.broker)
+        ap (λ (seat : BrokerSeat). seat.bindings)
+        (are.broker.seat ∙ ap (λ (e : EndState BrokerDesk). broker_seat e.work) made.broker)
         ∙ bindings_of_empty config.bindings.items in
         let closes : map (λ (s : EndState Intake). s.work.close_after) new.subscribers.items ≡ made.closes =
         closes_stay config.system made.wiring.to_broker 1 made.wiring.to_subscribers made.closes new.subscribers.items
         (made.closes_count ∙ sym made.subscribers_count)
-        (made_subscribers_left config faults held honest ends made new scripts are) in
+        (made_subscribers_left config faults held honest risks ends made new scripts are) in
         subst (λ (l : List Binding). AreSubscribed report.ledger start l made.closes report.subscribers.items) bindings
         (subst (λ (l : List (Option ℕ)).
         AreSubscribed report.ledger start (broker_seat new.broker.work).bindings l report.subscribers.items) closes

@@ -1,5 +1,5 @@
 -- What is reported of ends that have finished.
-use Rattle.std.proofs.Common.{◌≡◌, ℕ, suc, ◌+◌, ◌-◌, Bool, true, false, List, [], ◌∷◌, refl, sym, ap, subst, length, map, arith}
+use Rattle.std.proofs.Common.{◌≡◌, ℕ, suc, ◌+◌, ◌-◌, Bool, true, false, List, [], ◌∷◌, refl, sym, ap, ◌∙◌, subst, length, map, arith}
 use Rattle.std.specs.Prelude.{Option, Some, is_none, slice_get, unwrap_or}
 use Rattle.std.proofs.lemmas.Bool.{and_parts}
 use Rattle.cdc_broker.specs.Broker.{nobody, queue_of}
@@ -17,6 +17,7 @@ use Rattle.cdc_run.specs.Streams.{AllCome, AreLeftBy, Middle}
 use Rattle.cdc_run.specs.SubscriberMail.{HasFinishedWith as BrokerHasFinishedWith}
 use Rattle.cdc_run.specs.Subscribing.{HasCome}
 use Rattle.cdc_run.specs.declared.ends.Ends.{Ends}
+use Rattle.cdc_run.proofs.Applied.{kept_told}
 use Rattle.cdc_run.proofs.Seated.{AreBetween}
 
 -- a store over which it is known where the run began is honest
@@ -27,7 +28,8 @@ began false origin known same = cc
 
 -- where a run began at its start
 pub start_known : {S : Type 0} (ends : Ends S) (start : ℕ)
-    → (connector_seat ends.connector.work).origin ≡ Some (at_start start) → (origin_of ends.connector.work).start ≡ start
+    → (connector_seat ends.connector.work).origin ≡ Some (at_start start)
+    → (origin_of ends.connector.work).start ≡ start
 start_known ends start known =
     let work = ends.connector.work in
     ap (λ (o : Origin). o.start) (began work.honest (origin_of work) (at_start start) known).1
@@ -67,8 +69,9 @@ subscribed d start b place (s ∷ subscribers) (q ∷ queues) come many there =
     let rest : length subscribers ≡ length queues = omega arith in (
       record {
         heard = come.0.heard;
-        come = subst (λ (x : QueueState). HasCome d.ledger start x.binding s.work.close_after come.0.heard) its come.0.come;
-        keeps = come.0.keeps;
+        come = subst (λ (x : QueueState). HasCome d.ledger start x.binding s.work.close_after come.0.heard)
+            its come.0.come;
+        keeps = come.0.keeps ∙ kept_told come.0.heard come.0.come.faithful.rising;
       },
       subscribed d start b (place + 1) subscribers queues come.1 rest (λ k next found.
           let same : place + suc k + 1 ≡ place + 1 + k + 1 = omega arith in

@@ -87,7 +87,8 @@ ledger_made system n m w wired =
 abbrev connector_of : ℕ → Incoming ToConnector (Option Past) → Outgoing ToLedger (Unit {0})
     → Outgoing ToBroker (Unit {0}) → Option Saved → Bool → Risks → Option ℕ → ℕ → List ℕ → EndState Publishing
 connector_of system inbox polls packets held honest risks start window restarts =
-    record { system = system; work = first_work inbox polls packets held honest risks start window restarts; fault = None }
+    let work : Publishing = first_work inbox polls packets held honest risks start window restarts in
+    record { system = system; work = work; fault = None }
 
 connector_made : (system n m : ℕ) (w : Wires) (held : Option Saved) (honest : Bool) (risks : Risks)
     (start : Option ℕ) (window : ℕ) (restarts : List ℕ) → AreWired n m w
@@ -137,7 +138,7 @@ pub are_made : {S : Type 0} (config : Config) (faults : Faults) (held : Option S
     (plan_of faults) config.prefetch
     → AreFreshSubscribers config.system w.to_broker.link faults.close.items (map (λ i. i.link) w.inboxes.items)
     ends.subscribers.items
-    → AreMade config faults held honest ends
+    → AreMade config faults held honest risks ends
 are_made config faults held honest risks ends w wired ledger clients connector broker subscribers =
     let n : ℕ = config.clients in
     let m : ℕ = length config.bindings.items in
@@ -154,7 +155,6 @@ are_made config faults held honest risks ends w wired ledger clients connector b
       closes_are = subscribers.closes_are;
       ledger = ledger ∙ ledger_made config.system n m w wired;
       clients = clients;
-      risks = risks;
       connector =
           connector
           ∙ connector_made config.system n m w held honest risks config.start config.window faults.restart_after.items

@@ -16,6 +16,7 @@ use Rattle.cdc_ends.specs.declared.consumers.Consumer.{Consumer}
 use Rattle.cdc_laws.proofs.Places.{slice_get-behind}
 use Rattle.cdc_links.specs.Links.{Incoming, LinkId, Outgoing, fresh_end}
 use Rattle.cdc_progress.specs.Records.{Saved}
+use Rattle.cdc_progress.specs.Stores.{Risks}
 use Rattle.cdc_traffic.specs.declared.messages.ToBroker.{ToBroker}
 use Rattle.cdc_traffic.specs.declared.messages.ToConnector.{ToConnector}
 use Rattle.cdc_traffic.specs.declared.messages.ToLedger.{ToLedger}
@@ -108,21 +109,25 @@ module _ (system : ℕ) (w : Wiring) where
 
 -- all ends, once they have worked
 pub all_seated : {S : Type 0} (config : Config) (faults : Faults) (held : Option Saved) (honest : Bool)
-    (ends new : Ends S) (scripts : List (List Batch)) (made : AreMade config faults held honest ends)
+    (risks : Risks) (ends new : Ends S) (scripts : List (List Batch))
+    (made : AreMade config faults held honest risks ends)
     → AreLeft (places_of ends) scripts (places_of new) → AreSeated (λ system. made.wiring) new
-all_seated config faults held honest ends new scripts made are =
+all_seated config faults held honest risks ends new scripts made are =
     let w : Wiring = made.wiring in
+    let ledger = ap (λ (e : EndState LedgerDesk). ledger_seat e.work) made.ledger in
+    let connector = ap (λ (e : EndState Publishing). connector_seat e.work) made.connector in
+    let broker = ap (λ (e : EndState BrokerDesk). broker_seat e.work) made.broker in
     record {
-      ledger = subst (LedgerSits w) (sym (are.ledger.seat ∙ ap (λ (e : EndState LedgerDesk). ledger_seat e.work) made.ledger))
+      ledger = subst (LedgerSits w) (sym (are.ledger.seat ∙ ledger))
           (record { inbox = refl; clients = links_made w.to_clients; connector = refl });
       clients = clients_seated config.system w [] w.to_clients 1 scripts new.clients.items refl refl
-          (made_clients_left config faults held honest ends made new scripts are);
-      connector = subst (ConnectorSits w) (sym (are.connector.seat ∙ ap (λ (e : EndState Publishing). connector_seat e.work) made.connector))
+          (made_clients_left config faults held honest risks ends made new scripts are);
+      connector = subst (ConnectorSits w) (sym (are.connector.seat ∙ connector))
           (record { inbox = refl; polls = refl; packets = refl });
-      broker = subst (BrokerSits w) (sym (are.broker.seat ∙ ap (λ (e : EndState BrokerDesk). broker_seat e.work) made.broker))
+      broker = subst (BrokerSits w) (sym (are.broker.seat ∙ broker))
           (record { inbox = refl; confirms = refl; subscribers = consumers_made w.to_subscribers });
       subscribers = subscribers_seated config.system w [] w.to_subscribers 1 made.closes new.subscribers.items refl refl
-          (made_subscribers_left config faults held honest ends made new scripts are);
+          (made_subscribers_left config faults held honest risks ends made new scripts are);
     }
 
 -- ---- links by place
@@ -172,7 +177,8 @@ module _ (wiring : ℕ → Wiring) (system : ℕ) where
   ClientIsSeated c = ClientSits (wiring c.system) (client_seat c.work)
 
   -- the clients of one system ask over its link
-  clients_ask : (link : LinkId ToLedger) (number : ℕ) (clients : List (EndState Talk)) → (wiring system).to_ledger ≡ link
+  clients_ask : (link : LinkId ToLedger) (number : ℕ) (clients : List (EndState Talk))
+      → (wiring system).to_ledger ≡ link
       → AreClientsOf system number clients → All ClientIsSeated clients
       → All (λ c. c.work.requests.link ≡ link) clients
   clients_ask link number [] same are seated = All-nil (λ (c : EndState Talk). c.work.requests.link ≡ link)

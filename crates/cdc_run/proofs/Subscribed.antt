@@ -144,7 +144,8 @@ module _ (h : History) (p : Passage) (keeps : KeepsTo h p.connector)
             let among : Contains keeps.sessions latest =
             subst (λ ss. Contains ss latest) (sym stands.1.1) (0, omega arith, refl) in
             let same : published.session ≡ latest =
-            one_session h (held_start p.connector.held) p.connector.confirms keeps.sessions published.session latest keeps.each published.among among
+            one_session h (held_start p.connector.held) p.connector.confirms keeps.sessions published.session latest
+            keeps.each published.among among
             published.its in
             let items : List Item = map OfEvent p.course.offered in
             let shown : slice_get (take (tags_sent p.course) (told p.course.offered true)) published.place ≡ Some item =
@@ -332,7 +333,8 @@ module _ (on : StandsOn) (p : Passage) (q : QueueState) (taken : List Delivery) 
         elim (cases_Bool heard.closed) [
           | inl shut ↦
               let at = closes.shut shut in
-              let front : applied heard ++ is_faithful.prefix.rest ≡ feed_after h start q.binding = is_faithful.prefix.whole in
+              let front : applied heard ++ is_faithful.prefix.rest ≡ feed_after h start q.binding =
+              is_faithful.prefix.whole in
               let sum : length (applied heard ++ is_faithful.prefix.rest)
               ≡ length (applied heard) + length is_faithful.prefix.rest =
               length-append (applied heard) is_faithful.prefix.rest in

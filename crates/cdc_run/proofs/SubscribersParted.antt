@@ -10,7 +10,8 @@ use Rattle.cdc_run.specs.declared.subscribers.SubscriberMail.{SubscriberMail}
 use Rattle.cdc_run.proofs.Apart.{left_of}
 
 -- one more has left this
-pub all_push : (before : List SubscriberParts) (parts : SubscriberParts) (old new : SubscriberMail) → HasAllOf before old
+pub all_push : (before : List SubscriberParts) (parts : SubscriberParts) (old new : SubscriberMail)
+    → HasAllOf before old
     → IsMoreLeft old parts new → HasAllOf (before ++ parts ∷ []) new
 all_push before parts old new has more = record {
   acks = more.acks ∙ ap (λ l. l ++ parts.acks ∷ []) has.acks

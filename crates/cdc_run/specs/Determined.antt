@@ -29,8 +29,8 @@ pub record IsServedAlone (ledger : History) (replies : List Reply) : Type 0 wher
   pub ledger_is : ledger ≡ history_of (record { batches = map (λ r. r.batch) replies; closed = true })
   pub answers : map (λ r. r.answer) replies ≡ answers_from empty_history (map (λ r. r.batch) replies)
 
--- what a subscriber keeps that takes its queue of all that the ledger has to tell after this start, each item once and in
--- order
+-- what a subscriber keeps that takes its queue of all that the ledger has to tell after this start, each item once and
+-- in order
 abbrev pub kept_of_line : History → ℕ → Arguments → Kept
 kept_of_line h start binding = kept_of (fold next nothing (queue (line_after h start) binding))
 

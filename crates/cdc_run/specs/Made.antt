@@ -49,8 +49,8 @@ made_clients system requests number (answers ∷ rest) = record {
   fault = None;
 } ∷ made_clients system requests (number + 1) rest
 
--- a connector that has said nothing, over a store that holds this, and may refuse so; its first session is to start after
--- this moment, if there is one
+-- a connector that has said nothing, over a store that holds this, and may refuse so; its first session is to start
+-- after this moment, if there is one
 abbrev pub made_connector : ℕ → Wiring → Option Saved → Bool → Risks → Option ℕ → ℕ → List ℕ → EndState Publishing
 made_connector system w held honest risks start window restarts = record {
   system = system;
@@ -96,9 +96,10 @@ pub record AreFreshSubscribers (system : ℕ) (acks : LinkId ToBroker) (given : 
   pub closes_are : AreCloses 1 given closes
   pub subscribers_are : subscribers ≡ made_subscribers system acks 1 inboxes closes
 
--- over one wiring, with a link for each client and each subscriber, the ends of a run of which none has done anything
+-- over one wiring, with a link for each client and each subscriber, and over a store that may refuse so, the ends of a
+-- run of which none has done anything
 pub record AreMade {S : Type 0} (config : Config) (faults : Faults) (held : Option Saved) (honest : Bool)
-    (ends : Ends S) : Type 0 where
+    (risks : Risks) (ends : Ends S) : Type 0 where
   pub wiring : Wiring
   pub clients_count : length wiring.to_clients ≡ config.clients
   pub subscribers_count : length wiring.to_subscribers ≡ length config.bindings.items
@@ -107,7 +108,6 @@ pub record AreMade {S : Type 0} (config : Config) (faults : Faults) (held : Opti
   pub closes_are : AreCloses 1 faults.close.items closes
   pub ledger : ends.ledger ≡ made_ledger config.system wiring
   pub clients : ends.clients.items ≡ made_clients config.system wiring.to_ledger 1 wiring.to_clients
-  pub risks : Risks
   pub connector : ends.connector
       ≡ made_connector config.system wiring held honest risks config.start config.window faults.restart_after.items
   pub broker : ends.broker ≡ made_broker config faults wiring

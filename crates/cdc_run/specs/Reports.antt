@@ -2,9 +2,10 @@
 use Rattle.std.specs.Prelude.{◌≡◌, ℕ, Option, Some, List, [], ◌∷◌, length, map, true}
 use Rattle.cdc_ends.specs.LedgerEnds.{order_of, is_over}
 use Rattle.cdc_ends.specs.declared.faults.RunFault.{RunFault}
+use Rattle.cdc_laws.specs.Faithful.{kept_from}
 use Rattle.cdc_ledger.specs.History.{History}
 use Rattle.cdc_match.specs.declared.binding.Binding.{Binding}
-use Rattle.cdc_subscriber.specs.Heard.{Heard, kept_of}
+use Rattle.cdc_subscriber.specs.Heard.{Heard}
 use Rattle.cdc_subscriber.specs.Kept.{Kept}
 use Rattle.cdc_traffic.specs.declared.requests.Reply.{Reply}
 use Rattle.cdc_types.specs.declared.batches.Batch.{Batch}
@@ -24,11 +25,13 @@ use Rattle.cdc_run.specs.declared.reports.Report.{Report}
 abbrev pub replies_of : Report → List (List Reply)
 replies_of report = map (λ v. v.items) report.replies.items
 
--- against this ledger a subscriber has come to what it may rely on after this start, and this is what it keeps
-pub record IsSubscribed (h : History) (start : ℕ) (binding : Binding) (close_after : Option ℕ) (subscriber : Kept) : Type 0 where
+-- against this ledger a subscriber has come to what it may rely on after this start, and this is what it keeps, told by
+-- what it has applied: its book is that of just these events
+pub record IsSubscribed (h : History) (start : ℕ) (binding : Binding) (close_after : Option ℕ)
+    (subscriber : Kept) : Type 0 where
   pub heard : Heard
   pub come : HasCome h start binding close_after heard
-  pub keeps : subscriber ≡ kept_of heard
+  pub keeps : subscriber ≡ kept_from heard
 
 -- so has each subscriber; there is one for each binding
 abbrev pub AreSubscribed : History → ℕ → List Binding → List (Option ℕ) → List Kept → Type 0

@@ -30,7 +30,8 @@ pub record IsMoreLeft (old : SubscriberMail) (parts : SubscriberParts) (new : Su
   pub subscribers_are : new.subscribers.items ≡ old.subscribers.items ++ parts.subscriber ∷ []
 
 -- the broker's end of a system and all its subscribers have finished and have met no fault
-pub record HasFinishedWith (system : ℕ) (broker : EndState BrokerDesk) (subscribers : List (EndState Intake)) : Type 0 where
+pub record HasFinishedWith (system : ℕ) (broker : EndState BrokerDesk) (subscribers : List (EndState Intake))
+    : Type 0 where
   pub same : broker.system ≡ system
   pub over : has_finished (λ (d : BrokerDesk). d.finished) broker ≡ true
   pub count : length subscribers ≡ length broker.work.consumers

@@ -64,16 +64,17 @@ pub record ClosesWith (n : ℕ) (heard : Heard) : Type 0 where
   pub count : length (applied heard) ≡ n
 
 -- against the ledger of this history a subscriber is faithful after the start. Where it wasn't asked to close it has
--- ended, and isn't closed; where it was asked to close after a number of events it is closed with just so many applied, if
--- its binding takes as many after the start, and has ended open if not
-pub record HasCome (h : History) (start : ℕ) (binding : Arguments) (close_after : Option ℕ) (heard : Heard) : Type 0 where
+-- ended, and isn't closed; where it was asked to close after a number of events it is closed with just so many applied,
+-- if its binding takes as many after the start, and has ended open if not
+pub record HasCome (h : History) (start : ℕ) (binding : Arguments) (close_after : Option ℕ)
+    (heard : Heard) : Type 0 where
   pub faithful : IsFaithful h start binding heard
   pub unasked : is_asked close_after ≡ false → EndsOpen heard
   pub enough : (n : ℕ) → close_after ≡ Some n → 0 < n → n ≤ length (feed_after h start binding) → ClosesWith n heard
   pub too_few : (n : ℕ) → close_after ≡ Some n → 0 < n → length (feed_after h start binding) < n → EndsOpen heard
 
--- so is each subscriber that took all that its queue has handed out, the queue being handed out whole, after the start that
--- the connector holds
+-- so is each subscriber that took all that its queue has handed out, the queue being handed out whole, after the start
+-- that the connector holds
 abbrev pub SubscribersCome : Type 0
 SubscribersCome = (p : Passage) (q : QueueState) (taken : List Delivery) (close_after : Option ℕ) → HasPassed p
     → Contains p.broker.queues q → HasHandedOut q taken → q.handed ≡ length q.items

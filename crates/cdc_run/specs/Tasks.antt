@@ -1,12 +1,12 @@
 -- What each end of a run leaves once it has worked.
 use Rattle.std.specs.Prelude.{◌≡◌, ℕ, ◌+◌, Bool, true, Some, List, [], ◌∷◌, ◌++◌, map}
 use Rattle.std.specs.List.{AllZip}
-use Rattle.cdc_ends.specs.BrokerEnds.{Desk as BrokerDesk}
-use Rattle.cdc_ends.specs.Clients.{Talk}
-use Rattle.cdc_ends.specs.ConnectorEnds.{Publishing}
+use Rattle.cdc_ends.specs.BrokerEnds.{Desk as BrokerDesk, IsBrokerEnd}
+use Rattle.cdc_ends.specs.Clients.{IsClient, Talk}
+use Rattle.cdc_ends.specs.ConnectorEnds.{IsConnectorEnd, Publishing}
 use Rattle.cdc_ends.specs.ConnectorSoFar.{IsFaultOf}
-use Rattle.cdc_ends.specs.LedgerEnds.{Desk as LedgerDesk, is_over}
-use Rattle.cdc_ends.specs.SubscriberEnds.{Intake}
+use Rattle.cdc_ends.specs.LedgerEnds.{Desk as LedgerDesk, IsDesk, is_over}
+use Rattle.cdc_ends.specs.SubscriberEnds.{Intake, IsSubscriberEnd}
 use Rattle.cdc_ends.specs.declared.faults.RunFault.{RunFault}
 use Rattle.cdc_run.specs.Scripted.{ScriptedState}
 use Rattle.cdc_ends.specs.Seats.{broker_seat, client_seat, connector_seat, ledger_seat, subscriber_seat}
@@ -64,28 +64,30 @@ left_at p =
 
 -- ---- what each leaves
 
--- an end has worked to its end: it is of the same system, stands where it stood, and has finished
-pub record HasLeft {W Seat : Type 0} (seat_of : W → Seat) (is_over : W → Bool) (old new : EndState W) : Type 0 where
+-- an end has worked to its end: it is of the same system, stands where it stood, keeps what it has to, and has finished
+pub record HasLeft {W Seat : Type 0} (seat_of : W → Seat) (keeps : W → Type 0) (is_over : W → Bool)
+    (old new : EndState W) : Type 0 where
   pub system : new.system ≡ old.system
   pub seat : seat_of new.work ≡ seat_of old.work
+  pub kept : keeps new.work
   pub done : has_finished is_over new ≡ true
 
 abbrev pub LedgerLeaves : EndState LedgerDesk → EndState LedgerDesk → Type 0
-LedgerLeaves = HasLeft ledger_seat is_over
+LedgerLeaves = HasLeft ledger_seat IsDesk is_over
 
 -- it has submitted its script, in its order, and nothing else
 pub record ClientLeaves (old : ScriptedState) (new : EndState Talk) : Type 0 where
-  pub left : HasLeft client_seat (λ c. c.finished) old.end new
+  pub left : HasLeft client_seat IsClient (λ c. c.finished) old.end new
   pub batches : map (λ r. r.batch) new.work.replies ≡ map (λ r. r.batch) old.end.work.replies ++ old.script
 
 abbrev pub ConnectorLeaves : EndState Publishing → EndState Publishing → Type 0
-ConnectorLeaves = HasLeft connector_seat (λ c. c.finished)
+ConnectorLeaves = HasLeft connector_seat IsConnectorEnd (λ c. c.finished)
 
 abbrev pub BrokerLeaves : EndState BrokerDesk → EndState BrokerDesk → Type 0
-BrokerLeaves = HasLeft broker_seat (λ d. d.finished)
+BrokerLeaves = HasLeft broker_seat IsBrokerEnd (λ d. d.finished)
 
 abbrev pub SubscriberLeaves : EndState Intake → EndState Intake → Type 0
-SubscriberLeaves = HasLeft subscriber_seat (λ c. c.finished)
+SubscriberLeaves = HasLeft subscriber_seat IsSubscriberEnd (λ c. c.finished)
 
 -- ---- a fault
 
@@ -93,17 +95,18 @@ SubscriberLeaves = HasLeft subscriber_seat (λ c. c.finished)
 abbrev pub Meets : {W : Type 0} → (W → RunFault → Type 0) → EndState W → RunFault → Type 0
 Meets fails_as end fault = (end.fault ≡ Some fault) × fails_as end.work fault
 
--- some end of a kind has
-abbrev pub IsMet : {W : Type 0} → (W → RunFault → Type 0) → RunFault → Type 0
-IsMet {W} fails_as fault = (left : EndState W) × Meets fails_as left fault
+-- so has an end that stands where this one stood
+abbrev pub IsMet : {W Seat : Type 0} → (W → Seat) → (W → RunFault → Type 0) → EndState W → RunFault → Type 0
+IsMet {W} seat_of fails_as old fault =
+    (left : EndState W) × (seat_of left.work ≡ seat_of old.work) × Meets fails_as left fault
 
 -- an end has worked until it met this fault
 abbrev pub Fails : {S : Type 0} → Task S → RunFault → Type 0
-Fails (task.Ledger old) fault = IsMet {W = LedgerDesk} (λ _. IsTurnFault) fault
-Fails (task.Client old) fault = IsMet {W = Talk} (λ _. IsTurnFault) fault
-Fails (task.Connector old) fault = IsMet IsFaultOf fault
-Fails (task.Broker old) fault = IsMet {W = BrokerDesk} (λ _. IsTurnFault) fault
-Fails (task.Subscriber number old) fault = IsMet {W = Intake} (λ _. IsTurnFault) fault
+Fails (task.Ledger old) fault = IsMet ledger_seat (λ _. IsTurnFault) old fault
+Fails (task.Client old) fault = IsMet client_seat (λ _. IsTurnFault) old.end fault
+Fails (task.Connector old) fault = IsMet connector_seat IsFaultOf old fault
+Fails (task.Broker old) fault = IsMet broker_seat (λ _. IsTurnFault) old fault
+Fails (task.Subscriber number old) fault = IsMet subscriber_seat (λ _. IsTurnFault) old fault
 
 -- ---- all of them
 

@@ -7,8 +7,9 @@ ghost use Rattle.cdc_run.specs.Parted.{AreEndsOf, AreLeftOf, works_of};
 use cdc_ends::{End, Numbered, RunFault};
 use std::alloc::Global;
 
-/// Takes ends of a system apart, all of which have to have finished. `NotOneSystem`: one is of another system, hasn't its
-/// place's number, isn't finished, or has met a fault. `OutOfMemory`: there was no memory for a list of what they leave.
+/// Takes ends of a system apart, all of which have to have finished. `NotOneSystem`: one is of another system, hasn't
+/// its place's number, isn't finished, or has met a fault. `OutOfMemory`: there was no memory for a list of what they
+/// leave.
 pub(crate) fn part_ends<W: Numbered + Drop>(
     alloc: Global,
     system: u64,

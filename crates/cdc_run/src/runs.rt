@@ -94,8 +94,9 @@ fn ends_of<S: ProgressStore + Drop>(
 
 /// Runs a ledger, its clients, a connector, a broker and its subscribers, each on a thread of its own, until all have
 /// finished, and reports what they come to. Each client submits its script, in its order. The gate is asked before each
-/// turn. Where the run is told to start after a moment, its first session is, and no later one. A fault is the first other than `PeerGone` in the order of the places, or `PeerGone` where there is no other.
-/// `OutOfMemory` is also that a thread can't be started.
+/// turn. Where the run is told to start after a moment, its first session is, and no later one. A fault is the first
+/// other than `PeerGone` in the order of the places, or `PeerGone` where there is no other. `OutOfMemory` is also that
+/// a thread can't be started.
 pub fn run<S: ProgressStore + Send + Drop, R: Threads + Wait + Sync, G: Gate + Sync>(
     rt: &R,
     alloc: Global,
@@ -108,7 +109,8 @@ pub fn run<S: ProgressStore + Send + Drop, R: Threads + Wait + Sync, G: Gate + S
     requires fits { Fits config }
     requires scripts { vec_len scripts ≡ config.clients }
     ensures report { IfOk result (HasRun (map (λ s. s.items) scripts.items)) }
-    ensures fault { IfErr result (IsRunFault config.clients (length config.bindings.items)) }
+    ensures fault { IfErr result (IsRunFault (S.is_honest store) (S.risks store) config.clients
+        (length config.bindings.items)) }
     ensures subscribers { IfOk result (λ report. S.is_honest store ≡ true
         → held_timestamp (S.held store) ≡ held_start (S.held store)
         → (closes : List (Option ℕ)) × AreCloses 1 faults.close.items closes

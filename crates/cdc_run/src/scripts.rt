@@ -1,8 +1,8 @@
 //! A client's script: its batches, one after another, and then that it is done.
 
 ghost use Rattle.std.specs.Prelude.{◌≡◌, IfErr, IfOk, false};
-ghost use Rattle.cdc_ends.specs.Clients.{Talk};
 ghost use Rattle.cdc_ends.specs.Faults.{IsTurnFault};
+ghost use Rattle.cdc_ends.specs.Seats.{client_seat};
 ghost use Rattle.cdc_run.specs.Tasks.{ClientLeaves, IsMet};
 
 use crate::gates::Gate;
@@ -23,7 +23,7 @@ pub(crate) fn run_script<R: Wait, G: Gate>(
 ) -> Result<ClientEnd, RunFault>
     requires { end.work.finished ≡ false }
     ensures left { IfOk result (ClientLeaves (record { end = end; script = script.items })) }
-    ensures met { IfErr result (IsMet {W = Talk} (λ _. IsTurnFault)) }
+    ensures met { IfErr result (IsMet client_seat (λ _. IsTurnFault) end) }
 {
     let place = Place::Client(end.number());
     let mut turn: u64 = 0;

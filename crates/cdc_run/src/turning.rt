@@ -17,8 +17,8 @@ pub(crate) fn run_to_end<W: Turns + Drop, R: Wait, G: Gate>(
     alloc: Global,
     gate: &G,
 ) -> Result<End<W>, RunFault>
-    ensures left { IfOk result (HasLeft W.seat W.is_over end) }
-    ensures met { IfErr result (IsMet W.fails_as) }
+    ensures left { IfOk result (HasLeft W.seat W.keeps W.is_over end) }
+    ensures met { IfErr result (IsMet W.seat W.fails_as end) }
 {
     let mut turn: u64 = 0;
     for _ in rt.forever() {

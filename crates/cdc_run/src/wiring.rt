@@ -77,7 +77,8 @@ pub fn wire_up<S: ProgressStore + Drop>(
     store: S,
 ) -> Result<Ends<S>, RunFault>
     requires { Fits config }
-    ensures made { IfOk result (AreMade config faults (S.held store) (S.is_honest store)) }
+    ensures made { IfOk result (AreMade config faults (S.held store) (S.is_honest store)
+        (S.risks store)) }
     ensures refused { IfErr result (λ fault. fault ≡ OutOfMemory) }
 {
     let wires = make_wires(alloc, &config)?;

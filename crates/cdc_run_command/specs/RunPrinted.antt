@@ -9,7 +9,7 @@ use Rattle.cdc_commands.specs.declared.faults.ProgramFault.TheVariants as fault
 use Rattle.cdc_commands.specs.Report.{script_fault_line, program_fault_line}
 use Rattle.cdc_run_command.specs.Runs.{RunsTo, Setting}
 
--- a command that runs a script on threads gives up where a read, memory or the run failed
+-- a command that runs a script on threads gives up where a read, memory or the run failed; its ends are of one system
 abbrev pub MayFailRun : ProgramFault → Type 0
 MayFailRun (fault.ReadFault why) = Unit {0}
 MayFailRun (fault.WriteFault why) = ⊥
@@ -17,7 +17,7 @@ MayFailRun (fault.Store why) = Unit {0}
 MayFailRun fault.OutOfMemory = Unit {0}
 MayFailRun fault.PeerGone = Unit {0}
 MayFailRun fault.SessionsExhausted = Unit {0}
-MayFailRun fault.NotOneSystem = Unit {0}
+MayFailRun fault.NotOneSystem = ⊥
 MayFailRun fault.StartNotAllowed = Unit {0}
 
 -- these bytes are a script, and a run of it prints this

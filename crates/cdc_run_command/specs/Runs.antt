@@ -61,8 +61,8 @@ pub record PrintsReport (order : List ℕ) (report : Report) (printed : List ℕ
   pub merged : AreMerged order (replies_of report) replies
   pub prints : printed ≡ reply_lines 1 replies ++ kept_text 1 report.subscribers.items
 
--- what a run is given beside its script: when subscribers are to close, the moment that its first session is told to start
--- after, if it is, what its store holds, and whether that is honest
+-- what a run is given beside its script: when subscribers are to close, the moment that its first session is told to
+-- start after, if it is, what its store holds, and whether that is honest
 pub record Setting : Type 0 where
   pub closes : List (ℕ × ℕ)
   pub start : Option ℕ
@@ -71,7 +71,8 @@ pub record Setting : Type 0 where
 
 -- a run of this script may come to this report: one order of all batches, each client's in its own order, gives the
 -- ledger and the replies; and over an honest store that holds nothing, or a timestamp that is its start, each
--- subscriber has come to what it may rely on after the start: the one that is held, or else the moment that was told, or 0
+-- subscriber has come to what it may rely on after the start: the one that is held, or else the moment that was told,
+-- or 0
 pub record MayComeTo (setting : Setting) (script : Script) (report : Report) : Type 0 where
   pub run : HasRun (scripts_of script) report
   pub subscribers : setting.honest ≡ true → held_timestamp setting.held ≡ held_start setting.held

@@ -131,9 +131,9 @@ fn run_clients<T: Threads + Wait + Sync, S: ProgressStore + Send + Drop, G: Gate
 
 /// Reads a script, runs it on threads, and prints what `run_of` says of its bytes. A command that gives up prints why,
 /// and nothing else; nothing is written after a write that failed. Where one client hands in all batches of a script,
-/// whichever its number, no subscriber is asked to close, no session is told where to start, and the store is honest and
-/// holds nothing, or the timestamp 0 and the start 0, the law `alone` says that what is printed of a run is what `books`
-/// prints.
+/// whichever its number, no subscriber is asked to close, no session is told where to start, and the store is honest
+/// and holds nothing, or the timestamp 0 and the start 0, the law `alone` says that what is printed of a run is what
+/// `books` prints.
 pub fn run_command<
     T: Threads + Wait + Sync,
     R: Read,

@@ -13,6 +13,7 @@ use Rattle.cdc_ends.specs.LedgerEnds.{Desk as LedgerDesk, links_of}
 use Rattle.cdc_ends.specs.declared.faults.RunFault.{RunFault}
 use Rattle.cdc_links.specs.Links.{LinkId, fresh_end, with_sent}
 use Rattle.cdc_progress.specs.Records.{Saved}
+use Rattle.cdc_progress.specs.Stores.{Risks}
 use Rattle.cdc_run.specs.Made.{AreMade, made_clients, made_subscribers}
 use Rattle.cdc_ends.specs.Seats.{BrokerSeat, ClientSeat, ConnectorSeat, LedgerSeat, SubscriberSeat, broker_seat, client_seat, connector_seat, ledger_seat, subscriber_seat}
 use Rattle.cdc_ends.specs.Ends.{EndState}
@@ -89,9 +90,9 @@ module _ (system : ℕ) (w : Wiring) where
       (append_assoc before (link ∷ []) links ∙ split) next)
 
 -- all ends, as they were made
-pub system_made : {S : Type 0} (config : Config) (faults : Faults) (held : Option Saved) (honest : Bool) (ends : Ends S)
-    → AreMade config faults held honest ends → AreOfSystem config.system (seats_of ends)
-system_made config faults held honest ends made =
+pub system_made : {S : Type 0} (config : Config) (faults : Faults) (held : Option Saved) (honest : Bool) (risks : Risks)
+    (ends : Ends S) → AreMade config faults held honest risks ends → AreOfSystem config.system (seats_of ends)
+system_made config faults held honest risks ends made =
     let w : Wiring = made.wiring in
     let system : ℕ = config.system in
     record {
@@ -112,12 +113,13 @@ system_made config faults held honest ends made =
     }
 
 -- the ends that a call has made
-pub wired_up : {S : Type 0} (config : Config) (faults : Faults) (held : Option Saved) (honest : Bool) (system : ℕ)
-    (wired : Result (Ends S) RunFault) (ends : Ends S) → IfOk wired (AreMade config faults held honest)
-    → wired ≡ Ok ends → config.system ≡ system → AreOfSystem system (seats_of ends)
-wired_up config faults held honest system wired ends made is named =
+pub wired_up : {S : Type 0} (config : Config) (faults : Faults) (held : Option Saved) (honest : Bool) (risks : Risks)
+    (system : ℕ) (wired : Result (Ends S) RunFault) (ends : Ends S)
+    → IfOk wired (AreMade config faults held honest risks) → wired ≡ Ok ends → config.system ≡ system
+    → AreOfSystem system (seats_of ends)
+wired_up config faults held honest risks system wired ends made is named =
     subst (λ (n : ℕ). AreOfSystem n (seats_of ends)) named
-    (system_made config faults held honest ends (IfOk-at_ok (AreMade config faults held honest) is made))
+    (system_made config faults held honest risks ends (IfOk-at_ok (AreMade config faults held honest risks) is made))
 
 -- ---- turns
 
@@ -136,10 +138,13 @@ all_seats ledger clients connector broker subscribers = record {
 pub finished_sits : (system : ℕ) (c : Talk) → (system, client_seat (finished_talk c)) ≡ (system, client_seat c)
 finished_sits system c = go c.finished
   where
-    go : (b : Bool) → (system, client_seat (if b then c else record c {
-      requests = with_sent c.requests (Done c.number, tt);
-      finished = true;
-    })) ≡ (system, client_seat c)
+    go : (b : Bool) → (
+      system,
+      client_seat (if b then c else record c {
+        requests = with_sent c.requests (Done c.number, tt);
+        finished = true;
+      }),
+    ) ≡ (system, client_seat c)
     go true = refl
     go false = refl
 

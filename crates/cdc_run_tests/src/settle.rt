@@ -34,12 +34,7 @@ fn config_of(rt: &impl Abort, alloc: Global, system: u64) -> Config
 }
 
 // The ends of a system of one client and one subscriber over a store, before any turn.
-fn ends_over(
-    rt: &impl Abort,
-    alloc: Global,
-    system: u64,
-    store: MemoryStore,
-) -> Ends<MemoryStore>
+fn ends_over(rt: &impl Abort, alloc: Global, system: u64, store: MemoryStore) -> Ends<MemoryStore>
     ensures { AreOfSystem system (seats_of result) }
 {
     let config = config_of(rt, alloc, system);

@@ -27,7 +27,8 @@ returns-in_err-send_stop-clause-failed g c =
     let old = c.args.consumers.now in
     let one = c.index-consumers-i in
     let gone = c.in_err-send_stop.ensures.refused in
-    handed_on (λ fault. (fault ≡ PeerGone) × AreStopping old _) c.from_residual.result c.in_err-send_stop.field-0.0 c.from_residual.ensures.1 (
+    handed_on (λ fault. (fault ≡ PeerGone) × AreStopping old _) c.from_residual.result
+    c.in_err-send_stop.field-0.0 c.from_residual.ensures.1 (
       gone.0,
       stopping_so at.i old _
           (ap (slice_set at.consumers at.i) gone.1

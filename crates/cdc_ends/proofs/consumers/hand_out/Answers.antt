@@ -28,7 +28,8 @@ returns-in_err-hand_next-clause-failed g c =
     let at = c.loop-consumer in
     handed_on
     (λ fault. IsStuck c.args.number c.args.prefetch c.args.broker.now c.args.consumer.now fault
-    c.hand_next.new.broker c.hand_next.new.consumer) c.from_residual.result c.in_err-hand_next.field-0.0 c.from_residual.ensures.1
+    c.hand_next.new.broker c.hand_next.new.consumer) c.from_residual.result c.in_err-hand_next.field-0.0
+    c.from_residual.ensures.1
     (stuck_so c.args.repeat.now c.args.number c.args.prefetch c.args.broker.now c.args.consumer.now at.broker
     at.consumer at.invariant.on at.invariant.still c.in_err-hand_next.field-0.0 c.hand_next.new.broker
     c.hand_next.new.consumer c.in_err-hand_next.ensures.failed)

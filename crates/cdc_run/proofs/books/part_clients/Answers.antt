@@ -6,7 +6,8 @@ use Rattle.cdc_run.proofs.books.part_clients.Goals as goal
 -- it is what they have left
 pub returns-clause-mail : goal.returns-clause-mail
 returns-clause-mail c =
-    mail_of c.args.clients.items c.in_ok-parts.parts.items c.in_ok-mail.mail c.in_ok-parts.ensures.parts c.in_ok-mail.ensures
+    mail_of c.args.clients.items c.in_ok-parts.parts.items c.in_ok-mail.mail c.in_ok-parts.ensures.parts
+    c.in_ok-mail.ensures
 
 -- one of them isn't as it has to be
 pub returns-in_err-parts-clause-refused : goal.returns-in_err-parts-clause-refused

@@ -35,7 +35,8 @@ loop-end-preserved g c =
     let its : end.system ≡ c.args.system = first_of (cc, search rules) in
     let named : g.W.Numbered.number end.work ≡ 1 + length before = first_of (omega arith, search rules) in
     let left = c.in-Some-into_parts in (
-      ends_push g.W.Numbered.number g.W.Work.keeps g.W.Work.is_over c.args.system 1 before end c.loop-end.invariant.0 its
+      ends_push g.W.Numbered.number g.W.Work.keeps g.W.Work.is_over c.args.system 1 before end
+          c.loop-end.invariant.0 its
           named left.ensures.kept (sym left.ensures.some),
       subst (AreLeftOf g.W.Work.leaves (works_of (before ++ end ∷ []))) (sym c.push_reserved.ensures.items)
           (left_push g.W.Work.leaves before parted.items end left.parts c.loop-end.invariant.1 left.ensures.parts),

@@ -84,7 +84,8 @@ returns-clause-report g c =
           subst (λ (h : History). AreSubscribed h start (broker_seat ends.broker.work).bindings
           (map (λ (s : EndState Intake). s.work.close_after) subscribers)
           c.in_ok-subscribers.subscribers.items) (sym books.ledger)
-          (subst (λ (kept : List Kept). AreSubscribed ends.ledger.work.ledger start (broker_seat ends.broker.work).bindings
+          (subst (λ (kept : List Kept).
+          AreSubscribed ends.ledger.work.ledger start (broker_seat ends.broker.work).bindings
           (map (λ (s : EndState Intake). s.work.close_after) subscribers) kept) (sym streams.keeps)
           (all_subscribed ends.ledger.work start ends.broker.work subscribers come
           (broker.count ∙ sym streams.desk.desk.queues)));
@@ -107,7 +108,8 @@ returns-in_default-clause-refused g c =
       refl,
       λ fit.
           let over : has_finished (λ (c : Publishing). c.finished) c.args.ends.connector ≡ true = fit.connector in
-          let not_over : false ≡ has_finished (λ (c : Publishing). c.finished) c.args.ends.connector = c.in_default.ensures.some in
+          let not_over : false ≡ has_finished (λ (c : Publishing). c.finished) c.args.ends.connector =
+          c.in_default.ensures.some in
           false≢true (not_over ∙ over),
     )
 

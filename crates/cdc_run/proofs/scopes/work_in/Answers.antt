@@ -6,4 +6,5 @@ pub returns-in-None-clause-ends : goal.returns-in-None-clause-ends
 returns-in-None-clause-ends g c =
     let all = c.work_all-all in
     let come = all.ensures.outcomes in
-    come_to_ends g.J.Job.ends_as g.J.Job.fails_as c.args.jobs.items all.result.ends.items come.0 (come.2.ends search) come.1
+    come_to_ends g.J.Job.ends_as g.J.Job.fails_as c.args.jobs.items all.result.ends.items come.0 (come.2.ends search)
+    come.1

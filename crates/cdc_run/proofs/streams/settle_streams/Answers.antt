@@ -99,7 +99,8 @@ returns-in_default-clause-refused c =
       refl,
       λ fit.
           let over : has_finished (λ (d : BrokerDesk). d.finished) c.args.broker ≡ true = fit.over in
-          let not_over : false ≡ has_finished (λ (d : BrokerDesk). d.finished) c.args.broker = c.in_default.ensures.some in
+          let not_over : false ≡ has_finished (λ (d : BrokerDesk). d.finished) c.args.broker =
+          c.in_default.ensures.some in
           cc,
     )
 

@@ -6,7 +6,9 @@ use Rattle.cdc_script.specs.declared.scripts.ClientBatch.{ClientBatch}
 use Rattle.cdc_types.specs.declared.batches.Batch.{Batch}
 use Rattle.cdc_run_command.specs.Private.Merging.{IsOrderOf}
 use Rattle.cdc_run_command.specs.Private.Runnable.{IsClient}
+use Rattle.cdc_run_command.specs.RunPrinted.{MayFailRun}
 use Rattle.cdc_run_command.specs.Runs.{PrintsReport, client_count, entries_of, owners_of, shares_from}
+use Rattle.cdc_run_command.proofs.RunFaults.{may_fail}
 use Rattle.cdc_run_command.proofs.RunLemmas.{clients_fit, order_of_shares, subscribed_same}
 use Rattle.cdc_run_command.proofs.ShareLemmas.{length-shares_from}
 use Rattle.cdc_run_command.proofs.run.run_clients.Goals as goal
@@ -48,6 +50,11 @@ print_run-requires g c =
     (subst (λ (all : List ClientBatch). (k : ℕ) (b : ClientBatch) → slice_get all k ≡ Some b → IsClient b.client)
     (sym c.into_vec-batches.ensures) c.requires.script.clients)
     (c.in-Ok.ensures.report.scripts_are ∙ c.in_ok-clients.ensures.scripts))
+
+-- a run that gives up met a fault of its ends, or lacked memory
+pub returns-in-Err-clause-fault : goal.returns-in-Err-clause-fault
+returns-in-Err-clause-fault g c =
+    subst MayFailRun (sym c.fault_of_run.ensures) (may_fail _ _ _ _ c.in-Err.fault c.in-Err.ensures.fault)
 
 pub returns-clause-text : goal.returns-clause-text
 returns-clause-text g c =

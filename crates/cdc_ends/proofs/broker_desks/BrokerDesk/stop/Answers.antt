@@ -23,7 +23,8 @@ returns-in_err-stop_all-clause-failed g c =
     let consumers : List Consumer = c.stop_all.new.consumers in
     let written : (with_items now.consumers consumers).items ≡ consumers =
     with_items_is now.consumers consumers (c.stop_all.auto.consumers ∙ c.as_mut_slice.ensures.len) in
-    handed_on (λ fault. IsCutOff old fault _) c.from_residual.result c.in_err-stop_all.field-0.0 c.from_residual.ensures.1
+    handed_on (λ fault. IsCutOff old fault _) c.from_residual.result c.in_err-stop_all.field-0.0
+    c.from_residual.ensures.1
     (subst (λ (cs : List Consumer). IsCutOff old c.in_err-stop_all.field-0.0 (record old { consumers = cs }))
     (sym written)
     (cut_stopping old c.requires.desk c.requires.goes_on consumers

@@ -22,7 +22,8 @@ pub stop-requires-clause-goes_on : goal.stop-requires-clause-goes_on
 stop-requires-clause-goes_on g c =
     let old = desk_of c.args.self.now in
     (subst (IsServedTo (length old.consumers) (length old.consumers)) (sym c.in_ok-serve_all.ensures.after)
-    (served_all old (desk_of c.hear.new.self) c.requires.kept.desk c.requires.goes_on c.in_ok-hear.ensures.after)).goes_on
+    (served_all old (desk_of c.hear.new.self) c.requires.kept.desk c.requires.goes_on
+    c.in_ok-hear.ensures.after)).goes_on
 
 pub returns-in_err-serve_all-clause-failed : goal.returns-in_err-serve_all-clause-failed
 returns-in_err-serve_all-clause-failed g c =

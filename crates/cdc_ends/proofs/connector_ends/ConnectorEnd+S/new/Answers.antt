@@ -8,5 +8,6 @@ of-requires g c =
     let a = c.args in
     let r = c.requires in
     subst IsConnectorEnd (sym c.new.ensures)
-    (begins a.inbox a.polls a.packets _ _ _ _ a.window a.restart_after.items r.fresh r.two r.to_ledger r.asked r.to_broker
+    (begins a.inbox a.polls a.packets _ _ _ _ a.window a.restart_after.items r.fresh r.two r.to_ledger r.asked
+    r.to_broker
     r.published r.window)

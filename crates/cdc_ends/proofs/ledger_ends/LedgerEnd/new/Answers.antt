@@ -7,5 +7,6 @@ pub of-requires : goal.of-requires
 of-requires c =
     let asks = c.requires in
     subst IsDesk (sym c.new.ensures)
-    (desk_first c.args.inbox c.args.clients.items c.args.connector asks.some asks.senders asks.fresh asks.untold asks.own
+    (desk_first c.args.inbox c.args.clients.items c.args.connector asks.some asks.senders asks.fresh asks.untold
+    asks.own
     asks.silent)

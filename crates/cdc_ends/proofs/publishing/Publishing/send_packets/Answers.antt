@@ -10,7 +10,8 @@ pub returns-then-not-branch-clause-after : goal.returns-then-not-branch-clause-a
 returns-then-not-branch-clause-after g c =
     all_sent c.args.self.now c.loop-self.self c.send_next.new.self c.loop-self.invariant.goes_on
     c.loop-self.invariant.sessions c.loop-self.invariant.moment
-    (subst (λ b. IsSentNext c.loop-self.self b c.send_next.new.self) c.if-not-branch.true c.in_ok-send_next.ensures.after)
+    (subst (λ b. IsSentNext c.loop-self.self b c.send_next.new.self) c.if-not-branch.true
+    c.in_ok-send_next.ensures.after)
 
 pub returns-in_err-send_next-clause-failed : goal.returns-in_err-send_next-clause-failed
 returns-in_err-send_next-clause-failed g c =
