@@ -10,7 +10,7 @@ on two processors or on four, or on P; its sessions wait for one event, or for u
 output has to be what the outside model (model.py) has for the order of batches that the output allows (orders.py); two
 of three start after a moment. A long one closes nothing, and its first book tells the order of its batches: the output has to be what `books` prints of a
 script in this order. Half of the runs save their progress to a file; from the record that is left, the plan did what it
-says, where the window is 1. A run that takes longer than SECONDS hangs, and has failed. One run more is held for a while,
+says, where the window is 1. What `--trace` tells of each has to agree with its plan and with what it printed (told.py). A run that takes longer than SECONDS hangs, and has failed. One run more is held for a while,
 in its first save (hold.c), and must take no processor time meanwhile.
 
 Then four clients hand in 1,000 transfers each, a batch a transfer, and it is printed how many batches of one client came
@@ -36,6 +36,7 @@ from types import SimpleNamespace
 import model
 import orders
 import rooms
+import told
 
 SECONDS = 120  # that a run may take
 HOLD = 1  # seconds for which a run that waits is looked at
@@ -143,6 +144,7 @@ class Runner:
         self.folder = pathlib.Path(folder)
         self.passed = 0
         self.failed = 0
+        self.errors = ''  # standard error of the last run that ended well
 
     def run(self, words, script, processors=max(PROCESSORS)):
         """Standard output, or why there is none."""
@@ -160,6 +162,7 @@ class Runner:
             return f'nothing: it hangs, or takes longer than {SECONDS} seconds'
         if ran.returncode != 0:
             return f'status {ran.returncode}, and {ran.stdout[-300:]!r}, {ran.stderr[-300:]!r}'
+        self.errors = ran.stderr.decode('utf-8', 'backslashreplace')
         return ran.stdout.decode('utf-8', 'backslashreplace')
 
     def note(self, what, wanted, found):
@@ -400,14 +403,16 @@ def run_stress(options, runner):
         saves = rng.random() < 0.5
         progress = runner.folder / 'stress.progress'
         progress.unlink(missing_ok=True)
-        words = ['run', '-', *plan, *(['--progress', progress.name] if saves else [])]
+        words = ['run', '-', '--trace', *plan, *(['--progress', progress.name] if saves else [])]
         begun = time.monotonic()
         printed = runner.run(words, script.text(), processors)
         times.setdefault((stress.name, processors), []).append(time.monotonic() - begun)
+        errors = runner.errors
         left = progress.read_bytes() if progress.exists() else None
         what = f'run {number} of seed {options.seed}, a {stress.name} script on {processors} processors, {stress.told}: '
         wanted = stress.wanted(script, plan, saves, printed, left)
         runner.note(what + ' '.join(words), wanted, (stress.shown(printed), left))
+        runner.note(what + ' '.join(words) + ': what is told', [[]], told.complaints(plan, printed, errors))
     run_waiting(runner)
     for (name, processors), seconds in sorted(times.items()):
         mean = sum(seconds) / len(seconds)

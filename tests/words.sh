@@ -285,14 +285,65 @@ missed '--restart-after 999: at most 10 publishes were sent' --lose-publish 1 --
 missed '--repeat 2:9: queue 2 handed out only 3 deliveries' --repeat 2:9
 missed '--repeat 4:1: there is no queue 4' --repeat 4:1 --repeat 1:1
 missed '--close 2:9: subscriber 2 applied only 2 events' --close 2:9
+missed '--close 3:9: subscriber 3 applied only 1 event' --close 3:9
 missed '--close 4:1: there is no subscriber 4' --close 4:1
-run run --trace "$top/examples/two-phase.script" --prefetch 2 --repeat 1:1
-same 'what came to each subscriber' 'subscriber 1: 9 deliveries, 7 applied, each once; the other 2 are end marks, and what came again or after a close
-subscriber 2: 3 deliveries, 2 applied, each once; the other 1 are end marks, and what came again or after a close
-subscriber 3: 2 deliveries, 1 applied, each once; the other 1 are end marks, and what came again or after a close' \
-    "$(grep '^subscriber' errors)"
-run run --trace "$top/examples/two-phase.script" --prefetch 1 --repeat 1:1
-has 'what came to a subscriber, one at a time' 'subscriber 1: 8 deliveries, 7 applied, each once; the other 1 ' "$err"
+# Of one it is said in the singular: without an event the end mark is the only publish, and the only delivery.
+printf 'subscriber all\naccounts 1000\naccount id=1 ledger=700 code=10\n' >none.script
+run run none.script --lose-publish 2 --lose-confirm 2 --restart-after 2 --repeat 1:2 --trace
+same 'one of each: status' 0 "$status"
+same 'one of each' "subscriber 1: 1 delivery, 0 applied, each once; 0 came again, applied no second time; \
+the other one is an end mark, or came after a close
+relayplum: --lose-confirm 2: only 1 publish reached the broker
+relayplum: --lose-publish 2: only 1 publish reached the broker
+relayplum: --restart-after 2: only 1 publish was sent
+relayplum: --repeat 1:2: queue 1 handed out only 1 delivery" "$(cat errors)"
+
+# What a run tells of itself. With one event in the window the connector sends nothing before the last confirm has come,
+# so one fault has one outcome. The first publish is of the first event: lost, it never comes to a queue, and is sent
+# again by the next session; where its confirm is lost, or the connector restarts once it is sent, it stands in each
+# queue twice. The second and the third subscriber don't want it. Their lines are the same each time.
+told_run() {
+    run run --trace "$top/examples/two-phase.script" --window 1 "${@:3}"
+    same "a run told, '${*:3}': status" 0 "$status"
+    same "a run told, '${*:3}'" "$1${1:+
+}subscriber 1: $2
+subscriber 2: 3 deliveries, 2 applied, each once; 0 came again, applied no second time; $one_end
+subscriber 3: 2 deliveries, 1 applied, each once; 0 came again, applied no second time; $one_end" \
+        "$(grep -v 'items not accepted' errors)"
+}
+one_end='the other one is an end mark, or came after a close'
+first='event 2000, transfer 10 pending, 100 from 1 to 2'
+once="8 deliveries, 7 applied, each once; 0 came again, applied no second time; $one_end"
+twice="9 deliveries, 7 applied, each once; 1 came again, applied no second time; $one_end"
+told_run '' "$once"
+told_run "$first: sent by session 1, lost; sent again by session 2, taken" "$once" --lose-publish 1
+told_run "$first: sent by session 1, taken, its confirm lost; sent again by session 2, taken
+again 1: position 2, $first" "$twice" --lose-confirm 1
+told_run "$first: sent by session 1, taken; sent again by session 2, taken
+again 1: position 2, $first" "$twice" --restart-after 1
+# The eighth publish is the end mark.
+told_run 'end mark: sent by session 1, lost; sent again by session 2, taken' "$once" --lose-publish 8
+# The queue goes back as it hands out its first position, before that can be acknowledged: where two may be on their
+# way, it is handed out again at once; where one may, its acknowledgement comes first, and it isn't.
+told_run "again 1: position 1, $first" "$twice" --prefetch 2 --repeat 1:1
+told_run '' "$once" --prefetch 1 --repeat 1:1
+
+# Without a word on a terminal it is said what is waited for; a script that is typed there is run, up to its end.
+python3 - "$program" one.script >terminal <<'END'
+import os, pty, subprocess, sys
+program, script = sys.argv[1:]
+typed, terminal = pty.openpty()
+with subprocess.Popen([program], stdin=terminal, stdout=subprocess.PIPE, stderr=subprocess.PIPE) as run:
+    os.close(terminal)
+    with open(script, 'rb') as lines:
+        os.write(typed, lines.read() + b'\x04')
+    out, err = run.communicate(timeout=60)
+sys.stdout.buffer.write(b'status %d\n' % run.returncode + err + out)
+END
+run books one.script
+same 'a script from a terminal' "status 0
+relayplum: a script is read from standard input, up to its end; --help says what it is
+${out}x" "$(cat terminal; printf x)"
 
 # Two clients at once: which of them comes first isn't fixed, but each one's own order is, and both books are told by the
 # ledger's events. Ten times over.

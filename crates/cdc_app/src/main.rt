@@ -15,6 +15,7 @@ mod random;
 mod random_options;
 mod run_faults;
 mod run_options;
+mod run_traces;
 mod run_turns;
 mod slips;
 mod sources;
@@ -36,7 +37,8 @@ use ended::Ended;
 use kept::{Kept, Seen};
 use options::{Form, Options, OptionsFault, RunTelling, Telling, options};
 use random::run_random;
-use run_faults::{copy_faults, tell_missed, trace_deliveries};
+use run_faults::{copy_faults, tell_missed};
+use run_traces::trace_run;
 use run_turns::Turns;
 use sources::Source;
 use std::alloc::AllocError;
@@ -291,7 +293,7 @@ fn run_on_threads<T: Threads + Wait + Sync>(
     if let (Ending::Done, Some(printed)) = (ending, &printed) {
         tell_run(rt, seen, telling, printed);
         if telling.trace {
-            trace_deliveries(rt, &turns, printed);
+            trace_run(rt, &turns, printed);
         }
         tell_missed(rt, &faults, &turns, printed);
     }

@@ -1,4 +1,4 @@
-//! Which faults that were asked for never came in a run, and what came again, on standard error.
+//! Which faults that were asked for never came in a run, on standard error.
 
 use crate::run_turns::Turns;
 use cdc_message::decimal_up_to;
@@ -25,24 +25,29 @@ pub fn tell_missed(rt: &HostRuntime, faults: &Faults, turns: &Turns, printed: &[
     } else {
         "only"
     };
+    let (publishes, were) = if most == 1 {
+        ("publish", "was")
+    } else {
+        ("publishes", "were")
+    };
     for n in faults.lose_confirm.as_slice() {
         if *n > most {
             let _ = eprintln!(rt;
-                "relayplum: --lose-confirm {n}: {words} {most} publishes reached the broker"
+                "relayplum: --lose-confirm {n}: {words} {most} {publishes} reached the broker"
             );
         }
     }
     for n in faults.lose_publish.as_slice() {
         if *n > most {
             let _ = eprintln!(rt;
-                "relayplum: --lose-publish {n}: {words} {most} publishes reached the broker"
+                "relayplum: --lose-publish {n}: {words} {most} {publishes} reached the broker"
             );
         }
     }
     for n in faults.restart_after.as_slice() {
         if *n > most {
             let _ = eprintln!(rt;
-                "relayplum: --restart-after {n}: {words} {most} publishes were sent"
+                "relayplum: --restart-after {n}: {words} {most} {publishes} {were} sent"
             );
         }
     }
@@ -68,8 +73,9 @@ fn tell_missed_repeat(rt: &HostRuntime, queue: u64, position: u64, turns: &Turns
     if applied_by(printed, queue).is_none() {
         let _ = eprintln!(rt; "relayplum: --repeat {queue}:{position}: there is no queue {queue}");
     } else if position > count {
+        let deliveries = if count == 1 { "delivery" } else { "deliveries" };
         let _ = eprintln!(rt;
-            "relayplum: --repeat {queue}:{position}: queue {queue} handed out only {count} deliveries"
+            "relayplum: --repeat {queue}:{position}: queue {queue} handed out only {count} {deliveries}"
         );
     }
 }
@@ -83,30 +89,17 @@ fn tell_missed_close(rt: &HostRuntime, subscriber: u64, count: u64, printed: &[u
             );
         }
         Some(applied) if applied < count => {
+            let events = if applied == 1 { "event" } else { "events" };
             let _ = eprintln!(rt;
-                "relayplum: --close {subscriber}:{count}: subscriber {subscriber} applied only {applied} events"
+                "relayplum: --close {subscriber}:{count}: subscriber {subscriber} applied only {applied} {events}"
             );
         }
         Some(_) => {}
     }
 }
 
-/// Says of each subscriber how many deliveries came to it, how many it applied, and how many it passed over.
-pub fn trace_deliveries(rt: &HostRuntime, turns: &Turns, printed: &[u8]) {
-    for number in 1..9 {
-        if let Some(applied) = applied_by(printed, number) {
-            let count = turns.deliveries(number);
-            let others = count.saturating_sub(applied);
-            let _ = eprintln!(rt;
-                "subscriber {number}: {count} deliveries, {applied} applied, each once; the other {others} are end marks, \
-                 and what came again or after a close"
-            );
-        }
-    }
-}
-
 /// How many events the subscriber of this number has applied, as its printed line says; nothing where it has none.
-fn applied_by(printed: &[u8], number: u64) -> Option<u64> {
+pub fn applied_by(printed: &[u8], number: u64) -> Option<u64> {
     for line in printed.split(|byte| *byte == b'\n') {
         let mut words = line.split(|byte| *byte == b' ');
         if words.next() == Some(b"subscriber".as_slice())

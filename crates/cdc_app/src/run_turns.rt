@@ -1,15 +1,22 @@
-//! What is known of a run beside its report: how many messages came to its broker and to its subscribers.
+//! What is known of a run beside its report: how many messages came to its broker and to its subscribers, and what
+//! these saw go another way than straight through.
 
+use cdc_ends::{Repeats, Story};
 use cdc_run::{Gate, Place};
+use std::sync::OnceLock;
 use std::sync::atomic::{AtomicU64, Ordering};
 
-/// How many turns the broker and each subscriber had. A turn is one message that is received.
+/// How many turns the broker and each subscriber had, and what they saw. A turn is one message that is received.
 #[derive(Drop)]
 pub struct Turns {
     /// The broker's.
     broker: AtomicU64,
     /// Each subscriber's.
     subscribers: [AtomicU64; 8],
+    /// What the broker saw, once it has finished.
+    story: OnceLock<Story>,
+    /// The repeats that came to each subscriber that has finished.
+    repeats: [OnceLock<Repeats>; 8],
 }
 
 impl Turns {
@@ -27,7 +34,28 @@ impl Turns {
                 AtomicU64::new(0),
                 AtomicU64::new(0),
             ],
+            story: OnceLock::new(),
+            repeats: [
+                OnceLock::new(),
+                OnceLock::new(),
+                OnceLock::new(),
+                OnceLock::new(),
+                OnceLock::new(),
+                OnceLock::new(),
+                OnceLock::new(),
+                OnceLock::new(),
+            ],
         }
+    }
+
+    /// What the broker saw of the publishes, in a run that has ended well.
+    pub fn story(&self) -> Option<&Story> {
+        self.story.get()
+    }
+
+    /// The repeats that came to the subscriber of this number, from 1, in a run that has ended well.
+    pub fn repeats(&self, number: u64) -> Option<&Repeats> {
+        self.repeats.get(number.wrapping_sub(1) as usize)?.get()
     }
 
     /// How many deliveries came to the subscriber of this number, from 1, in a run that has ended well: all its messages
@@ -60,6 +88,16 @@ impl Gate for Turns {
                 }
             }
             Place::Ledger | Place::Client(_) | Place::Connector => {}
+        }
+    }
+
+    fn hear_broker(&self, story: Story) {
+        let _ = self.story.try_set(story);
+    }
+
+    fn hear_subscriber(&self, number: u64, repeats: Repeats) {
+        if let Some(place) = self.repeats.get(number.wrapping_sub(1) as usize) {
+            let _ = place.try_set(repeats);
         }
     }
 }

@@ -17,12 +17,14 @@ ghost use Rattle.cdc_types.specs.Widths.{max_64};
 use crate::broker_plans::BrokerPlan;
 use crate::consumers::{Consumer, give_up_all, hand_out};
 use crate::faults::RunFault;
+use crate::stories::{Fate, Story};
 use cdc_broker::{Broker, Taken};
 use cdc_links::{LinkIn, LinkOut, Naming};
 use cdc_match::Binding;
 use cdc_message::{Answer, Confirm, Item, Packet};
 use cdc_traffic::{Ack, Past, ToBroker, ToConnector, ToSubscriber};
 use std::alloc::{AllocError, Global};
+use std::mem;
 use std::sync::Wait;
 
 /// What a broker's end that has finished leaves behind.
@@ -60,6 +62,8 @@ pub(crate) struct BrokerDesk {
     pub(crate) connector_done: bool,
     /// Whether all is done.
     pub(crate) finished: bool,
+    /// What it saw, which no clause speaks of.
+    pub(crate) story: Story,
 }
 
 // By hand, so that whoever lets go of it calls this, and doesn't take it apart anew.
@@ -76,6 +80,7 @@ impl Drop for BrokerDesk {
             accepted: _,
             connector_done: _,
             finished: _,
+            story: _,
         } = self;
     }
 }
@@ -188,6 +193,7 @@ impl BrokerDesk {
             accepted: 0,
             connector_done: false,
             finished: false,
+            story: Story::new(alloc),
         })
     }
 
@@ -247,10 +253,14 @@ impl BrokerDesk {
             IsUnanswered (PublishOf session tag item) (desk_of self.old) fault (desk_of self.new)) }
     {
         self.publishes = one_more(self.publishes)?;
+        self.story.hear(alloc, session, &item);
         let answer = if self.plan.loses_publish(self.publishes) {
+            self.story.judge(alloc, session, tag, Fate::Lost);
             Answer::Broken
         } else {
-            self.publish(alloc, session, tag, item)?
+            let answer = self.publish(alloc, session, tag, item)?;
+            self.story.judge(alloc, session, tag, Fate::of(answer));
+            answer
         };
         confirm(&mut self.confirms, rt, session, answer)
     }
@@ -394,6 +404,13 @@ impl BrokerDesk {
         give_up_all(self.consumers.as_mut_slice(), rt);
     }
 
+    /// What it saw so far; it goes on as one that saw nothing.
+    pub(crate) fn take_story(&mut self, alloc: Global) -> Story
+        ensures { desk_of self.new ≡ desk_of self.old }
+    {
+        mem::replace(&mut self.story, Story::new(alloc))
+    }
+
     /// Its ends of its links, and its broker.
     pub(crate) fn into_parts(self) -> BrokerParts
         ensures { ArePartsOf (desk_of self) result.inbox result.confirms result.consumers.items
@@ -410,6 +427,7 @@ impl BrokerDesk {
             accepted: _,
             connector_done: _,
             finished: _,
+            story: _,
         } = self;
         BrokerParts {
             inbox,

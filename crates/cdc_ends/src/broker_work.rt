@@ -6,8 +6,9 @@ ghost use Rattle.cdc_ends.specs.BrokerTurns.{first_desk};
 
 use crate::broker_desks::{BrokerDesk, BrokerParts};
 use crate::broker_plans::BrokerPlan;
-use crate::ends::{Turns, Work};
+use crate::ends::{Noted, Turns, Work};
 use crate::faults::RunFault;
+use crate::stories::Story;
 use cdc_links::{LinkIn, LinkOut};
 use cdc_match::Binding;
 use cdc_traffic::{ToBroker, ToConnector, ToSubscriber};
@@ -101,5 +102,13 @@ impl Turns for BrokerWork {
 
     fn take_turn<R: Wait>(&mut self, rt: &R, alloc: Global) -> Result<(), RunFault> {
         self.desk.turn(rt, alloc)
+    }
+}
+
+impl Noted for BrokerWork {
+    type Notes = Story;
+
+    fn take_notes(&mut self, alloc: Global) -> Story {
+        self.desk.take_story(alloc)
     }
 }

@@ -83,6 +83,18 @@ pub trait Numbered: Work {
         ensures { result ≡ number self.now };
 }
 
+/// Work of which notes are kept, for who tells a person of the run. No view has them, and no other clause speaks of them.
+pub trait Noted: Work {
+    ghost use Rattle.std.specs.Prelude.{◌≡◌};
+
+    /// What is noted.
+    type Notes;
+
+    /// What was noted so far. The work goes on as one that has noted nothing.
+    fn take_notes(&mut self, alloc: Global) -> Self::Notes
+        ensures { self.new ≡ self.old };
+}
+
 /// An end of a run. A clause sees the number of the system that it is of, what it works with, and the fault that it
 /// met, if it did.
 pub struct End<W: Work> {
@@ -168,6 +180,15 @@ impl<W: Numbered> End<W> {
         ensures { result ≡ W.number self.now.work }
     {
         self.work.number()
+    }
+}
+
+impl<W: Noted> End<W> {
+    /// What the end has noted so far, for who tells a person of the run. It goes on as one that has noted nothing.
+    pub fn take_notes(&mut self, alloc: Global) -> W::Notes
+        ensures { self.new ≡ self.old }
+    {
+        self.work.take_notes(alloc)
     }
 }
 

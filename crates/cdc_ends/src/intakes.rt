@@ -10,8 +10,9 @@ ghost use Rattle.cdc_subscriber.specs.Heard.{Heard, applied_of, kept_of};
 ghost use Rattle.cdc_traffic.specs.Following.{FollowsToBroker};
 ghost use Rattle.cdc_types.specs.Widths.{max_64};
 
-use crate::ends::{Numbered, Turns, Work};
+use crate::ends::{Noted, Numbered, Turns, Work};
 use crate::faults::RunFault;
+use crate::stories::Repeats;
 use crate::subscriber_parts::SubscriberParts;
 use cdc_links::{LinkIn, LinkOut, Naming};
 use cdc_message::Delivery;
@@ -19,10 +20,11 @@ use cdc_subscriber::Subscriber;
 use cdc_traffic::{Ack, ToBroker, ToSubscriber};
 use std::alloc::Global;
 use std::marker::Model;
+use std::mem;
 use std::sync::Wait;
 
-/// A subscriber, its number, its ends of its links, after how many events it is to close, and whether the broker has
-/// told it to stop.
+/// A subscriber, its number, its ends of its links, after how many events it is to close, whether the broker has told
+/// it to stop, and the repeats that came to it, of which no clause speaks.
 pub struct Intake {
     number: u64,
     inbox: LinkIn<ToSubscriber>,
@@ -30,6 +32,7 @@ pub struct Intake {
     subscriber: Subscriber,
     close_after: Option<u64>,
     finished: bool,
+    repeats: Repeats,
 }
 
 // By hand, so that whoever lets go of it calls this, and doesn't take it apart anew.
@@ -42,6 +45,7 @@ impl Drop for Intake {
             subscriber: _,
             close_after: _,
             finished: _,
+            repeats: _,
         } = self;
     }
 }
@@ -105,6 +109,7 @@ fn must_close(close_after: Option<u64>, applied: u64) -> bool
 // Takes a delivery, and closes the subscriber where it is due then. The one fault is want of memory.
 fn take(
     subscriber: &mut Subscriber,
+    repeats: &mut Repeats,
     alloc: Global,
     delivery: &Delivery,
     close_after: Option<u64>,
@@ -113,9 +118,10 @@ fn take(
         → IfOk result (λ _. subscriber.new ≡ kept_of (heard_after close_after heard delivery.now)) }
     ensures refused { IfErr result (λ fault. (fault ≡ OutOfMemory) × (subscriber.new ≡ subscriber.old)) }
 {
-    let Ok(_) = subscriber.take(alloc, delivery) else {
+    let Ok(taking) = subscriber.take(alloc, delivery) else {
         return Err(RunFault::OutOfMemory);
     };
+    repeats.note(alloc, taking, delivery);
     if must_close(close_after, subscriber.applied_count()) {
         subscriber.close();
     }
@@ -140,6 +146,7 @@ impl Intake {
             subscriber: Subscriber::new(alloc),
             close_after,
             finished: false,
+            repeats: Repeats::new(alloc),
         }
     }
 
@@ -153,7 +160,13 @@ impl Intake {
     {
         match hear(&mut self.inbox, rt)? {
             ToSubscriber::Delivery(delivery) => {
-                take(&mut self.subscriber, alloc, &delivery, self.close_after)?;
+                take(
+                    &mut self.subscriber,
+                    &mut self.repeats,
+                    alloc,
+                    &delivery,
+                    self.close_after,
+                )?;
                 let ack = Ack {
                     subscriber: self.number,
                     position: delivery.position,
@@ -205,6 +218,7 @@ impl Work for Intake {
             subscriber,
             close_after: _,
             finished: _,
+            repeats: _,
         } = self;
         SubscriberParts {
             number,
@@ -233,5 +247,13 @@ impl Numbered for Intake {
 
     fn number(&self) -> u64 {
         self.number
+    }
+}
+
+impl Noted for Intake {
+    type Notes = Repeats;
+
+    fn take_notes(&mut self, alloc: Global) -> Repeats {
+        mem::replace(&mut self.repeats, Repeats::new(alloc))
     }
 }

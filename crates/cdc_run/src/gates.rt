@@ -1,6 +1,7 @@
-//! What lets the ends of a run pass, turn by turn.
+//! What lets the ends of a run pass, turn by turn, and is told what they saw.
 
 use crate::places::Place;
+use cdc_ends::{Repeats, Story};
 
 /// Lets the ends of a run pass. It is asked before each turn of each place, counted from 1, on the thread of that
 /// place, and may take its time: so that a test can hold one end until another one has come so far.
@@ -8,6 +9,12 @@ pub trait Gate {
     /// Returns once the end of this place may take this turn. A client's turn is one batch; any other end's is one
     /// message received, with what it sends on it.
     fn pass(&self, place: Place, turn: u64);
+
+    /// Is told what the broker's end saw of the publishes of the run, once that has finished, on its thread.
+    fn hear_broker(&self, story: Story);
+
+    /// Is told which repeats came to the subscriber of this number, from 1, once its end has finished, on its thread.
+    fn hear_subscriber(&self, number: u64, repeats: Repeats);
 }
 
 /// Lets all pass.
@@ -16,4 +23,8 @@ pub struct OpenGate;
 
 impl Gate for OpenGate {
     fn pass(&self, _place: Place, _turn: u64) {}
+
+    fn hear_broker(&self, _story: Story) {}
+
+    fn hear_subscriber(&self, _number: u64, _repeats: Repeats) {}
 }

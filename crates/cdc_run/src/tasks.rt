@@ -34,14 +34,17 @@ impl<S: ProgressStore + Send + Drop> Job for Task<S> {
                 alloc,
                 gate,
             )?)),
-            Task::Broker(end) => Ok(Left::Broker(run_to_end(end, Place::Broker, rt, alloc, gate)?)),
-            Task::Subscriber(number, end) => Ok(Left::Subscriber(run_to_end(
-                end,
-                Place::Subscriber(number),
-                rt,
-                alloc,
-                gate,
-            )?)),
+            Task::Broker(end) => {
+                let mut end = run_to_end(end, Place::Broker, rt, alloc, gate)?;
+                gate.hear_broker(end.take_notes(alloc));
+                Ok(Left::Broker(end))
+            }
+            Task::Subscriber(number, end) => {
+                let place = Place::Subscriber(number);
+                let mut end = run_to_end(end, place, rt, alloc, gate)?;
+                gate.hear_subscriber(number, end.take_notes(alloc));
+                Ok(Left::Subscriber(end))
+            }
         }
     }
 

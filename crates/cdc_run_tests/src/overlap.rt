@@ -3,6 +3,7 @@
 ghost use Rattle.std.specs.Prelude.{◌≡◌, ◌+◌, ◌≤◌, vec_len};
 ghost use Rattle.cdc_run.specs.Configs.{Fits};
 
+use cdc_ends::{Repeats, Story};
 use cdc_match::Binding;
 use cdc_progress::MemoryStore;
 use cdc_run::{Config, Faults, Gate, Place, Report, run};
@@ -77,6 +78,10 @@ impl<R: Abort> Gate for MeetingGate<'_, R> {
             _ => {}
         }
     }
+
+    fn hear_broker(&self, _story: Story) {}
+
+    fn hear_subscriber(&self, _number: u64, _repeats: Repeats) {}
 }
 
 fn account(id: u128) -> NewAccount {
