@@ -36,18 +36,24 @@ SEARCH = 500  # instructions that a poll may take more for each doubling of the 
 BYTES_EXPONENT = 1.05  # of the bytes that growing lists ask for in all
 FIRST = 395_000  # bytes that the first transfer may ask for: a segment of the log has room for 1,024 events
 
+NOTED = 1.5  # what a transfer may cost in a script whose moments go back, in those of one that doesn't
+
+# The moments of the first batch of each kind, before the next kind's, and all before a timeout of a second ends.
+ACCOUNTS, TRANSFERS, POSTS = 10, 10_000_000, 20_000_000
+
 
 # ---------------------------------------------------------------- Scripts
 
 
-def batches(kind, lines):
-    """The text of as many batches as these requests need."""
-    return "".join(f"{kind} 1\n" + "".join(lines[at:at + BATCH_ITEMS]) for at in range(0, len(lines), BATCH_ITEMS))
+def batches(kind, lines, start):
+    """The text of as many batches as these requests need, the first at this moment, and each behind the one before it: a script
+    that goes back is noted, which takes a second ledger."""
+    return "".join(f"{kind} {start + at}\n" + "".join(lines[at:at + BATCH_ITEMS]) for at in range(0, len(lines), BATCH_ITEMS))
 
 
 def opened(accounts):
     lines = [f"account id={number} ledger=1 code=1\n" for number in range(1, accounts + 1)]
-    return "subscriber all\n" + batches("accounts", lines)
+    return "subscriber all\n" + batches("accounts", lines, ACCOUNTS)
 
 
 def transfer(number, accounts, more=""):
@@ -61,8 +67,8 @@ def single_phase(count, accounts):
     return [transfer(number, accounts) for number in range(1, count + 1)]
 
 
-def script(accounts, count):
-    return opened(accounts) + batches("transfers", single_phase(count, accounts))
+def script(accounts, count, start=TRANSFERS):
+    return opened(accounts) + batches("transfers", single_phase(count, accounts), start)
 
 
 def most_transfers(accounts, more=""):
@@ -234,6 +240,8 @@ def full(counter, table):
     total = total_of(counter.total(script(2, count)).result())
     table.head(f"books, a full script of 2 accounts and {count:,} transfers: instructions; of each transfer")
     table.row("from its text to the printed book", total, total / count, FULL)
+    back = total_of(counter.total(script(2, count, 1)).result())
+    table.row("the same at moments that go back, which is noted", back, back / total, NOTED)
 
 
 def subscribers(counter, table):
@@ -255,7 +263,7 @@ def chains(counter, table):
             is_last = number % length == 0
             line = transfer(number, accounts, "" if is_last else " flags=1")
             lines.append(line.replace("ledger=1", "ledger=2") if is_failing and is_last else line)
-        return first + batches("transfers", lines)
+        return first + batches("transfers", lines, TRANSFERS)
 
     texts = {
         "none": first,
@@ -281,15 +289,15 @@ def chains(counter, table):
 def phases(counter, table):
     accounts, count = 1_000, 7_000
     first = opened(accounts)
-    scattered = first + batches("transfers", pending(count, accounts, many_timeouts))
-    half = scattered + batches("transfers", posts(count // 2, count))
+    scattered = first + batches("transfers", pending(count, accounts, many_timeouts), TRANSFERS)
+    half = scattered + batches("transfers", posts(count // 2, count), POSTS)
     pulse = "pulse 1000000000000\n"
     texts = {
         "none": first,
         "single": script(accounts, count),
-        "ordered": first + batches("transfers", pending(count, accounts, one_timeout)),
+        "ordered": first + batches("transfers", pending(count, accounts, one_timeout), TRANSFERS),
         "scattered": scattered,
-        "posted": scattered + batches("transfers", posts(count, count)),
+        "posted": scattered + batches("transfers", posts(count, count), POSTS),
         "pulsed": scattered + pulse,
         "half": half,
         "rest": half + pulse,
@@ -330,7 +338,7 @@ def memory(counter, table):
     # it needs would be copied each time, and its bytes would grow as the square.
     def alone(count):
         lines = pending(count, 2, one_timeout)
-        return opened(2) + "".join(f"transfers 1\n{line}" for line in lines)
+        return opened(2) + "".join(f"transfers {TRANSFERS + at}\n{line}" for at, line in enumerate(lines))
 
     sizes = [1, 500, 1_000, 2_000, 4_000, 8_000]
     none, *asked = [bytes_of(run.result())

@@ -253,8 +253,8 @@ fn print_simulation(
     }
 }
 
-/// How a run has ended, and what it has printed, or, where it has printed objects, would have printed as text; none where
-/// there was no memory for that.
+/// How a run has ended, and what it has printed, or, where it has printed objects, would have printed as text; none
+/// where there was no memory for that.
 #[derive(Drop)]
 struct RunEnded {
     ending: Ending,

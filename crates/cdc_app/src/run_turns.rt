@@ -58,8 +58,8 @@ impl Turns {
         self.repeats.get(number.wrapping_sub(1) as usize)?.get()
     }
 
-    /// How many deliveries came to the subscriber of this number, from 1, in a run that has ended well: all its messages
-    /// but the last, which says that nothing follows.
+    /// How many deliveries came to the subscriber of this number, from 1, in a run that has ended well: all its
+    /// messages but the last, which says that nothing follows.
     pub fn deliveries(&self, number: u64) -> u64 {
         match self.subscribers.get(number.wrapping_sub(1) as usize) {
             Some(turns) => turns.load(Ordering::SeqCst).saturating_sub(1),

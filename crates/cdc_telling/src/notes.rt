@@ -55,13 +55,13 @@ enum Kind {
 
 /// What the words of a line have said so far.
 #[derive(Clone, Copy)]
-struct Line {
+struct Line<'a> {
     /// What it is; nothing before its first word.
     kind: Option<Kind>,
     /// The moment of a batch.
     moment: u128,
-    /// The flags of a transfer.
-    flags: u128,
+    /// The text that begins with the flags of a transfer; empty where it has none.
+    flags: &'a [u8],
     /// Whether a transfer has an amount.
     has_amount: bool,
     /// Whether a transfer has a timeout.
@@ -136,20 +136,20 @@ fn slips_of(script: &[u8]) -> Slips {
     slips
 }
 
-impl Line {
+impl<'a> Line<'a> {
     /// One of which no word was seen.
-    fn new() -> Line {
+    fn new() -> Line<'a> {
         Line {
             kind: None,
             moment: 0,
-            flags: 0,
+            flags: &[],
             has_amount: false,
             has_timeout: false,
         }
     }
 
     /// Takes its next word, with which this text begins.
-    fn see(&mut self, text: &[u8]) {
+    fn see(&mut self, text: &'a [u8]) {
         match self.kind {
             None => self.kind = Some(kind_of(text)),
             Some(Kind::Batch | Kind::Pulse) => {
@@ -163,13 +163,13 @@ impl Line {
     }
 
     /// Takes a field of a transfer.
-    fn see_field(&mut self, text: &[u8]) {
+    fn see_field(&mut self, text: &'a [u8]) {
         if text.starts_with(b"amount=") {
             self.has_amount = true;
         } else if text.starts_with(b"timeout=") {
             self.has_timeout = true;
         } else if let Some(flags) = text.strip_prefix(b"flags=") {
-            self.flags = number_at(flags, u16::MAX.into()).unwrap_or(0);
+            self.flags = flags;
         }
     }
 }
@@ -198,7 +198,7 @@ fn number_at(text: &[u8], greatest: u128) -> Option<u128> {
 impl Slips {
     /// Takes a line, which has this number. A batch counts on from its moment, or from the last timestamp that was given
     /// out; each of its requests takes one, and at a pulse each transfer that expires.
-    fn add(&mut self, line: Line, number: u64) {
+    fn add(&mut self, line: Line<'_>, number: u64) {
         match line.kind {
             Some(Kind::Account) => self.last = self.last.saturating_add(1),
             Some(Kind::Transfer) => {
@@ -224,8 +224,9 @@ impl Slips {
         self.last = self.last.max(moment.saturating_sub(1));
     }
 
-    /// Counts the line of a transfer without an amount, which has these flags.
-    fn add_empty(&mut self, flags: u128, number: u64) {
+    /// Counts the line of a transfer without an amount, with whose flags this text begins.
+    fn add_empty(&mut self, flags: &[u8], number: u64) {
+        let flags = number_at(flags, u16::MAX.into()).unwrap_or(0);
         if flags & POST != 0 {
             self.posts.add(number);
         } else if flags & VOID == 0 {
