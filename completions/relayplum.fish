@@ -11,7 +11,7 @@ complete -c relayplum -n '__fish_seen_subcommand_from books simulate run' -l exp
 complete -c relayplum -n '__fish_seen_subcommand_from books messages simulate run' -l json -d 'Print a JSON object in each line'
 complete -c relayplum -n '__fish_seen_subcommand_from books messages simulate' -l check -d 'Judge the files alone'
 complete -c relayplum -n '__fish_seen_subcommand_from simulate' -l trace -d 'Say on standard error what each step did'
-complete -c relayplum -n '__fish_seen_subcommand_from run' -l trace -d 'Say on standard error what came to each subscriber'
+complete -c relayplum -n '__fish_seen_subcommand_from run' -l trace -d 'Say on standard error what was lost or sent again, and what came to each subscriber'
 complete -c relayplum -n '__fish_seen_subcommand_from simulate' -l diagram -d 'Draw the steps for Mermaid, on standard error or, as --diagram=FILE, in a file'
 complete -c relayplum -n '__fish_seen_subcommand_from simulate' -l random -x -d 'Make the steps by chance, and print them on standard error'
 complete -c relayplum -n '__fish_seen_subcommand_from simulate' -l steps -x -d 'How many steps are made by chance at most'

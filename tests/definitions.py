@@ -33,7 +33,7 @@ CARRIERS = [
     "cdc_run/determined.rt",
 ]
 # The crates whose clauses say what a command does.
-COMMANDS = ["cdc_commands", "cdc_run_command", "cdc_app"]
+COMMANDS = ["cdc_commands", "cdc_run_command", "cdc_json", "cdc_app"]
 # What those clauses cite and the theorems aren't about: what the bytes of files and the words of a binding say, rule by
 # rule as docs/FORMATS.md has it, and which fault a run answers. A crate, or a file of one.
 BESIDE = {

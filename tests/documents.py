@@ -19,7 +19,7 @@ import sys
 
 TOP = os.path.dirname(os.path.dirname(os.path.realpath(__file__)))
 MOST = 300
-OF_TODAY = ["README.md", "docs/*.md", "waiting/README.md", "contrib/*/README.md"]
+OF_TODAY = ["README.md", "docs/*.md", "contrib/*/README.md"]
 OF_OTHER_DAYS = "docs/MEASURED.md"
 ENDINGS = "antt|args|c|edit|errors|fish|bash|md|patch|progress|py|rt|script|sh|status|stdout|steps|txt|tar\\.xz|1"
 QUOTED = re.compile(r"`([^`\n]+)`")

@@ -106,10 +106,10 @@ class Search:
         return last == told.last if len(events) == told.applied else last < told.last
 
 
-def saved_moment(record):
-    """The moment of a record of progress as a run leaves it; None where it is no such record."""
+def saved_in(record):
+    """The session and the moment of a record of progress as a run leaves it; None twice where it is no such record."""
     fields = (record or b'').split()
-    return int(fields[3]) if len(fields) == 5 and fields[:2] == [b'tb-cdc', b'2'] else None
+    return (int(fields[2]), int(fields[3])) if len(fields) == 5 and fields[:2] == [b'tb-cdc', b'2'] else (None, None)
 
 
 def orders_of(script, printed, moment, saved):
@@ -122,11 +122,15 @@ def orders_of(script, printed, moment, saved):
 
 def report_of_run(script_data, plan, progress, printed, record=None):
     """What the model says of a run that printed this, and left this record of progress, if it left any: in an order that
-    allows both, if there is one, else in the file's."""
-    report, saved = model.run(script_data, plan, progress), saved_moment(record)
+    allows both, if there is one, else in the file's. Orders that come to the same text and moment may differ in how many
+    events there are after the start, and so in the sessions that a plan comes to."""
+    report, (session, saved) = model.run(script_data, plan, progress), saved_in(record)
 
     def fits(one):
-        return one.text == printed and (saved is None or one.progress is None or one.progress[1] == saved)
+        if one.text != printed or saved is None or one.progress is None:
+            return one.text == printed
+        first = one.progress[0]
+        return one.progress[1] == saved and first <= session <= first + one.more_sessions
 
     if report.status != 0 or fits(report):
         return report

@@ -2,7 +2,8 @@
 of sweep.py.
 
 - A growth that is refused is want of memory, whichever thread it was on, or changes nothing; a thread that can't be started is
-  want of memory. No end that heard of it hides it, and no run waits for good: each has 20 seconds.
+  want of memory. Standard error names the end that met it, and each end of a run meets one. No end that heard of it hides
+  it, and no run waits for good: each has 20 seconds.
 - A run of one client with one event in its window saves four records, one after another; the trace of a good run says which
   call is of which save. Where one of these calls is refused, or done and answered as refused, or where the process ends there,
   before the call or after it:
@@ -19,6 +20,8 @@ import subprocess
 import threading
 
 SECONDS = 20
+# How often all growths of a run are refused once more, where an end has met none.
+AGAIN = 30
 NO_MEMORY = (1, b"fault: out_of_memory\n")
 STORE = (1, b"fault: store\n")
 NOT_READ = (1, b"fault: read_fault\n")
@@ -59,6 +62,7 @@ MOMENTS = sorted(LATER)
 KIND_OF = {"open": "open", "look": "open", "read": "read", "write": "write", "sync": "sync", "rename": "rename"}
 HOW = ["", " after", " end", " after end"]
 RECORD = re.compile(rb"tb-cdc (?:1 (?=\d+ \d+\n)|2 (?=\d+ \d+ \d+\n))(\d+) (\d+)(?: 0)?\n")
+WANTED = re.compile(r"relayplum: out_of_memory: (no memory was left|no thread could be started)(?: for ([a-z]+(?: [a-z]+| \d+)))?\n")
 BEGINNING = re.compile(rb"(t|tb|tb-|tb-c|tb-cd|tb-cdc|tb-cdc [0-9 ]*\n?)?")
 
 
@@ -81,6 +85,14 @@ def contents(path):
             return file.read()
     except FileNotFoundError:
         return None
+
+
+def places_of(script):
+    """The ends of a run of a script, in the order of their places."""
+    lines = script.splitlines()
+    clients = sorted({int(it.split()[1]) for it in lines if it.startswith("client ")} or {1})
+    subscribers = range(1, 1 + sum(it.startswith("subscriber ") for it in lines))
+    return ["the ledger", *[f"client {it}" for it in clients], "the connector", "the broker", *[f"subscriber {it}" for it in subscribers]]
 
 
 def settled(text):
@@ -141,15 +153,36 @@ class Sweep:
                 self.fail(f"{name}, window {window}, no fault: {ended}")
             found = dict(line.split() for line in contents(os.path.join(folder, "calls")).decode().splitlines())
             calls = {kind: max(count, int(found[kind])) for kind, count in calls.items()}
-        told = {}
+        told, places, met = {}, places_of(script), set()
         plans = [f"{kind}:{number}" for kind, count in calls.items() for number in range(1, count + 1)]
         for plan, (ended, errors) in zip(plans, pool.map(lambda plan: self.run(script, words, FAULT=plan), plans)):
-            refused = ended == NO_MEMORY and b"out_of_memory" in errors and errors.count(b"\n") == 1
+            said = WANTED.fullmatch(errors.decode())
+            refused = ended == NO_MEMORY and said is not None
+            kind, number = plan.split(":")
+            if refused and kind == "thread":
+                # (the last end is started first)
+                refused = said.groups() == ("no thread could be started", places[-int(number)])
+            elif refused and said[1] == "no memory was left":
+                refused = said[2] in (None, *places)
+                met.add(said[2])
+            elif refused:
+                # (to start a thread takes some memory too)
+                refused = said[2] in places
             if not refused and not (plan.startswith("growth") and is_right(ended)):
                 self.fail(f"{name}, window {window}, {plan}: {ended}, {errors!r}")
             told[refused] = told.get(refused, 0) + 1
-        if calls["thread"] == 0:
-            self.fail(f"{name}, window {window}: no thread was started")
+        if calls["thread"] != len(places):
+            self.fail(f"{name}, window {window}: {calls['thread']} threads were started, not {len(places)}")
+        # (which end a growth is of hangs on the threads, so all are refused again until each end has met one)
+        growths = [plan for plan in plans if plan.startswith("growth")]
+        for _ in range(AGAIN):
+            if met.issuperset(places):
+                break
+            for _, errors in pool.map(lambda plan: self.run(script, words, FAULT=plan), growths):
+                said = WANTED.fullmatch(errors.decode())
+                met.add(said and said[2])
+        if not met.issuperset(places):
+            self.fail(f"{name}, window {window}: no fault was met by {', '.join(it for it in places if it not in met)}")
         ends = f"{told.get(True, 0)} ended it, {told.get(False, 0)} changed nothing"
         print(f"run, {name}, window {window}: {calls['growth']} growths, {calls['thread']} threads ({ends})", flush=True)
 

@@ -1,5 +1,5 @@
 -- What the words of the command line ask for.
-use Rattle.std.specs.Prelude.{◌≡◌, ℕ, List, None, codes}
+use Rattle.std.specs.Prelude.{◌≡◌, ℕ, false, List, None, codes}
 use Rattle.cdc_run.specs.Plans.{HasNoFaults}
 use Rattle.cdc_types.specs.Windows.{IsWindow}
 use Rattle.cdc_run_command.specs.Plans.{IsPlan}
@@ -17,14 +17,16 @@ pub record IsDefaultPlan (plan : RunPlan) : Type 0 where
   pub faults : HasNoFaults plan.faults
   pub start : plan.start ≡ None
 
--- the command `run` over the file of this name, by the default plan, with its progress in memory, printed as text
+-- the command `run` over the file of this name, by the default plan, with its progress in memory, printed as text, and
+-- nothing told beside it
 abbrev pub IsRun : List ℕ → Options → Type 0
 IsRun name (Books file explain form) = ⊥
 IsRun name (Messages file form) = ⊥
 IsRun name (Simulate file steps window telling form) = ⊥
 IsRun name (Random file window chances telling form) = ⊥
 IsRun name (Run file plan progress telling form) =
-    (file.now ≡ name) × (IsDefaultPlan plan × ((progress ≡ None) × (form ≡ Text)))
+    (file.now ≡ name) × (IsDefaultPlan plan × ((progress ≡ None)
+    × ((telling ≡ record { explain = false; trace = false }) × (form ≡ Text))))
 IsRun name (Check file steps has_diagram form) = ⊥
 IsRun name (Explain text) = ⊥
 

@@ -2,8 +2,11 @@
 
 use crate::kept::Seen;
 use crate::progress_advice::trouble;
+use crate::run_places::{Met, Shown};
 use crate::sources::STANDARD_INPUT;
 use cdc_commands::{Ending, ProgramFault};
+use cdc_ends::RunFault;
+use cdc_run::Place;
 use cdc_script::ScriptFault;
 use cdc_telling::{FaultTold, script_fault_told, steps_fault_told};
 use std::alloc::AllocError;
@@ -46,15 +49,47 @@ pub fn advise_on_steps(rt: &HostRuntime, script: Seen<'_>, steps: Seen<'_>, endi
     }
 }
 
-/// The same of a run, whose progress is in the file of that name, or in memory.
-pub fn advise_on_run(rt: &HostRuntime, script: Seen<'_>, progress: Option<&str>, ending: Ending) {
-    match (ending, progress) {
-        (Ending::Failed(ProgramFault::Store(error)), Some(saved)) => {
+/// The same of a run, whose progress is in the file of that name, or in memory; of a fault that an end met also which.
+pub fn advise_on_run(
+    rt: &HostRuntime,
+    script: Seen<'_>,
+    progress: Option<&str>,
+    met: Option<(Place, Met)>,
+    ending: Ending,
+) {
+    match (ending, progress, met) {
+        (Ending::Failed(ProgramFault::Store(error)), Some(saved), _) => {
             let name = error.name();
             let why = trouble(rt, saved, error);
             let _ = eprintln!(rt; "{saved}: store: {name}: {why}");
         }
+        (Ending::Failed(fault), _, Some((place, met))) => {
+            let _ = advice_on_place(rt, script, fault, place, met);
+        }
         _ => advise_on_script(rt, script, ending),
+    }
+}
+
+/// One line on a fault that was met at a place.
+fn advice_on_place(
+    rt: &HostRuntime,
+    script: Seen<'_>,
+    fault: ProgramFault,
+    place: Place,
+    met: Met,
+) -> io::Result<()> {
+    let end = Shown(place);
+    match (fault, met) {
+        (ProgramFault::OutOfMemory, Met::Unstarted) => {
+            eprintln!(rt; "relayplum: out_of_memory: no thread could be started for {end}")
+        }
+        (ProgramFault::OutOfMemory, Met::Fault(RunFault::OutOfMemory)) => {
+            eprintln!(rt; "relayplum: out_of_memory: no memory was left for {end}")
+        }
+        (ProgramFault::PeerGone, Met::Fault(RunFault::PeerGone)) => {
+            eprintln!(rt; "relayplum: peer_gone: another end was gone while {end} talked to it")
+        }
+        _ => advice(rt, shown_name(script.name), Ending::Failed(fault)),
     }
 }
 

@@ -91,7 +91,7 @@ pub struct Telling<'a> {
 pub struct RunTelling {
     /// Whether it says why each item wasn't accepted.
     pub explain: bool,
-    /// Whether it says what came to each subscriber.
+    /// Whether it says what was lost or sent again, and what came to each subscriber.
     pub trace: bool,
 }
 

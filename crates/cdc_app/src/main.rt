@@ -15,6 +15,7 @@ mod random;
 mod random_options;
 mod run_faults;
 mod run_options;
+mod run_places;
 mod run_traces;
 mod run_turns;
 mod slips;
@@ -300,7 +301,7 @@ fn run_on_threads<T: Threads + Wait + Sync>(
     if let Ending::Done = ending {
         note(rt, seen, true);
     }
-    advise_on_run(rt, seen, progress, ending);
+    advise_on_run(rt, seen, progress, turns.met(), ending);
     ending
 }
 

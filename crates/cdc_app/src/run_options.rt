@@ -68,7 +68,7 @@ fn trace_flag<'a>(alloc: Global) -> Arg<'a> {
     Arg::new(alloc, "trace")
         .long("trace")
         .action(ArgAction::SetTrue)
-        .help("Say on standard error what came to each subscriber")
+        .help("Say on standard error what was lost or sent again, and what came to each subscriber")
 }
 
 /// The option `--prefetch`.

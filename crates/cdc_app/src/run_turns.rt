@@ -1,7 +1,8 @@
-//! What is known of a run beside its report: how many messages came to its broker and to its subscribers, and what
-//! these saw go another way than straight through.
+//! What is known of a run beside its report: how many messages came to its broker and to its subscribers, what these
+//! saw go another way than straight through, and what its ends met.
 
-use cdc_ends::{Repeats, Story};
+use crate::run_places::{Met, Places};
+use cdc_ends::{Repeats, RunFault, Story};
 use cdc_run::{Gate, Place};
 use std::sync::OnceLock;
 use std::sync::atomic::{AtomicU64, Ordering};
@@ -17,6 +18,8 @@ pub struct Turns {
     story: OnceLock<Story>,
     /// The repeats that came to each subscriber that has finished.
     repeats: [OnceLock<Repeats>; 8],
+    /// What ends met.
+    met: Places,
 }
 
 impl Turns {
@@ -45,7 +48,13 @@ impl Turns {
                 OnceLock::new(),
                 OnceLock::new(),
             ],
+            met: Places::new(),
         }
+    }
+
+    /// The place at which the fault of a run that met one was met, and what that was; none where no end met it.
+    pub fn met(&self) -> Option<(Place, Met)> {
+        self.met.first()
     }
 
     /// What the broker saw of the publishes, in a run that has ended well.
@@ -99,5 +108,13 @@ impl Gate for Turns {
         if let Some(place) = self.repeats.get(number.wrapping_sub(1) as usize) {
             let _ = place.try_set(repeats);
         }
+    }
+
+    fn hear_fault(&self, place: Place, fault: RunFault) {
+        self.met.meet(place, Met::Fault(fault));
+    }
+
+    fn hear_unstarted(&self, place: Place) {
+        self.met.meet(place, Met::Unstarted);
     }
 }

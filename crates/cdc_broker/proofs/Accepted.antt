@@ -1,14 +1,12 @@
 -- What a broker has accepted, after a change of one of its queues and after one more item.
 use Rattle.std.proofs.Common.{◌≡◌, ℕ, ◌-◌, ◌<◌, Bool, true, false, List, [], ◌∷◌, ◌++◌, refl, sym, ap, ◌∙◌, subst, Option, Some, None, Result, Ok, Err, length, get_or, append-nil}
 use Rattle.std.specs.Prelude.{All, filter, if◌then◌else◌, OnOk, OnErr}
-use Rattle.std.specs.declared.alloc.AllocError.{AllocError}
 use Rattle.std.proofs.lemmas.List.Elements.{All-set, All-map, filter-append}
 use Rattle.std.proofs.lemmas.Option.{unwrap_or-slice_get}
 use Rattle.cdc_match.specs.Queue.{queue, takes_item}
 use Rattle.cdc_message.specs.declared.items.Delivery.{Delivery}
 use Rattle.cdc_message.specs.declared.items.Item.{Item}
-use Rattle.cdc_broker.specs.declared.broker.Taken.{Taken}
-use Rattle.cdc_broker.specs.Broker.{BrokerState, HasAccepted, accepted_after, published, queue_of, with_queue, nobody}
+use Rattle.cdc_broker.specs.Broker.{BrokerState, HasAccepted, published, queue_of, with_queue, nobody}
 use Rattle.cdc_broker.specs.Queues.{QueueState, acknowledged, empty_queue, queued, rewound_queue, with_delivery, with_item}
 
 -- a queue holds what belongs to it of the accepted items
@@ -99,8 +97,3 @@ either_way (Err e) p p' f g = g p'
 pub HasAccepted-queues : (s : BrokerState) (queues : List QueueState) (accepted : List Item) → queues ≡ s.queues
     → HasAccepted s accepted → All (Holds accepted) queues
 HasAccepted-queues s queues accepted same has = subst (λ (qs : List QueueState). All (Holds accepted) qs) (sym same) has
-
--- where memory ran out, nothing more was accepted
-pub accepted_after-err : (r : Result Taken AllocError) (e : AllocError) (accepted : List Item) (item : Item) → r ≡ Err e
-    → accepted_after accepted item r ≡ accepted
-accepted_after-err r e accepted item is = ap (accepted_after accepted item) is

@@ -230,6 +230,20 @@ impl Broker {
         self.queues[i - 1].acked.position
     }
 
+    /// The number of the current connection, 0 before the first.
+    pub fn connection(&self) -> u64
+        ensures { result ≡ self.now.connection }
+    {
+        self.connection
+    }
+
+    /// The tag that is taken next under the current connection; none before the first, and after tag 2^64-2.
+    pub fn next_tag(&self) -> Option<u64>
+        ensures { result ≡ self.now.expected }
+    {
+        self.expected
+    }
+
     /// How many queues there are.
     pub fn queue_count(&self) -> usize
         ensures { result ≡ length self.now.queues }

@@ -144,8 +144,9 @@ fn try_binding(rt: &HostRuntime) -> Result<(), CallsFault> {
 }
 
 fn try_body(rt: &HostRuntime) -> Result<(), CallsFault> {
-    let mut subscriber = made(rt, Some(Subscriber::new(rt.alloc())))?;
-    let taken = taken_body(rt.alloc(), &mut subscriber, values::FIRST.as_bytes());
+    let body = made(rt, values::body(rt.alloc()))?;
+    let mut subscriber = Subscriber::new(rt.alloc());
+    let taken = taken_body(rt.alloc(), &mut subscriber, body.as_bytes());
     println!(rt; "refused {}", taken.refused)?;
     if taken.last.is_err() {
         return Err(CallsFault::Refused);

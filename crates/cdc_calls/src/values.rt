@@ -1,14 +1,53 @@
 //! The fixed values that the calls are made on.
 
 use cdc_match::Binding;
-use cdc_message::{Item, Message, decode};
-use cdc_types::{Batch, BatchResults, Items, NewAccount, TransferResult};
+use cdc_message::{Item, Message};
+use cdc_types::{
+    Batch, BatchResults, Event, EventAccount, EventKind, EventTransfer, Items, NewAccount,
+    TransferResult,
+};
 use std::alloc::Global;
 
-/// The body of a ledger's first event: at 2000, account 1 is debited by 100 and account 2 is credited. It has a space that
-/// `encode` doesn't write, so reading it takes memory.
-pub const FIRST: &str =
-    "{ \"credit_account\":{\"code\":10,\"credits_pending\":\"0\",\"credits_posted\":\"100\",\"debits_pending\":\"0\",\"debits_posted\":\"0\",\"flags\":0,\"id\":\"2\",\"timestamp\":\"1001\",\"user_data_128\":\"0\",\"user_data_32\":0,\"user_data_64\":\"0\"},\"debit_account\":{\"code\":10,\"credits_pending\":\"0\",\"credits_posted\":\"0\",\"debits_pending\":\"0\",\"debits_posted\":\"100\",\"flags\":0,\"id\":\"1\",\"timestamp\":\"1000\",\"user_data_128\":\"0\",\"user_data_32\":0,\"user_data_64\":\"0\"},\"ledger\":700,\"timestamp\":\"2000\",\"transfer\":{\"amount\":\"100\",\"code\":1,\"flags\":0,\"id\":\"1\",\"pending_id\":\"0\",\"timeout\":0,\"timestamp\":\"2000\",\"user_data_128\":\"0\",\"user_data_32\":0,\"user_data_64\":\"0\"},\"type\":\"single_phase\"}";
+const DEBITED: EventAccount = EventAccount {
+    id: 1,
+    debits_pending: 0,
+    debits_posted: 100,
+    credits_pending: 0,
+    credits_posted: 0,
+    user_data_128: 0,
+    user_data_64: 0,
+    user_data_32: 0,
+    code: 10,
+    flags: 0,
+    timestamp: 1000,
+};
+
+/// A ledger's first event: at 2000, account 1 is debited by 100 and account 2 is credited.
+const FIRST: Event = Event {
+    timestamp: 2000,
+    kind: EventKind::SinglePhase,
+    ledger: 700,
+    transfer: EventTransfer {
+        id: 1,
+        amount: 100,
+        pending_id: 0,
+        user_data_128: 0,
+        user_data_64: 0,
+        user_data_32: 0,
+        timeout: 0,
+        code: 1,
+        flags: 0,
+        timestamp: 2000,
+    },
+    debit_account: DEBITED,
+    credit_account: EventAccount {
+        id: 2,
+        debits_posted: 0,
+        credits_posted: 100,
+        timestamp: 1001,
+        ..DEBITED
+    },
+};
 
 const ACCOUNT: NewAccount = NewAccount {
     id: 1,
@@ -43,9 +82,16 @@ pub fn results(alloc: Global) -> Option<BatchResults> {
 
 /// The item of the first event.
 pub fn item(alloc: Global) -> Option<Item> {
-    let event = decode(alloc, FIRST.as_bytes()).ok()?;
-    let message = Message::of(alloc, &event).ok()?;
+    let message = Message::of(alloc, &FIRST).ok()?;
     Some(Item::Event(message))
+}
+
+/// The body of the first event, behind a space that `encode` doesn't write, so that reading it takes memory.
+pub fn body(alloc: Global) -> Option<String> {
+    let message = Message::of(alloc, &FIRST).ok()?;
+    let mut body = String::from_str(alloc, " ").ok()?;
+    body.push_str(message.body()).ok()?;
+    Some(body)
 }
 
 /// A binding of two pairs.

@@ -1,13 +1,11 @@
 -- Queues of a broker that are filled, one item after another, and taken, one delivery after another.
 use Rattle.std.proofs.Common.{◌≡◌, ℕ, ◌+◌, ◌-◌, ◌<◌, ◌≤◌, Bool, true, false, List, [], ◌∷◌, ◌++◌, Option, Some, None, refl, sym, ap, ap₂, ◌∙◌, map, length, take, append-nil, arith}
-use Rattle.std.specs.Prelude.{Ok, slice_get, slice_set, option_map, if◌then◌else◌}
-use Rattle.std.proofs.lemmas.Bool.{eq-eqb, lt-ltb, false≢true}
+use Rattle.std.specs.Prelude.{slice_get, slice_set, option_map, if◌then◌else◌}
+use Rattle.std.proofs.lemmas.Bool.{lt-ltb, false≢true}
 use Rattle.std.proofs.lemmas.List.{set-get_or, get_or-set_same, set-set, take_all, map_push}
 use Rattle.std.proofs.lemmas.List.Sums.{fold-append}
 use Rattle.std.proofs.lemmas.Option.{unwrap_or-slice_get}
-use Rattle.cdc_broker.specs.declared.broker.Taken.{Taken}
-use Rattle.cdc_broker.specs.declared.broker.Taken.TheVariants.{Accepted, Ignored}
-use Rattle.cdc_broker.specs.Broker.{BrokerState, Publishes, connected, empty_broker, published, queue_of, takes_packet, with_queue, nobody}
+use Rattle.cdc_broker.specs.Broker.{BrokerState, connected, empty_broker, published, queue_of, takes_packet, with_queue, nobody}
 use Rattle.cdc_broker.specs.Cursors.{Cursor, first_cursor}
 use Rattle.cdc_broker.specs.Packets.{tag_after}
 use Rattle.cdc_broker.specs.Queues.{QueueState, empty_queue, next_delivery, queued, with_delivery, with_item}
@@ -16,7 +14,7 @@ use Rattle.cdc_match.specs.Queue.{takes_item}
 use Rattle.cdc_message.specs.declared.items.Delivery.{Delivery}
 use Rattle.cdc_message.specs.declared.items.Item.{Item}
 use Rattle.cdc_message.specs.declared.items.Item.TheVariants.{Event as OfEvent, EndMark}
-use Rattle.cdc_message.specs.declared.packets.Packet.TheVariants.{Connect, Publish}
+use Rattle.cdc_message.specs.declared.packets.Packet.TheVariants.{Connect}
 use Rattle.cdc_types.specs.declared.events.Event.{Event}
 use Rattle.cdc_types.specs.Widths.{max_64}
 use Rattle.cdc_subscriber.specs.Heard.{nothing, next, kept_of}
@@ -68,18 +66,6 @@ IsFilled-connected told bindings true s s' new taken is = record {
 }
 IsFilled-connected told bindings false s s' new taken is =
     absurd (false≢true (taken ∙ ap (λ (x : BrokerState). takes_packet x (Connect 1)) new))
-
--- the item of the next tag is taken
-next_tag_taken : (s : BrokerState) (tag : ℕ) (item : Item) → s.connection ≡ 1 → s.expected ≡ Some tag
-    → takes_packet s (Publish 1 tag item) ≡ true
-next_tag_taken s tag item connected next = rw (connected, next) (eq-eqb tag tag refl)
-
--- so a publish under it, where it is answered, is done
-pub published_next : (s s' : BrokerState) (tag : ℕ) (item : Item) (taken : Taken) → s.connection ≡ 1
-    → s.expected ≡ Some tag → Publishes s 1 tag item (Ok taken) s' → s' ≡ published tag item s
-published_next s s' tag item Accepted connected next publishes = publishes.1
-published_next s s' tag item (Ignored why) connected next publishes =
-    absurd (false≢true (sym publishes.0 ∙ next_tag_taken s tag item connected next))
 
 -- one more item was published
 published-queues : (tag : ℕ) (item : Item) (items : List Item) (bindings : List Arguments) (s s' : BrokerState)

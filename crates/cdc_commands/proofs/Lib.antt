@@ -1,3 +1,4 @@
+pub mod AnswerLemmas
 mod Examples
 pub mod HeldLaws
 pub mod FeedLemmas

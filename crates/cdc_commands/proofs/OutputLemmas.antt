@@ -3,15 +3,16 @@ use Rattle.std.proofs.Common.{◌≡◌, ◌∙◌, ℕ, List, Some, None, Ok, E
 use Rattle.std.specs.Prelude.{Option, Result, IfErr, IfOk, IfSome}
 use Rattle.cdc_script.specs.Scripts.{script_of}
 use Rattle.cdc_script.specs.StepFiles.{acts_of}
+use Rattle.cdc_world.specs.declared.steps.StepError.{StepError}
 use Rattle.cdc_commands.specs.declared.endings.Ending.{Ending}
 use Rattle.cdc_commands.specs.declared.endings.Ending.TheVariants.{Done, Failed, Refused, BadScript, BadSteps, BadWords}
 use Rattle.cdc_commands.specs.declared.faults.ProgramFault.{ProgramFault}
 use Rattle.cdc_commands.specs.declared.faults.ProgramFault.TheVariants as fault
 use Rattle.cdc_commands.specs.declared.output.Output.{Output}
-use Rattle.cdc_commands.specs.Outcomes.{IsPrinted, IsScriptEnding, MayFailScript, Outcome, PrintsOutcome, Writes, outcome_of}
+use Rattle.cdc_commands.specs.Outcomes.{IsPrinted, IsScriptEnding, MayFailScript, Outcome, PrintsOutcome, Writes, outcome_of, refusal_ending}
 use Rattle.cdc_commands.specs.Private.Stages.{IsSimulationFault}
 use Rattle.cdc_commands.specs.Report.{program_fault_line}
-use Rattle.cdc_commands.specs.Simulated.{SaysPlan, SimulationPrints}
+use Rattle.cdc_commands.specs.Simulated.{RunPrints, SaysPlan, SimulationPrints}
 use Rattle.cdc_commands.specs.Simulations.{Plan}
 
 -- the outcome of a line that says why a command gave up
@@ -169,3 +170,15 @@ may_fail fault.PeerGone is = absurd is
 may_fail fault.SessionsExhausted is = absurd is
 may_fail fault.StartNotAllowed is = absurd is
 may_fail fault.NotOneSystem is = absurd is
+
+-- what is printed of a simulation that ends so is printed by the command
+pub prints_after : (window : ℕ) (script steps : List ℕ) (refusal : Option StepError) (ending : Ending)
+    (printed : List ℕ) → ending ≡ refusal_ending refusal
+    → RunPrints (record { window = window; script = Some script; steps = Some steps }) refusal printed
+    → SimulationPrints (record { window = window; script = Some script; steps = Some steps }) ending printed
+prints_after window script steps None ending printed is prints =
+    subst (λ (e : Ending). SimulationPrints (record { window = window; script = Some script; steps = Some steps }) e
+    printed) (sym is) prints
+prints_after window script steps (Some why) ending printed is prints =
+    subst (λ (e : Ending). SimulationPrints (record { window = window; script = Some script; steps = Some steps }) e
+    printed) (sym is) prints

@@ -6,10 +6,7 @@ use Rattle.std.specs.List.{slice_get}
 use Rattle.std.proofs.lemmas.Bool.{false≢true}
 use Rattle.std.proofs.lemmas.List.{drop_all, drop_more}
 use Rattle.std.proofs.lemmas.Option.{get_or_from_slice_get, slice_get_cases, slice_get_within}
-use Rattle.cdc_progress.specs.Records.{Saved}
-use Rattle.cdc_progress.specs.Stores.{IsRisked, Risks, no_risks}
-use Rattle.cdc_progress.specs.declared.errors.StoreError.{StoreError}
-use Rattle.cdc_progress.specs.declared.errors.StoreError.TheVariants as store
+use Rattle.cdc_progress.specs.Stores.{no_risks}
 use Rattle.cdc_subscriber.specs.Heard.{kept_of}
 use Rattle.cdc_subscriber.specs.Kept.{Kept}
 use Rattle.cdc_subscriber.specs.Lines.{subscriber_text}
@@ -24,8 +21,11 @@ use Rattle.cdc_world.specs.Worlds.{Subscription, WorldState, numbered}
 use Rattle.cdc_script.specs.declared.scripts.ClientBatch.{ClientBatch}
 use Rattle.cdc_script.specs.declared.step_files.Act.{Act}
 use Rattle.cdc_script.specs.declared.step_files.Act.TheVariants as act
+use Rattle.cdc_commands.specs.declared.simulations.Simulated.{Simulated}
+use Rattle.cdc_commands.specs.Private.Simulated.{IsReportOf}
 use Rattle.cdc_commands.specs.Private.Stages.{IsAt, SimulationParts}
-use Rattle.cdc_commands.specs.Simulations.{ActsTo, AnswersTo, PlaysActs, Stage, after_act, did_text, step_for, progress_line, refusal_line, simulation_text, steps_line, subscriptions_text}
+use Rattle.cdc_commands.specs.Report.{answered_lines}
+use Rattle.cdc_commands.specs.Simulations.{ActsTo, AnswersTo, PlaysActs, Stage, after_act, did_answer, step_for, progress_line, refusal_line, simulation_text, steps_line, subscriptions_text}
 use Rattle.cdc_commands.proofs.TextLemmas.{pieces}
 
 -- the element at a place, and those behind it
@@ -213,15 +213,15 @@ left_behind batches k n m b left (Err e) first counted count = tt
 -- a step that is done
 pub step_done : (old new : SimulationParts) (stage : Stage) (taken : Step) (n : ℕ) (did : Did) → IsAt old stage
     → ((w : WorldState) × (Stands new.world w × Next stage.world taken (Ok did) w)) → new.batches ≡ n
-    → new.lines ≡ old.lines ++ did_text (old.batches + 1) did
+    → new.answers ≡ old.answers ++ did_answer (old.batches + 1) did
     → (after : Stage) × (IsAt new after × AnswersTo stage (Some (taken, n)) None after)
-step_done old new stage taken n did at moved count lines = (
+step_done old new stage taken n did at moved count answers = (
   after_act stage n did moved.0,
   (
     record {
       world = moved.1.0;
       batches = count;
-      lines = lines ∙ ap₂ (λ t k. t ++ did_text (k + 1) did) at.lines at.batches;
+      answers = answers ∙ ap₂ (λ t k. t ++ did_answer (k + 1) did) at.answers at.batches;
     },
     (did, moved.0, (moved.1.1, refl)),
   ),
@@ -231,42 +231,40 @@ step_done old new stage taken n did at moved count lines = (
 pub step_refused : (old new : SimulationParts) (stage : Stage) (taken : Step) (n : ℕ) (why : StepError) → IsAt old stage
     → ((w : WorldState) × (Stands new.world w × NextOver no_risks stage.world taken (Err why) w))
     → new.batches ≡ old.batches
-    → new.lines ≡ old.lines
+    → new.answers ≡ old.answers
     → (after : Stage) × (IsAt new after × AnswersTo stage (Some (taken, n)) (Some why) after)
-step_refused old new stage taken n why at moved count lines = (
+step_refused old new stage taken n why at moved count answers = (
   record stage { world = moved.0 },
   (
-    record { world = moved.1.0; batches = count ∙ at.batches; lines = lines ∙ at.lines },
+    record { world = moved.1.0; batches = count ∙ at.batches; answers = answers ∙ at.answers },
     (moved.0, (moved.1.1, refl)),
   ),
 )
 
--- a store of no risks refuses nothing
-pub unrisked : {P : Type 0} (risks : Risks) (why : StoreError) → risks ≡ no_risks → IsRisked risks why → P
-unrisked {P} risks store.ReadFault same may = let none = sym (ap (λ (r : Risks). r.faults) same) ∙ may in cc
-unrisked {P} risks store.WriteFault same may = let none = sym (ap (λ (r : Risks). r.faults) same) ∙ may in cc
-unrisked {P} risks store.BadRecord same may = let none = sym (ap (λ (r : Risks). r.faults) same) ∙ may in cc
-unrisked {P} risks store.OutOfMemory same may = let none = sym (ap (λ (r : Risks). r.memory) same) ∙ may in cc
-
 -- the text of a world, piece by piece
-pub world_text : (simulation : SimulationParts) (stage : Stage) (done all : ℕ) (refusal : Option StepError)
-    (held : Option Saved) (with_steps with_refusal with_progress bytes text : List ℕ) → IsAt simulation stage
-    → stage.done ≡ done → with_steps ≡ simulation.lines ++ steps_line done all
-    → with_refusal ≡ with_steps ++ refusal_line done refusal → held ≡ stage.world.held
-    → with_progress ≡ with_refusal ++ progress_line held → bytes ≡ with_progress
-    → text ≡ bytes ++ subscriptions_text 1 stage.world.subscriptions → text ≡ simulation_text all refusal stage
-world_text simulation stage done all refusal held with_steps with_refusal with_progress bytes text at count a b same c d
-    e =
+pub world_text : (simulated : Simulated) (stage : Stage) (all : ℕ)
+    (with_answers with_steps with_refusal with_progress bytes text : List ℕ) → IsReportOf stage simulated
+    → with_answers ≡ answered_lines simulated.answers.items
+    → with_steps ≡ with_answers ++ steps_line simulated.played.done all
+    → with_refusal ≡ with_steps ++ refusal_line simulated.played.done simulated.played.refusal
+    → with_progress ≡ with_refusal ++ progress_line simulated.held → bytes ≡ with_progress
+    → text ≡ bytes ++ subscriptions_text 1 stage.world.subscriptions
+    → text ≡ simulation_text all simulated.played.refusal stage
+world_text simulated stage all with_answers with_steps with_refusal with_progress bytes text report z a b c d e =
+    let refusal = simulated.played.refusal in
+    let lines = answered_lines stage.answers in
     let subscribers = subscriptions_text 1 stage.world.subscriptions in
     let progress = progress_line stage.world.held in
     let refused = refusal_line stage.done refusal in
     let steps = steps_line stage.done all in
-    let first : with_steps ≡ stage.lines ++ steps = a ∙ ap₂ (λ t n. t ++ steps_line n all) at.lines (sym count) in
+    let first : with_steps ≡ lines ++ steps =
+    a ∙ ap₂ (λ t n. t ++ steps_line n all) (z ∙ ap answered_lines report.answers) (sym report.done) in
     let second : with_refusal ≡ with_steps ++ refused =
-    b ∙ ap (λ n. with_steps ++ refusal_line n refusal) (sym count) in
-    let third : with_progress ≡ with_refusal ++ progress = c ∙ ap (λ p. with_refusal ++ progress_line p) same in
+    b ∙ ap (λ n. with_steps ++ refusal_line n refusal) (sym report.done) in
+    let third : with_progress ≡ with_refusal ++ progress =
+    c ∙ ap (λ p. with_refusal ++ progress_line p) report.held in
     let last : text ≡ with_progress ++ subscribers = e ∙ ap (λ t. t ++ subscribers) d in
-    pieces stage.lines with_steps text steps (refused ++ (progress ++ subscribers)) first
+    pieces lines with_steps text steps (refused ++ (progress ++ subscribers)) first
     (pieces with_steps with_refusal text refused (progress ++ subscribers) second
     (pieces with_refusal with_progress text progress subscribers third last))
 

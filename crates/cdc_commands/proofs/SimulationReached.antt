@@ -12,7 +12,9 @@ use Rattle.cdc_world.proofs.Reached.{faithful-reached}
 use Rattle.cdc_script.specs.declared.scripts.ClientBatch.{ClientBatch}
 use Rattle.cdc_script.specs.declared.scripts.Script.{Script}
 use Rattle.cdc_script.specs.declared.step_files.Act.{Act}
-use Rattle.cdc_commands.specs.Simulations.{AnswersTo, PlaysActs, Simulates, Stage, at_start, step_for, simulation_text}
+use Rattle.cdc_commands.specs.declared.simulations.Simulated.{Simulated}
+use Rattle.cdc_commands.specs.Private.Simulated.{ComesTo, IsReportOf}
+use Rattle.cdc_commands.specs.Simulations.{AnswersTo, Plan, PlaysActs, Simulates, Stage, at_start, step_for, simulation_text}
 use Rattle.cdc_commands.proofs.SimulationLemmas.{numbered_found}
 
 -- a step that is done, and those after it
@@ -66,19 +68,29 @@ all_faithful bindings window batches acts refusal end plays = λ k d inside.
     (is_reached bindings window batches acts refusal end plays)
     (numbered_found subscriptions k (get_or subscriptions k d) (slice_get-get_or subscriptions k d inside))
 
--- what is printed of the world that the acts of a script lead to
-pub simulated : (script : Script) (window : ℕ) (acts : List Act) (refusal : Option StepError) (printed : List ℕ)
+-- what is reported of the stage that the acts of a script lead to
+pub comes_to : (script : Script) (window : ℕ) (acts : List Act) (simulated : Simulated)
     (batches : List ClientBatch) (bindings : List Arguments) (end : Stage) → batches ≡ script.batches
-    → bindings ≡ script.bindings → PlaysActs batches (at_start bindings window) acts refusal end
-    → printed ≡ simulation_text (length acts) refusal end
-    → Simulates (record { script = script; window = window; acts = acts }) refusal printed
-simulated script window acts refusal printed batches bindings end whose of plays prints =
-    let of_script : PlaysActs script.batches (at_start script.bindings window) acts refusal end =
-    subst (λ (bs : List ClientBatch). PlaysActs bs (at_start script.bindings window) acts refusal end) whose
-    (subst (λ (bs : List Arguments). PlaysActs batches (at_start bs window) acts refusal end) of plays) in
+    → bindings ≡ script.bindings
+    → PlaysActs batches (at_start bindings window) acts simulated.played.refusal end → IsReportOf end simulated
+    → ComesTo (record { script = script; window = window; acts = acts }) simulated
+comes_to script window acts simulated batches bindings end whose of plays report =
+    let refusal = simulated.played.refusal in
     record {
       end = end;
-      plays = of_script;
-      prints = prints;
-      faithful = all_faithful script.bindings window script.batches acts refusal end of_script;
+      plays = subst (λ (bs : List ClientBatch). PlaysActs bs (at_start script.bindings window) acts refusal end) whose
+          (subst (λ (bs : List Arguments). PlaysActs batches (at_start bs window) acts refusal end) of plays);
+      report = report;
     }
+
+-- what is printed of it
+pub simulates : (plan : Plan) (simulated : Simulated) (printed : List ℕ) → (come : ComesTo plan simulated)
+    → printed ≡ simulation_text (length plan.acts) simulated.played.refusal come.end
+    → Simulates plan simulated.played.refusal printed
+simulates plan simulated printed come prints = record {
+  end = come.end;
+  plays = come.plays;
+  prints = prints;
+  faithful = all_faithful plan.script.bindings plan.window plan.script.batches plan.acts simulated.played.refusal
+      come.end come.plays;
+}

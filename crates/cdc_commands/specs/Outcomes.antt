@@ -1,5 +1,5 @@
 -- What a command makes of what it reads, and what it writes of that.
-use Rattle.std.specs.Prelude.{◌≡◌, ◌⊎◌, ℕ, List, Option, IfSome}
+use Rattle.std.specs.Prelude.{◌≡◌, ◌⊎◌, ℕ, List, Option, Some, None, IfSome}
 use Rattle.std.specs.Io.KnownBytes.{Appends}
 use Rattle.cdc_commands.specs.declared.endings.Ending.{Ending}
 use Rattle.cdc_commands.specs.declared.endings.Ending.TheVariants.{Done, Failed, Refused, BadScript, BadSteps, BadWords}
@@ -7,6 +7,7 @@ use Rattle.cdc_commands.specs.declared.faults.ProgramFault.{ProgramFault}
 use Rattle.cdc_commands.specs.declared.faults.ProgramFault.TheVariants as fault
 use Rattle.cdc_commands.specs.declared.output.Output.{Output}
 use Rattle.cdc_commands.specs.Report.{program_fault_line}
+use Rattle.cdc_world.specs.declared.steps.StepError.{StepError}
 
 -- the exit status of a command that ends so
 abbrev pub status_of : Ending → ℕ
@@ -16,6 +17,11 @@ status_of (Refused why) = 1
 status_of (BadScript at) = 2
 status_of (BadSteps at) = 2
 status_of BadWords = 2
+
+-- how a simulation ends, one of whose steps was refused for this reason, or none
+abbrev pub refusal_ending : Option StepError → Ending
+refusal_ending None = Done
+refusal_ending (Some why) = Refused why
 
 -- what is printed, and how the command ends
 pub record Outcome : Type 0 where

@@ -7,6 +7,7 @@ use Rattle.cdc_ledger.specs.declared.errors.BatchError.{BatchError}
 use Rattle.cdc_ledger.specs.Events.{events}
 use Rattle.cdc_ledger.specs.History.{History, empty_history}
 use Rattle.cdc_ledger.specs.Submit.{submit, history_or, after_batches}
+use Rattle.cdc_commands.specs.declared.batches.Answered.{Answered}
 use Rattle.cdc_commands.specs.declared.endings.Ending.TheVariants.{Done, BadScript}
 use Rattle.cdc_script.specs.declared.faults.ScriptFault.{ScriptFault}
 use Rattle.cdc_script.specs.declared.scripts.ClientBatch.{ClientBatch}
@@ -22,6 +23,13 @@ use Rattle.cdc_script.specs.Scripts.{script_of}
 abbrev pub answer : Result (BatchResults × History) BatchError → Result BatchResults BatchError
 answer (Ok answered) = Ok answered.0
 answer (Err e) = Err e
+
+-- what the ledger answers to batches that are handed in one after another, the first having this number
+abbrev pub answers_to : ℕ → History → List ClientBatch → List Answered
+answers_to n h [] = []
+answers_to n h (b ∷ rest) =
+    record { number = n; answer = answer (submit h b.batch) }
+    ∷ answers_to (n + 1) (history_or h (submit h b.batch)) rest
 
 -- the lines of batches that are handed in one after another, the first having this number
 abbrev pub batch_lines : ℕ → History → List ClientBatch → List ℕ

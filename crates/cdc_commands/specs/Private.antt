@@ -1,4 +1,5 @@
 -- What the contracts of private functions alone cite: a reader has to believe none of it.
 pub mod Outcomes
 pub mod Queues
+pub mod Simulated
 pub mod Stages

@@ -6,6 +6,7 @@ use Rattle.cdc_types.specs.declared.batches.BatchResults.TheVariants as results
 use Rattle.cdc_types.specs.Results.{account_number, transfer_number}
 use Rattle.cdc_ledger.specs.declared.errors.BatchError.{BatchError}
 use Rattle.cdc_ledger.specs.BatchErrors.{batch_error_number, batch_error_name}
+use Rattle.cdc_commands.specs.declared.batches.Answered.{Answered}
 use Rattle.cdc_commands.specs.declared.endings.Ending.{Ending}
 use Rattle.cdc_commands.specs.declared.endings.Ending.TheVariants.{BadScript, BadSteps}
 use Rattle.cdc_commands.specs.declared.faults.ProgramFault.{ProgramFault}
@@ -24,6 +25,10 @@ answer_text (Err e) = codes " refused:" ++ (spaced (batch_error_number e) ++ (co
 -- the line of the batch of this number, from 1
 abbrev pub batch_line : ℕ → Result BatchResults BatchError → List ℕ
 batch_line number answer = codes "batch " ++ (decimal number ++ (answer_text answer ++ codes "\n"))
+
+-- the lines of batches
+abbrev pub answered_lines : List Answered → List ℕ
+answered_lines answers = flat_map (λ a. batch_line a.number a.answer) answers
 
 -- the line of a bad script
 abbrev pub script_fault_line : ScriptFault → List ℕ

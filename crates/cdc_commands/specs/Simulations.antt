@@ -20,40 +20,41 @@ use Rattle.cdc_script.specs.declared.scripts.ClientBatch.{ClientBatch}
 use Rattle.cdc_script.specs.declared.scripts.Script.{Script}
 use Rattle.cdc_script.specs.declared.step_files.Act.{Act}
 use Rattle.cdc_script.specs.declared.step_files.Act.TheVariants as act
-use Rattle.cdc_commands.specs.Report.{batch_line}
+use Rattle.cdc_commands.specs.Report.{answered_lines}
+use Rattle.cdc_commands.specs.declared.batches.Answered.{Answered}
 use Rattle.cdc_subscriber.specs.Lines.{spaced}
 
--- how far a simulation has come: the world, how many of the script's batches are done, their lines, and how many acts
--- are done
+-- how far a simulation has come: the world, how many of the script's batches are done, what the ledger answered to
+-- batches, and how many acts are done
 pub record Stage : Type 0 where
   pub world : WorldState
   pub batches : ℕ
-  pub lines : List ℕ
+  pub answers : List Answered
   pub done : ℕ
 
 -- the stage before the first act
 abbrev pub at_start : List Arguments → ℕ → Stage
-at_start bindings window = record { world = new_world bindings window None; batches = 0; lines = []; done = 0 }
+at_start bindings window = record { world = new_world bindings window None; batches = 0; answers = []; done = 0 }
 
 -- the step that an act asks for, and how many batches are done after it; `batch` asks for the next one, if one is left
 abbrev pub step_for : List ClientBatch → ℕ → Act → Option (Step × ℕ)
 step_for batches n act.Batch = option_map (λ b. (step.Submit b.batch, n + 1)) (slice_get batches n)
 step_for batches n (act.Step said) = Some (said, n)
 
--- what is printed of a step that is done: the line of its batch, where it is one
-abbrev pub did_text : ℕ → Did → List ℕ
-did_text number (Submitted results) = batch_line number (Ok results)
-did_text number (Arrived taken) = []
-did_text number (Counted counted) = []
-did_text number (Took taking) = []
-did_text number Done = []
+-- what the ledger answered in a step that is done: the results of the batch of this number, where it is one
+abbrev pub did_answer : ℕ → Did → List Answered
+did_answer number (Submitted results) = record { number = number; answer = Ok results } ∷ []
+did_answer number (Arrived taken) = []
+did_answer number (Counted counted) = []
+did_answer number (Took taking) = []
+did_answer number Done = []
 
 -- the stage after an act that is done, which leaves so many batches done and this world
 abbrev pub after_act : Stage → ℕ → Did → WorldState → Stage
 after_act before batches did w = record {
   world = w;
   batches = batches;
-  lines = before.lines ++ did_text (before.batches + 1) did;
+  answers = before.answers ++ did_answer (before.batches + 1) did;
   done = before.done + 1;
 }
 
@@ -102,7 +103,7 @@ subscriptions_text n (s ∷ rest) = subscriber_text n (kept_of s.heard) ++ subsc
 -- what is printed of a simulation that came to this stage, of so many acts
 abbrev pub simulation_text : ℕ → Option StepError → Stage → List ℕ
 simulation_text all refusal end =
-    end.lines ++ (steps_line end.done all ++ (refusal_line end.done refusal
+    answered_lines end.answers ++ (steps_line end.done all ++ (refusal_line end.done refusal
     ++ (progress_line end.world.held ++ subscriptions_text 1 end.world.subscriptions)))
 
 -- what is simulated: a script, the window of its sessions, and the acts

@@ -1,55 +1,64 @@
 //! The batches of a script, handed to a ledger.
 
-ghost use Rattle.std.specs.Prelude.{◌≡◌, ◌++◌, ◌<◌, IfOk, OnErr, OnOk, length, string_bytes};
+ghost use Rattle.std.specs.Prelude.{◌≡◌, ◌++◌, ◌<◌, IfOk, OnErr, OnOk, length};
 ghost use Rattle.cdc_ledger.specs.History.{empty_history};
 ghost use Rattle.cdc_ledger.specs.Submit.{submit, history_or};
-ghost use Rattle.cdc_commands.specs.Printed.{answer, batch_lines, history_after, history_of};
+ghost use Rattle.cdc_commands.specs.Printed.{answer, answers_to, history_after, history_of};
 
-use crate::report::push_batch;
 use cdc_ledger::{BatchError, Ledger};
 use cdc_script::{ClientBatch, Script};
 use cdc_types::{Batch, BatchResults};
 use std::alloc::{AllocError, Global};
+
+/// What the ledger answered to a batch.
+#[derive(Drop)]
+pub struct Answered {
+    /// The number of the batch, from 1.
+    pub number: u64,
+    /// Its results, or why the ledger refused it.
+    pub answer: Result<BatchResults, BatchError>,
+}
 
 /// A ledger that has taken the batches of a script, and is closed after them.
 #[derive(Drop)]
 pub struct Taken {
     /// The ledger.
     pub ledger: Ledger,
-    /// A line for each batch: its results, or why the ledger refused it.
-    pub lines: String,
+    /// What it answered to each batch.
+    pub answers: Vec<Answered>,
 }
 
 /// Hands the batches of a script to a ledger, in the order of their lines, and closes it. Without a batch that takes no
 /// memory.
 pub fn take_batches(alloc: Global, script: &Script) -> Result<Taken, AllocError>
     ensures ledger { IfOk result (λ taken. taken.ledger ≡ history_of script.now) }
-    ensures lines { IfOk result (λ taken. string_bytes taken.lines
-        ≡ batch_lines 1 empty_history script.now.batches) }
+    ensures answers { IfOk result (λ taken. taken.answers.items
+        ≡ answers_to 1 empty_history script.now.batches) }
     ensures memory { OnErr result (0 < length script.now.batches) }
 {
     let mut ledger = Ledger::new(alloc);
-    let mut lines = String::new(alloc);
-    push_batches(alloc, &mut ledger, &mut lines, script.batches.as_slice())?;
+    let mut answers = Vec::new(alloc);
+    push_batches(alloc, &mut ledger, &mut answers, script.batches.as_slice())?;
     ledger.close();
-    Ok(Taken { ledger, lines })
+    Ok(Taken { ledger, answers })
 }
 
-/// Hands batches to a ledger, in order, and adds a line for what it answers to each.
+/// Hands batches to a ledger, in order, and adds what it answers to each.
 fn push_batches(
     alloc: Global,
     ledger: &mut Ledger,
-    lines: &mut String,
+    answers: &mut Vec<Answered>,
     batches: &[ClientBatch],
 ) -> Result<(), AllocError>
-    ensures lines { OnOk result (string_bytes lines.new ≡
-        string_bytes lines.old ++ batch_lines 1 ledger.old batches.now) }
+    ensures answers { OnOk result (answers.new.items
+        ≡ answers.old.items ++ answers_to 1 ledger.old batches.now) }
     ensures history { OnOk result (ledger.new ≡ history_after ledger.old batches.now) }
     ensures memory { OnErr result (0 < length batches.now) }
 {
     for (place, item) in batches.iter().enumerate() {
         let answer = hand_in(alloc, ledger, &item.batch)?;
-        push_batch(lines, place as u64 + 1, &answer)?;
+        let number = place as u64 + 1;
+        answers.push(Answered { number, answer })?;
     }
     Ok(())
 }

@@ -63,6 +63,9 @@ pub fn check_files<R: Read, Q: Read, W: Write>(
 ) -> Ending
     ensures writes { Writes (CheckPrints (R.remaining script.old) (Q.remaining steps.old))
         (W.contents writer.old) (W.contents writer.new) result }
+    ensures script { ConsumesAtMost (max_bytes + 1)
+        (R.remaining script.old) (R.remaining script.new) }
+    ensures steps { ConsumesAtMost (max_bytes + 1) (Q.remaining steps.old) (Q.remaining steps.new) }
 {
     print_output(writer, judge_files(alloc, script, steps))
 }
@@ -76,6 +79,9 @@ fn judge_files<R: Read, Q: Read>(
     ensures output { IfOk result (λ output. CheckPrints
         (R.remaining script.old) (Q.remaining steps.old) output.ending output.text.items) }
     ensures fault { IfErr result MayFailScript }
+    ensures script { ConsumesAtMost (max_bytes + 1)
+        (R.remaining script.old) (R.remaining script.new) }
+    ensures steps { ConsumesAtMost (max_bytes + 1) (Q.remaining steps.old) (Q.remaining steps.new) }
 {
     let text = read_text(alloc, script)?;
     match parse_script(alloc, &text) {
@@ -91,6 +97,7 @@ fn judge_steps<Q: Read>(alloc: Global, steps: &mut Q) -> Result<Output, ProgramF
         → IfOk result (λ output. CheckPrints
         script (Q.remaining steps.old) output.ending output.text.items) }
     ensures fault { IfErr result MayFailScript }
+    ensures steps { ConsumesAtMost (max_bytes + 1) (Q.remaining steps.old) (Q.remaining steps.new) }
 {
     let text = read_text(alloc, steps)?;
     match parse_steps(alloc, &text) {

@@ -1,7 +1,7 @@
 //! How a command ends.
 
 ghost use Rattle.std.specs.Prelude.{◌≡◌};
-ghost use Rattle.cdc_commands.specs.Outcomes.{status_of};
+ghost use Rattle.cdc_commands.specs.Outcomes.{refusal_ending, status_of};
 
 use crate::faults::ProgramFault;
 use cdc_script::ScriptFault;
@@ -25,6 +25,16 @@ pub enum Ending {
 }
 
 impl Ending {
+    /// How a simulation ends, one of whose steps was refused for this reason, or none.
+    pub fn of_refusal(refusal: Option<StepError>) -> Ending
+        ensures { result ≡ refusal_ending refusal }
+    {
+        match refusal {
+            None => Ending::Done,
+            Some(why) => Ending::Refused(why),
+        }
+    }
+
     /// The exit status of the program.
     pub fn status(self) -> u8
         ensures { result ≡ status_of self }

@@ -69,7 +69,7 @@ pub fn push_subscribers(
 }
 
 /// The subscriber that takes a queue of a broker, from its first item to its last.
-fn take_queue(alloc: Global, broker: &mut Broker, i: usize) -> Result<Subscriber, AllocError>
+pub fn take_queue(alloc: Global, broker: &mut Broker, i: usize) -> Result<Subscriber, AllocError>
     requires first { 0 < i }
     requires last { i ≤ length broker.old.queues }
     requires untaken { IsUntaken (queue_of broker.old i) }

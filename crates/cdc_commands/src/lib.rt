@@ -15,9 +15,12 @@ pub mod simulate;
 mod simulation_report;
 mod simulations;
 
+pub use batches::{Answered, Taken, take_batches};
+pub use books::{BooksReport, books_report};
 pub use endings::Ending;
 pub use faults::ProgramFault;
-pub use feeding::print_subscriber;
+pub use feeding::{print_subscriber, take_queue};
 pub use output::{Output, file_fault, print_fault, print_output, print_text};
 pub use report::push_batch;
 pub use simulate::simulate_command;
+pub use simulations::{Simulated, play_script};

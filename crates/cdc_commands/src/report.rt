@@ -5,8 +5,9 @@ ghost use Rattle.std.specs.List.{flat_map};
 ghost use Rattle.cdc_types.specs.Results.{account_number, transfer_number};
 ghost use Rattle.cdc_script.specs.Faults.{kind_name};
 ghost use Rattle.cdc_subscriber.specs.Lines.{spaced};
-ghost use Rattle.cdc_commands.specs.Report.{answer_text, batch_line, file_fault_line};
+ghost use Rattle.cdc_commands.specs.Report.{answer_text, answered_lines, batch_line, file_fault_line};
 
+use crate::batches::Answered;
 use crate::endings::Ending;
 use cdc_ledger::BatchError;
 use cdc_script::ScriptFault;
@@ -29,6 +30,17 @@ pub fn push_spaced<I: Integer>(text: &mut String, number: I) -> Result<(), Alloc
 {
     text.push_str(" ")?;
     push_number(text, number)
+}
+
+/// The lines of batches.
+pub fn push_answers(text: &mut String, answers: &[Answered]) -> Result<(), AllocError>
+    ensures { OnOk result (string_bytes text.new ≡
+        string_bytes text.old ++ answered_lines answers.now) }
+{
+    for answered in answers {
+        push_batch(text, answered.number, &answered.answer)?;
+    }
+    Ok(())
 }
 
 /// The line of a batch: its number from 1, and what the ledger answered.

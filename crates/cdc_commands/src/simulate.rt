@@ -11,7 +11,8 @@ ghost use Rattle.cdc_commands.specs.Simulated.{SimulationPrints};
 use crate::endings::Ending;
 use crate::faults::ProgramFault;
 use crate::output::{Output, file_fault, print_output};
-use crate::simulations::{Simulated, play_script};
+use crate::simulation_report::print_simulated;
+use crate::simulations::play_script;
 use cdc_script::{ReadError, Script, ScriptError, parse_script, parse_steps, read_text};
 use std::alloc::Global;
 use std::io::{Read, Write};
@@ -58,12 +59,11 @@ fn script_simulation(
         Err(ScriptError::Fault(fault)) => return Ok(file_fault(alloc, Ending::BadSteps(fault))?),
         Err(ScriptError::OutOfMemory) => return Err(ProgramFault::OutOfMemory),
     };
-    let Simulated { text, refusal } = play_script(alloc, script, window, acts.as_slice())?;
-    let ending = match refusal {
-        None => Ending::Done,
-        Some(refusal) => Ending::Refused(refusal),
-    };
-    Ok(Output { text, ending })
+    let simulated = play_script(alloc, script, window, acts.as_slice())?;
+    Ok(Output {
+        text: print_simulated(alloc, &simulated, acts.len())?,
+        ending: Ending::of_refusal(simulated.played.refusal),
+    })
 }
 
 /// Reads a script and then a step file, and prints what `simulation_of` says of their bytes. A command that gives up

@@ -1,29 +1,41 @@
 //! What `simulate` prints: the lines of batches, of the steps, of the saved progress and of the subscribers.
 
-ghost use Rattle.std.specs.Prelude.{◌≡◌, ◌++◌, ◌^◌, ◌<◌, OnOk, string_bytes};
-ghost use Rattle.cdc_commands.specs.Simulations.{did_text, progress_line, refusal_line, steps_line};
+ghost use Rattle.std.specs.Prelude.{◌≡◌, ◌++◌, ◌^◌, ◌<◌, IfOk, OnOk, string_bytes};
+ghost use Rattle.cdc_commands.specs.Private.Simulated.{IsReportOf};
+ghost use Rattle.cdc_commands.specs.Simulations.{Stage, progress_line, refusal_line, simulation_text, steps_line};
 ghost use Rattle.cdc_commands.specs.Simulations.{subscriptions_text};
 ghost use Rattle.cdc_world.specs.Stands.{Stands};
 ghost use Rattle.cdc_world.specs.Worlds.{WorldState};
 
 use crate::feeding::print_subscriber;
-use crate::report::{push_batch, push_line_end, push_spaced};
+use crate::report::{push_answers, push_line_end, push_spaced};
+use crate::simulations::Simulated;
 use cdc_progress::{MemoryStore, Progress};
-use cdc_world::{Did, Played, World};
-use std::alloc::AllocError;
+use cdc_world::{Played, World};
+use std::alloc::{AllocError, Global};
 
-/// The line of a batch that a step has done, if it was one; the batch has this number.
-pub fn push_did(text: &mut String, number: u64, did: Did) -> Result<(), AllocError>
-    ensures { OnOk result (string_bytes text.new ≡ string_bytes text.old ++ did_text number did) }
+/// What is printed of a simulation of so many acts.
+pub fn print_simulated(
+    alloc: Global,
+    simulated: &Simulated,
+    all: usize,
+) -> Result<Vec<u8>, AllocError>
+    requires { simulated.now.played.done < 2 ^ 63 }
+    ensures { (end : Stage) → IsReportOf end simulated.now → IfOk result (λ text. text.items
+        ≡ simulation_text all simulated.now.played.refusal end) }
 {
-    match did {
-        Did::Submitted(results) => push_batch(text, number, &Ok(results)),
-        Did::Arrived(_) | Did::Counted(_) | Did::Took(_) | Did::Done => Ok(()),
-    }
+    let mut text = String::new(alloc);
+    push_answers(&mut text, simulated.answers.as_slice())?;
+    push_steps(&mut text, simulated.played.done, all)?;
+    push_refusal(&mut text, simulated.played)?;
+    push_progress(&mut text, simulated.held)?;
+    let mut bytes = text.into_bytes();
+    push_subscriptions(&mut bytes, &simulated.world)?;
+    Ok(bytes)
 }
 
 /// How many of all steps are done.
-pub fn push_steps(text: &mut String, done: usize, all: usize) -> Result<(), AllocError>
+fn push_steps(text: &mut String, done: usize, all: usize) -> Result<(), AllocError>
     ensures { OnOk result (string_bytes text.new ≡ string_bytes text.old ++ steps_line done all) }
 {
     text.push_str("steps")?;
@@ -34,7 +46,7 @@ pub fn push_steps(text: &mut String, done: usize, all: usize) -> Result<(), Allo
 }
 
 /// The line of the step that was refused, if one was.
-pub fn push_refusal(text: &mut String, played: Played) -> Result<(), AllocError>
+fn push_refusal(text: &mut String, played: Played) -> Result<(), AllocError>
     requires { played.done < 2 ^ 63 }
     ensures { OnOk result (string_bytes text.new ≡
         string_bytes text.old ++ refusal_line played.done played.refusal) }
@@ -49,7 +61,7 @@ pub fn push_refusal(text: &mut String, played: Played) -> Result<(), AllocError>
 }
 
 /// The line of what the store holds.
-pub fn push_progress(text: &mut String, held: Option<Progress>) -> Result<(), AllocError>
+fn push_progress(text: &mut String, held: Option<Progress>) -> Result<(), AllocError>
     ensures { OnOk result (string_bytes text.new ≡ string_bytes text.old ++ progress_line held) }
 {
     let Some(progress) = held else {
@@ -62,7 +74,7 @@ pub fn push_progress(text: &mut String, held: Option<Progress>) -> Result<(), Al
 }
 
 /// The lines of the subscribers of a world.
-pub fn push_subscriptions(text: &mut Vec<u8>, world: &World<MemoryStore>) -> Result<(), AllocError>
+fn push_subscriptions(text: &mut Vec<u8>, world: &World<MemoryStore>) -> Result<(), AllocError>
     ensures { (w : WorldState) → Stands world.now w
         → OnOk result (text.new.items ≡ text.old.items ++ subscriptions_text 1 w.subscriptions) }
 {

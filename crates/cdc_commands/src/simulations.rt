@@ -1,49 +1,52 @@
 //! Simulations: a world over the batches of a script, moved by the acts of a step file.
 
-ghost use Rattle.std.specs.Prelude.{◌≡◌, ◌^◌, ◌<◌, ◌≤◌, ◌+◌, ℕ, List, false, IfErr, IfOk};
+ghost use Rattle.std.specs.Prelude.{◌≡◌, ◌^◌, ◌<◌, ◌≤◌, ◌+◌, ◌++◌, ℕ, List, false, IfErr, IfOk};
 ghost use Rattle.std.specs.Prelude.{OnErr, OnOk, Some, drop, if◌then◌else◌, is_some, length};
 ghost use Rattle.std.specs.Vec.Iter.{into_iter_items};
 ghost use Rattle.cdc_script.specs.declared.scripts.ClientBatch.{ClientBatch as Said};
 ghost use Rattle.cdc_types.specs.Windows.{IsWindow};
 ghost use Rattle.cdc_commands.specs.Private.Stages.{GivesUpAt, HasDoneAt, IsAt, IsSimulationFault};
-ghost use Rattle.cdc_commands.specs.Simulations.{ActsTo, AnswersTo, PlaysActs, Simulates, Stage};
-ghost use Rattle.cdc_commands.specs.Simulations.{at_start, simulation_text};
+ghost use Rattle.cdc_commands.specs.Private.Simulated.{ComesTo, IsReportOf};
+ghost use Rattle.cdc_commands.specs.Simulations.{ActsTo, AnswersTo, PlaysActs, Stage};
+ghost use Rattle.cdc_commands.specs.Simulations.{at_start, did_answer};
 
+use crate::batches::Answered;
 use crate::faults::ProgramFault;
-use crate::simulation_report::{
-    push_did, push_progress, push_refusal, push_steps, push_subscriptions,
-};
 use cdc_match::Binding;
-use cdc_progress::MemoryStore;
+use cdc_progress::{MemoryStore, Progress};
 use cdc_script::{Act, ClientBatch, Script};
-use cdc_world::{Played, Step, StepError, World};
+use cdc_world::{Did, Played, Step, StepError, World};
 use std::alloc::{AllocError, Global};
 use std::marker::Model;
 use std::vec::IntoIter;
 
-/// What is printed of a simulation, and why a step was refused, if one was.
+/// What a simulation came to.
 #[derive(Drop)]
 pub struct Simulated {
-    /// The whole text.
-    pub text: Vec<u8>,
-    /// Why the step behind those that were done was refused.
-    pub refusal: Option<StepError>,
+    /// What the ledger answered to each batch that was taken.
+    pub answers: Vec<Answered>,
+    /// How many steps were done, and why the one behind them was refused, if it was.
+    pub played: Played,
+    /// What the store holds.
+    pub held: Option<Progress>,
+    /// The world, with its subscribers.
+    pub world: World<MemoryStore>,
 }
 
 /// A world on its way, whose store is honest, lacks no memory and has no faults. A clause sees the world, how many
-/// batches are done, and the lines' bytes.
+/// batches are done, and what the ledger answered.
 #[derive(Drop)]
 pub struct Simulation {
     /// The world.
     world: World<MemoryStore>,
     /// How many of the script's batches are done.
     batches: usize,
-    /// A line for each of them.
-    lines: String,
+    /// What the ledger answered to each of them.
+    answers: Vec<Answered>,
 }
 
 impl Model for Simulation {
-    ghost use Rattle.std.specs.Prelude.{◌≡◌, true, string_bytes};
+    ghost use Rattle.std.specs.Prelude.{◌≡◌, true};
     ghost use Rattle.cdc_commands.specs.Private.Stages.{SimulationParts};
 
     ghost Value = { SimulationParts };
@@ -51,7 +54,7 @@ impl Model for Simulation {
     ghost view = { λ simulation. record {
       world = simulation.world;
       batches = simulation.batches;
-      lines = string_bytes simulation.lines;
+      answers = simulation.answers.items;
     } };
 
     ghost use Rattle.cdc_progress.specs.Stores.{no_risks};
@@ -60,7 +63,7 @@ impl Model for Simulation {
         × (simulation.world.risks ≡ no_risks) };
 }
 
-/// What is printed of a script that is taken step by step.
+/// What a script that is taken step by step comes to.
 pub fn play_script(
     alloc: Global,
     script: Script,
@@ -68,19 +71,15 @@ pub fn play_script(
     acts: &[Act],
 ) -> Result<Simulated, ProgramFault>
     requires { IsWindow window }
-    ensures prints { IfOk result (λ simulated. Simulates
-        (record { script = script; window = window; acts = acts.now })
-        simulated.refusal simulated.text.items) }
+    ensures comes { IfOk result (λ simulated. ComesTo
+        (record { script = script; window = window; acts = acts.now }) simulated) }
+    ensures count { IfOk result (λ simulated. simulated.played.done ≤ length acts.now) }
     ensures fault { IfErr result IsSimulationFault }
 {
     let Script { bindings, batches } = script;
     let mut simulation = Simulation::new(alloc, bindings.into_vec(), window)?;
     let played = simulation.play(alloc, batches.into_vec(), acts)?;
-    let text = simulation.into_text(played, acts.len())?;
-    Ok(Simulated {
-        text,
-        refusal: played.refusal,
-    })
+    simulation.finish(played)
 }
 
 impl Simulation {
@@ -94,7 +93,7 @@ impl Simulation {
         Ok(Simulation {
             world: World::new(alloc, bindings, window, MemoryStore::new())?,
             batches: 0,
-            lines: String::new(alloc),
+            answers: Vec::new(alloc),
         })
     }
 
@@ -184,7 +183,7 @@ impl Simulation {
     {
         match self.world.step(alloc, step) {
             Ok(did) => {
-                push_did(&mut self.lines, self.batches as u64 + 1, did)?;
+                push_answer(&mut self.answers, self.batches as u64 + 1, did)?;
                 self.batches = batches_done;
                 Ok(None)
             }
@@ -192,23 +191,38 @@ impl Simulation {
         }
     }
 
-    /// What is printed of the world, once so many acts of all are played.
-    fn into_text(self, played: Played, all: usize) -> Result<Vec<u8>, ProgramFault>
-        requires few { played.done < 2 ^ 63 }
-        ensures text { (stage : Stage) → IsAt self stage → stage.done ≡ played.done
-            → IfOk result (λ text. text.items ≡ simulation_text all played.refusal stage) }
+    /// What the simulation came to, once so many acts are played.
+    fn finish(self, played: Played) -> Result<Simulated, ProgramFault>
+        ensures stage { (stage : Stage) → IsAt self stage → stage.done ≡ played.done
+            → IfOk result (λ simulated. (simulated.played ≡ played) × IsReportOf stage simulated) }
+        ensures played { IfOk result (λ simulated. simulated.played ≡ played) }
         ensures fault { IfErr result IsSimulationFault }
     {
         let Simulation {
             mut world,
             batches: _,
-            lines: mut text,
+            answers,
         } = self;
-        push_steps(&mut text, played.done, all)?;
-        push_refusal(&mut text, played)?;
-        push_progress(&mut text, world.progress()?)?;
-        let mut bytes = text.into_bytes();
-        push_subscriptions(&mut bytes, &world)?;
-        Ok(bytes)
+        let held = world.progress()?;
+        Ok(Simulated {
+            answers,
+            played,
+            held,
+            world,
+        })
+    }
+}
+
+/// Adds what the ledger answered in a step that was done, if it was a batch; the batch has this number.
+fn push_answer(answers: &mut Vec<Answered>, number: u64, did: Did) -> Result<(), AllocError>
+    ensures { OnOk result (answers.new.items ≡ answers.old.items ++ did_answer number did) }
+{
+    match did {
+        Did::Submitted(results) => {
+            let answer = Ok(results);
+            answers.push(Answered { number, answer })?;
+            Ok(())
+        }
+        Did::Arrived(_) | Did::Counted(_) | Did::Took(_) | Did::Done => Ok(()),
     }
 }

@@ -3,6 +3,7 @@
 
 #[cfg(test)]
 mod bindings;
+pub mod bodies;
 #[cfg(test)]
 mod expiry;
 #[cfg(test)]

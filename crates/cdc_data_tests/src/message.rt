@@ -1,3 +1,4 @@
+use crate::bodies::FIRST;
 use cdc_message::{
     DecodeError, Delivery, Field, FieldName, Item, Message, Packet, Part, decode, encode,
     properties_of, replay_laws,
@@ -5,10 +6,6 @@ use cdc_message::{
 use cdc_types::{Event, EventAccount, EventKind, EventTransfer};
 use std::alloc::{AllocError, Global};
 use std::test::Fail;
-
-// The body of `first_event`.
-const BODY: &str =
-    "{\"credit_account\":{\"code\":10,\"credits_pending\":\"0\",\"credits_posted\":\"100\",\"debits_pending\":\"0\",\"debits_posted\":\"0\",\"flags\":0,\"id\":\"2\",\"timestamp\":\"1001\",\"user_data_128\":\"0\",\"user_data_32\":0,\"user_data_64\":\"0\"},\"debit_account\":{\"code\":10,\"credits_pending\":\"0\",\"credits_posted\":\"0\",\"debits_pending\":\"0\",\"debits_posted\":\"100\",\"flags\":0,\"id\":\"1\",\"timestamp\":\"1000\",\"user_data_128\":\"0\",\"user_data_32\":0,\"user_data_64\":\"0\"},\"ledger\":700,\"timestamp\":\"2000\",\"transfer\":{\"amount\":\"100\",\"code\":1,\"flags\":0,\"id\":\"1\",\"pending_id\":\"0\",\"timeout\":0,\"timestamp\":\"2000\",\"user_data_128\":\"0\",\"user_data_32\":0,\"user_data_64\":\"0\"},\"type\":\"single_phase\"}";
 
 // The same with the members in the order in which they are checked.
 pub const IN_ORDER: &str =
@@ -75,10 +72,10 @@ fn read_changed(
     Ok(decode(alloc, text.as_bytes()))
 }
 
-// The body of an event of this kind is `BODY` with the kind's name.
+// The body of an event of this kind is `FIRST` with the kind's name.
 fn is_written(alloc: Global, kind: EventKind, name: &str) -> Result<bool, AllocError> {
     let text = encode(alloc, &first_event(kind))?;
-    let expected = BODY.replace(alloc, "single_phase", name)?;
+    let expected = FIRST.replace(alloc, "single_phase", name)?;
     Ok(text.as_str() == expected.as_str())
 }
 
@@ -87,7 +84,7 @@ fn each_kind_is_written_and_read(rt: HostRuntime) -> Result<(), Fail> {
     let alloc = rt.alloc();
     for (kind, name) in KINDS {
         assert!(rt; is_written(alloc, kind, name)?);
-        for text in [BODY, IN_ORDER] {
+        for text in [FIRST, IN_ORDER] {
             let read = read_changed(alloc, text, "single_phase", name)?;
             assert_eq!(rt; read, Ok(first_event(kind)));
         }
@@ -115,7 +112,7 @@ fn writers_may_differ(rt: HostRuntime) -> Result<(), Fail> {
 #[test]
 fn a_mebibyte_of_spaces_is_no_matter(rt: HostRuntime) -> Result<(), Fail> {
     let alloc = rt.alloc();
-    let mut text = String::from_str(alloc, BODY)?;
+    let mut text = String::from_str(alloc, FIRST)?;
     for _ in 0..16_384 {
         text.push_str("                                                                \n")?;
     }
@@ -205,9 +202,9 @@ fn other_texts_are_no_body(rt: HostRuntime) -> Result<(), Fail> {
     for (text, error) in texts {
         assert_eq!(rt; decode(alloc, text), Err(error));
     }
-    for end in 0..BODY.len() {
+    for end in 0..FIRST.len() {
         assert_eq!(rt;
-            decode(alloc, &BODY.as_bytes()[..end]),
+            decode(alloc, &FIRST.as_bytes()[..end]),
             Err(DecodeError::NotJson)
         );
     }
@@ -308,7 +305,7 @@ fn a_body_that_was_written_and_spoilt_is_refused(rt: HostRuntime) -> Result<(), 
         ("single_phase", "single_phas", DecodeError::UnknownKind),
     ];
     for (from, to, error) in changes {
-        let read = read_changed(alloc, BODY, from, to)?;
+        let read = read_changed(alloc, FIRST, from, to)?;
         assert_eq!(rt; read, Err(error), "{to}");
     }
     Ok(())

@@ -1,6 +1,6 @@
 -- How far a connector has come where a part of its turn fails.
 use Rattle.std.proofs.Common.{◌≡◌, ℕ, ◌+◌, true, false, List, [], ◌∷◌, inl, inr, refl, sym, ap, ◌∙◌, subst, length, arith}
-use Rattle.std.specs.Prelude.{◌⊎◌, IsTrue, is_some, Bool, Option, Some, None}
+use Rattle.std.specs.Prelude.{◌⊎◌, IsTrue, Bool, Option, Some, None}
 use Rattle.std.proofs.lemmas.List.{length-append}
 use Rattle.cdc_ends.specs.ConnectorEnds.{HasSent, IsAtStart, IsOfSame, IsPublishing, Publishing, SessionStands, confirms_in, connector_of, origin_of}
 use Rattle.cdc_ends.specs.ConnectorFails.{IsAnswerFailed, IsConfirmFailed, IsCutShort, IsHeldOrNext, IsNotBegun, IsSaveRisked, IsUnfinished, IsUnsaved, IsUnsent}
@@ -16,7 +16,7 @@ use Rattle.cdc_ends.proofs.ConnectorTurns.{GoesOn-same, GoesOn-trans, same_of, s
 use Rattle.cdc_laws.specs.Connectors.{ConnectorState, KeepsTo}
 use Rattle.cdc_laws.specs.Readings.{AreReadings, KeepsToReadings}
 use Rattle.cdc_laws.proofs.Connectors.{KeepsTo-confirm, KeepsTo-end, KeepsTo-half_started}
-use Rattle.cdc_links.specs.Links.{Incoming, Outgoing, Takes, of_sender, with_sent as with_message}
+use Rattle.cdc_links.specs.Links.{Incoming, Takes, of_sender, with_sent as with_message}
 use Rattle.cdc_message.specs.declared.packets.Answer.{Answer}
 use Rattle.cdc_message.specs.declared.packets.Answer.TheVariants.{Connected, Confirmed, Ignored, Broken}
 use Rattle.cdc_message.specs.declared.packets.Confirm.{Confirm}
@@ -24,18 +24,15 @@ use Rattle.cdc_progress.specs.Records.{Saved}
 use Rattle.cdc_progress.specs.Stores.{IsRisked, MayRefuseSave, Risks}
 use Rattle.cdc_progress.specs.declared.errors.StoreError.{StoreError}
 use Rattle.cdc_progress.specs.declared.errors.StoreError.TheVariants as store
-use Rattle.cdc_publisher.specs.Courses.{Course, begun, has_event, next_packet, progress_of, with_confirm, with_sent}
+use Rattle.cdc_publisher.specs.Courses.{Course, begun, has_event, next_packet, progress_of, with_confirm}
 use Rattle.cdc_publisher.specs.Kept.{Kept}
-use Rattle.cdc_publisher.specs.Stands.{StandsFor}
 use Rattle.cdc_publisher.specs.Starts.{IsStartRisked, MayRefuseStart}
 use Rattle.cdc_publisher.specs.declared.errors.StartError.{StartError}
 use Rattle.cdc_publisher.specs.declared.errors.StartError.TheVariants as start
 use Rattle.cdc_traffic.specs.Following.{FollowsToConnector}
 use Rattle.cdc_traffic.specs.Laws.{readings_of}
-use Rattle.cdc_traffic.specs.declared.messages.ToBroker.{ToBroker}
 use Rattle.cdc_traffic.specs.declared.messages.ToConnector.{ToConnector}
 use Rattle.cdc_traffic.specs.declared.messages.ToConnector.TheVariants as to_connector
-use Rattle.cdc_traffic.specs.declared.messages.ToLedger.{ToLedger}
 use Rattle.cdc_traffic.specs.declared.messages.ToLedger.TheVariants as to_ledger
 use Rattle.cdc_traffic.specs.declared.pasts.Past.{Past}
 
@@ -461,11 +458,6 @@ failed_then old mid new moved fault working is cut = go old.session is.moves
 
 -- ---- what stands within a connector
 
--- nothing has changed
-pub same_polls : (inside now : Publishing) (polls : Outgoing ToLedger (Unit {0})) → inside ≡ now → polls ≡ inside.polls
-    → record inside { polls = polls } ≡ now
-same_polls inside now polls same is = (λ i. record inside { polls = is i }) ∙ same
-
 pub same_inbox : (inside now : Publishing) (inbox : Incoming ToConnector (Option Past)) → inside ≡ now
     → inbox ≡ inside.inbox → record inside { inbox = inbox } ≡ now
 same_inbox inside now inbox same is = (λ i. record inside { inbox = is i }) ∙ same
@@ -477,20 +469,6 @@ pub unsent_memory : (inside now : Publishing) (kept : Kept) (course : Course) (f
 unsent_memory inside now kept course fault same is event memory =
     subst (λ (f : RunFault). IsUnsent now course f (record inside { session = Some kept })) (sym memory)
     (event, (λ i. record inside { session = is i }) ∙ same)
-
--- or wasn't sent
-pub unsent_gone : (inside now : Publishing) (kept : Kept) (packets : Outgoing ToBroker (Unit {0})) (course : Course)
-    (fault : RunFault) → inside ≡ now → packets ≡ inside.packets → IsTrue (is_some (next_packet course))
-    → StandsFor kept (with_sent (next_packet course) course) → fault ≡ PeerGone
-    → IsUnsent now course fault (record inside { session = Some kept; packets = packets })
-unsent_gone inside now kept packets course fault same is there stands gone =
-    subst (λ (f : RunFault). IsUnsent now course f (record inside { session = Some kept; packets = packets }))
-    (sym gone) (
-      there,
-      stands,
-      (λ i. record inside { session = Some kept; packets = is i })
-          ∙ ap (λ (c : Publishing). record c { session = Some kept }) same,
-    )
 
 pub unsaved_entry : (inside now new : Publishing) (course : Course) (fault : RunFault) → inside ≡ now
     → IsUnsaved inside course fault new → IsUnsaved now course fault new

@@ -1,5 +1,5 @@
 -- An end after a step of its work: either the work is kept as it has to be, or the fault is.
-use Rattle.std.proofs.Common.{◌≡◌, Option, Some, None, Result, Ok, Err, ap, sym, ◌∙◌, subst}
+use Rattle.std.proofs.Common.{◌≡◌, Option, Some, None, Result, Ok, Err, sym, ◌∙◌, subst}
 use Rattle.std.specs.Prelude.{IfErr, IfOk, IfSome}
 use Rattle.cdc_ends.specs.declared.faults.RunFault.{RunFault}
 

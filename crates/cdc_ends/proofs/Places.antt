@@ -118,14 +118,6 @@ HoldsOfAll-queues P Q b b' consumers f are many holds each k x found =
     subst (λ (p : QueueState). Q k p x) (sym (queue_of-map f b b' k are (omega (arith, inside, many))))
     (each k (queue_of b (k + 1)) x (holds k x found))
 
--- no queue does
-pub HoldsOfAll-same : (P Q : ℕ → QueueState → Consumer → Type 0) (b b' : BrokerState) (consumers : List Consumer)
-    → b'.queues ≡ b.queues → HoldsOfAll P b consumers
-    → ((k : ℕ) (p : QueueState) (x : Consumer) → P k p x → Q k p x) → HoldsOfAll Q b' consumers
-HoldsOfAll-same P Q b b' consumers same holds each k x found =
-    subst (λ (qs : List QueueState). Q k (unwrap_or (slice_get qs (k + 1 - 1)) (empty_queue nobody)) x) (sym same)
-    (each k (queue_of b (k + 1)) x (holds k x found))
-
 -- all subscribers change
 pub HoldsOfAll-consumers : (P Q : ℕ → QueueState → Consumer → Type 0) (b : BrokerState) (consumers : List Consumer)
     (f : Consumer → Consumer) → HoldsOfAll P b consumers

@@ -2,7 +2,7 @@
 use Rattle.std.proofs.Common.{◌≡◌, Bool, true, false, Option, Some, None, Result, Ok, Err, inl, inr, refl, ap, ◌∙◌}
 use Rattle.std.specs.Prelude.{IfErr, IfOk, if◌then◌else◌}
 use Rattle.cdc_ends.specs.ClientSoFar.{AsksSoFar, IsReceivedOnly}
-use Rattle.cdc_ends.specs.Clients.{IsAnswered, Talk, finished_talk}
+use Rattle.cdc_ends.specs.Clients.{IsAnswered, Talk}
 use Rattle.cdc_ends.specs.ConnectorEnds.{IsOfSame, IsWorkingTurn, Origin, Publishing, origin_of}
 use Rattle.cdc_ends.specs.ConnectorSoFar.{HasFailed as WorkHasFailed, ReceivesAtMostOne}
 use Rattle.cdc_ends.specs.LedgerEnds.{Desk, IsServed}
@@ -13,7 +13,7 @@ use Rattle.cdc_ends.specs.SubscriberEnds.{HasReceived, Intake, with_message}
 use Rattle.cdc_ends.specs.SubscriberSoFar.{ComesSoFar as IntakeComes, HasFailed as IntakeHasFailed}
 use Rattle.cdc_ends.specs.declared.faults.RunFault.{RunFault}
 use Rattle.cdc_ends.specs.declared.faults.RunFault.TheVariants.{PeerGone, OutOfMemory, Store, SessionsExhausted, NotOneSystem, StartNotAllowed}
-use Rattle.cdc_links.specs.Links.{Takes, with_sent}
+use Rattle.cdc_links.specs.Links.{Takes}
 use Rattle.cdc_publisher.specs.Kept.{Kept}
 use Rattle.cdc_traffic.specs.Following.{FollowsToConnector}
 use Rattle.cdc_traffic.specs.declared.messages.ToConnector.{ToConnector}
@@ -142,16 +142,6 @@ asked_seat batch old fault new asks = go fault asks
     go SessionsExhausted asks = absurd asks
     go NotOneSystem asks = absurd asks
     go StartNotAllowed asks = absurd asks
-
-pub finished_seat : (c : Talk) → client_seat (finished_talk c) ≡ client_seat c
-finished_seat c = go c.finished
-  where
-    go : (b : Bool) → client_seat (if b then c else record c {
-      requests = with_sent c.requests (Done c.number, tt);
-      finished = true;
-    }) ≡ client_seat c
-    go true = refl
-    go false = refl
 
 -- ---- whether it fails or not
 

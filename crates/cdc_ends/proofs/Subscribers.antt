@@ -1,7 +1,7 @@
 -- Lists of subscribers: as they are made, and as each is sent its last message.
-use Rattle.std.proofs.Common.{◌≡◌, ℕ, ◌+◌, ◌<◌, ◌≤◌, List, [], ◌∷◌, ◌++◌, refl, sym, ap, ap₂, ◌∙◌, subst, length, map, take, drop, get_or, append_assoc, append-nil, arith}
+use Rattle.std.proofs.Common.{◌≡◌, ℕ, ◌+◌, ◌<◌, ◌≤◌, List, [], ◌∷◌, ◌++◌, sym, ap, ap₂, ◌∙◌, subst, length, map, take, drop, get_or, append_assoc, arith}
 use Rattle.std.specs.Prelude.{All, slice_set}
-use Rattle.std.proofs.lemmas.List.{drop_all, drop_more, get_or_at, length-map, length-take-le, map_more, set_at, take_all}
+use Rattle.std.proofs.lemmas.List.{drop_more, get_or_at, length-map, length-take-le, map_more, set_at}
 use Rattle.cdc_ends.specs.BrokerDesks.{MayStop}
 use Rattle.cdc_ends.specs.BrokerTurns.{first_consumer, with_stop}
 use Rattle.cdc_ends.specs.declared.consumers.Consumer.{Consumer}
@@ -19,15 +19,6 @@ pub record AreFirst (all first rest : List (Outgoing ToSubscriber (Unit {0}))) (
 -- the first so many were sent their last message
 abbrev pub stopped_up_to : ℕ → List Consumer → List Consumer
 stopped_up_to n consumers = map with_stop (take n consumers) ++ drop n consumers
-
-pub stopped_none : (consumers : List Consumer) → consumers ≡ stopped_up_to 0 consumers
-stopped_none consumers = refl
-
-pub stopped_all : (consumers : List Consumer) (n : ℕ) → length consumers ≤ n
-    → stopped_up_to n consumers ≡ map with_stop consumers
-stopped_all consumers n all =
-    ap₂ (λ (xs ys : List Consumer). map with_stop xs ++ ys) (take_all n consumers all) (drop_all n consumers all)
-    ∙ append-nil (map with_stop consumers)
 
 module _ (old now : List Consumer) (i : ℕ) (c : Consumer) (inside : i < length old) (so_far : now ≡ stopped_up_to i old)
     (found : c ≡ get_or now i c) where

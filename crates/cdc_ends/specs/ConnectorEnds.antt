@@ -2,9 +2,6 @@
 use Rattle.std.specs.Prelude.{◌≡◌, ◌==◌, ◌⊎◌, ℕ, zero, suc, ◌+◌, ◌<◌, ◌≤◌, ◌&&◌, Bool, is_some, true, false, Option, Some, None, List, [], ◌∷◌, ◌++◌, Contains, length, map, unwrap_or, if◌then◌else◌}
 use Rattle.std.specs.List.{filter, filter_map, list_any}
 use Rattle.std.specs.Option.{option_map}
-use Rattle.cdc_ends.specs.Faults.{IsSaveFault, IsStartFault}
-use Rattle.cdc_ends.specs.declared.faults.RunFault.{RunFault}
-use Rattle.cdc_ends.specs.declared.faults.RunFault.TheVariants.{PeerGone, OutOfMemory}
 use Rattle.cdc_laws.specs.Connectors.{ConnectorState, held_number, held_start, held_timestamp}
 use Rattle.cdc_laws.specs.Readings.{KeepsToReadings}
 use Rattle.cdc_links.specs.Links.{Incoming, Outgoing, Takes, of_sender}
@@ -311,12 +308,6 @@ pub record IsLaterTurn (old new : Publishing) : Type 0 where
 abbrev pub IsWorkingTurn : Option Kept → Publishing → Publishing → Type 0
 IsWorkingTurn None old new = IsFirstTurn old new
 IsWorkingTurn (Some kept) old new = IsLaterTurn old new
-
--- a turn fails where a link refuses it, or hands out what wasn't asked for; for want of memory; where a session doesn't
--- start; or where it isn't saved
-abbrev pub IsTurnFault : RunFault → Type 0
-IsTurnFault fault =
-    (fault ≡ PeerGone) ⊎ ((fault ≡ OutOfMemory) ⊎ (IsStartFault fault ⊎ IsSaveFault fault))
 
 -- ---- its end
 

@@ -3,7 +3,7 @@ use Rattle.std.specs.Prelude.{◌≡◌, ◌⊎◌, ℕ, List, codes}
 use Rattle.cdc_ends.specs.declared.faults.RunFault.{RunFault}
 use Rattle.cdc_ends.specs.declared.faults.RunFault.TheVariants.{PeerGone, OutOfMemory, Store, SessionsExhausted, NotOneSystem, StartNotAllowed}
 use Rattle.cdc_progress.specs.declared.errors.StoreError.{StoreError}
-use Rattle.cdc_progress.specs.declared.errors.StoreError.TheVariants as store
+use Rattle.cdc_publisher.specs.Errors.{store_refusal}
 use Rattle.cdc_publisher.specs.declared.errors.StartError.{StartError}
 use Rattle.cdc_publisher.specs.declared.errors.StartError.TheVariants as start
 
@@ -29,13 +29,6 @@ run_fault_name StartNotAllowed = codes "start_not_allowed"
 abbrev pub IsTurnFault : RunFault → Type 0
 IsTurnFault fault = (fault ≡ PeerGone) ⊎ (fault ≡ OutOfMemory)
 
--- the fault of an end whose store doesn't do its work
-abbrev pub store_fault : StoreError → RunFault
-store_fault store.ReadFault = Store store.ReadFault
-store_fault store.WriteFault = Store store.WriteFault
-store_fault store.BadRecord = Store store.BadRecord
-store_fault store.OutOfMemory = OutOfMemory
-
 -- the fault of an end whose session doesn't start
 abbrev pub start_fault : StartError → RunFault
 start_fault (start.Store why) = Store why
@@ -43,26 +36,6 @@ start_fault start.SessionsExhausted = SessionsExhausted
 start_fault start.OutOfMemory = OutOfMemory
 start_fault start.StartNotAllowed = StartNotAllowed
 
--- a session that doesn't start gives its end such a fault, and no other
-abbrev pub IsStartFault : RunFault → Type 0
-IsStartFault PeerGone = ⊥
-IsStartFault OutOfMemory = Unit {0}
-IsStartFault (Store store.ReadFault) = Unit {0}
-IsStartFault (Store store.WriteFault) = Unit {0}
-IsStartFault (Store store.BadRecord) = Unit {0}
-IsStartFault (Store store.OutOfMemory) = ⊥
-IsStartFault SessionsExhausted = Unit {0}
-IsStartFault NotOneSystem = ⊥
-IsStartFault StartNotAllowed = Unit {0}
-
--- so does a session that isn't saved: a save reads nothing
-abbrev pub IsSaveFault : RunFault → Type 0
-IsSaveFault PeerGone = ⊥
-IsSaveFault OutOfMemory = Unit {0}
-IsSaveFault (Store store.ReadFault) = ⊥
-IsSaveFault (Store store.WriteFault) = Unit {0}
-IsSaveFault (Store store.BadRecord) = ⊥
-IsSaveFault (Store store.OutOfMemory) = ⊥
-IsSaveFault SessionsExhausted = ⊥
-IsSaveFault NotOneSystem = ⊥
-IsSaveFault StartNotAllowed = ⊥
+-- the fault of an end whose store doesn't do its work: that of one whose session doesn't start for it
+abbrev pub store_fault : StoreError → RunFault
+store_fault why = start_fault (store_refusal why)

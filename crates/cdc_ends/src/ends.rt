@@ -83,7 +83,8 @@ pub trait Numbered: Work {
         ensures { result ≡ number self.now };
 }
 
-/// Work of which notes are kept, for who tells a person of the run. No view has them, and no other clause speaks of them.
+/// Work of which notes are kept, for who tells a person of the run. No view has them, and no other clause speaks of
+/// them.
 pub trait Noted: Work {
     ghost use Rattle.std.specs.Prelude.{◌≡◌};
 

@@ -79,10 +79,7 @@ impl From<StoreError> for RunFault {
     ghost from_gives = { λ error e. e ≡ store_fault error };
 
     fn from(error: StoreError) -> RunFault {
-        match error {
-            StoreError::OutOfMemory => RunFault::OutOfMemory,
-            _ => RunFault::Store(error),
-        }
+        RunFault::from(StartError::from(error))
     }
 }
 

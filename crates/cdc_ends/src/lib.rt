@@ -8,6 +8,8 @@ mod broker_plans;
 mod broker_work;
 mod clients;
 mod connector_ends;
+mod connector_links;
+mod connector_rules;
 mod consumers;
 mod conversations;
 mod desks;

@@ -1,23 +1,21 @@
 //! What a connector works with: its session and its store, what it asks the ledger for, and what it publishes.
 
-ghost use Rattle.std.specs.Prelude.{◌≡◌, ◌⊎◌, ◌≤◌, ◌==◌, ◌&&◌, ◌↔◌, ◌+◌, IfErr, IfOk, IfSome, IsTrue, Some, None, [], false, true, not, unwrap_or};
-ghost use Rattle.std.specs.List.{list_any};
-ghost use Rattle.cdc_ends.specs.ConnectorEnds.{IsConnectorEnd, IsPublishing, IsTurnFault, IsWorkingTurn, SessionStands, first_work};
-ghost use Rattle.cdc_ends.specs.ConnectorMoves.{AreSent, IsAdvanced, IsAnswerTaken, IsBegun, IsConfirmTaken, IsFollowed, IsHeard, IsPacketSent, IsReplyTaken, IsSending, IsSentNext, asked_if, finished_if, publish_count, wanted_by};
+ghost use Rattle.std.specs.Prelude.{◌≡◌, ◌≤◌, ◌==◌, ◌&&◌, IfErr, IfOk, Some, false};
+ghost use Rattle.cdc_ends.specs.ConnectorEnds.{IsConnectorEnd, IsPublishing, IsWorkingTurn, SessionStands, first_work};
+ghost use Rattle.cdc_ends.specs.ConnectorMoves.{AreSent, IsAdvanced, IsAnswerTaken, IsBegun, IsConfirmTaken, IsFollowed, IsHeard, IsPacketSent, IsReplyTaken, IsSending, IsSentNext, asked_if, finished_if, wanted_by};
 ghost use Rattle.cdc_ends.specs.ConnectorFails.{IsConfirmFailed, IsCutShort, IsNotBegun, IsUnfinished, IsUnsaved, IsUnsent};
 ghost use Rattle.cdc_ends.specs.ConnectorSoFar.{HasFailed};
-ghost use Rattle.cdc_ends.specs.Faults.{IsSaveFault, IsStartFault};
 ghost use Rattle.cdc_ends.specs.declared.faults.RunFault.TheVariants.{PeerGone};
-ghost use Rattle.cdc_links.specs.Links.{Takes, with_sent};
 ghost use Rattle.cdc_message.specs.declared.packets.Answer.TheVariants.{Confirmed, Broken};
 ghost use Rattle.cdc_publisher.specs.Courses.{Course, is_done, next_packet, with_confirm};
 ghost use Rattle.cdc_publisher.specs.Offers.{IsOffered};
-ghost use Rattle.cdc_traffic.specs.Following.{FollowsToBroker, FollowsToConnector, FollowsToLedger};
 ghost use Rattle.cdc_types.specs.Windows.{IsWindow};
 
+use crate::connector_links::{publish, receive, say};
+use crate::connector_rules::{count_publish, first_base, is_due, is_open, is_own};
 use crate::ends::{Turns, Work};
 use crate::faults::RunFault;
-use cdc_links::{LinkIn, LinkOut, Naming};
+use cdc_links::{LinkIn, LinkOut};
 use cdc_message::{Answer, Confirm, Packet};
 use cdc_progress::ProgressStore;
 use cdc_publisher::Session;
@@ -107,105 +105,6 @@ pub struct ConnectorParts<S: ProgressStore> {
     pub store: S,
 }
 
-// The name of what names nothing.
-struct Nothing;
-
-impl Naming<()> for Nothing {
-    ghost name = { tt };
-}
-
-// Sends the ledger a message.
-fn say<R: Wait>(polls: &mut LinkOut<ToLedger>, rt: &R, message: ToLedger) -> Result<(), RunFault>
-    requires { FollowsToLedger polls.old.number polls.old.sent (message, tt) }
-    ensures sent { IfOk result (λ _. polls.new ≡ with_sent polls.old (message, tt)) }
-    ensures refused { IfErr result (λ fault. (fault ≡ PeerGone) × (polls.new ≡ polls.old)) }
-    ensures kind { IfErr result IsTurnFault }
-{
-    match polls.send::<Nothing, R>(rt, message) {
-        Ok(()) => Ok(()),
-        Err(_) => Err(RunFault::PeerGone),
-    }
-}
-
-// Sends the broker a message.
-fn publish<R: Wait>(
-    packets: &mut LinkOut<ToBroker>,
-    rt: &R,
-    message: ToBroker,
-) -> Result<(), RunFault>
-    requires { FollowsToBroker packets.old.number packets.old.sent (message, tt) }
-    ensures sent { IfOk result (λ _. packets.new ≡ with_sent packets.old (message, tt)) }
-    ensures refused { IfErr result (λ fault. (fault ≡ PeerGone) × (packets.new ≡ packets.old)) }
-    ensures kind { IfErr result IsTurnFault }
-{
-    match packets.send::<Nothing, R>(rt, message) {
-        Ok(()) => Ok(()),
-        Err(_) => Err(RunFault::PeerGone),
-    }
-}
-
-// Receives the next message, of the ledger or of the broker.
-fn receive<R: Wait>(inbox: &mut LinkIn<ToConnector>, rt: &R) -> Result<ToConnector, RunFault>
-    ensures taken { IfOk result (λ message. Takes FollowsToConnector inbox.old message inbox.new) }
-    ensures refused { IfErr result (λ fault. (fault ≡ PeerGone) × (inbox.new ≡ inbox.old)) }
-    ensures kind { IfErr result IsTurnFault }
-{
-    match inbox.receive(rt) {
-        Ok(message) => Ok(message),
-        Err(_) => Err(RunFault::PeerGone),
-    }
-}
-
-// How many publish packets were sent with this packet; none where they can't be counted.
-fn count_publish(published: u64, packet: &Packet) -> Option<u64>
-    ensures { IfSome result (λ count. count ≡ published + publish_count packet.now) }
-{
-    match packet {
-        Packet::Connect { .. } => Some(published),
-        Packet::Publish { .. } => published.checked_add(1),
-    }
-}
-
-// Whether one publish packet more was sent, and the plan has a restart after it.
-fn is_due(plan: &[u64], before: u64, published: u64) -> bool
-    ensures { result
-        ≡ (not (published == before) && list_any (λ number. number == published) plan.now) }
-{
-    published != before && plan.contains(&published)
-}
-
-// The timestamp that the run's first session begins after: this one's, where none was before it.
-fn first_base(first: Option<u64>, session: &Session) -> u64
-    ensures { (course : Course) → SessionStands (Some session.now) (Some course)
-        → result ≡ unwrap_or first course.base }
-{
-    match first {
-        Some(first) => first,
-        None => session.base(),
-    }
-}
-
-// Whether the poll is the open one.
-fn is_open(asked: Option<Poll>, poll: Poll) -> bool
-    ensures { IsTrue result ↔ (asked ≡ Some poll) }
-{
-    match asked {
-        Some(asked) => asked == poll,
-        None => false,
-    }
-}
-
-// Whether the session that runs has this number.
-fn is_own(session: &Option<Session>, number: u64) -> bool
-    ensures { (course : Course) → SessionStands session.now (Some course)
-        → result ≡ (number == course.number) }
-{
-    match session {
-        Some(session) => number == session.number(),
-        None => false,
-    }
-}
-
 impl<S: ProgressStore> Publishing<S> {
     /// Nothing was said yet.
     pub(crate) fn new(
@@ -243,7 +142,6 @@ impl<S: ProgressStore> Publishing<S> {
         requires { IsWindow self.old.window }
         ensures after { IfOk result (λ _. IsBegun self.old self.new) }
         ensures failed { IfErr result (λ fault. IsNotBegun self.old fault self.new) }
-        ensures kind { IfErr result IsStartFault }
     {
         let session = Session::start(alloc, &mut self.store, self.window, self.start)?;
         self.start = None;
@@ -262,7 +160,6 @@ impl<S: ProgressStore> Publishing<S> {
             → IfOk result (λ sent. IsPacketSent self.old course (next_packet course) sent self.new) }
         ensures failed { (course : Course) → IsPublishing self.old (Some course)
             → IfErr result (λ fault. IsUnsent self.old course fault self.new) }
-        ensures kind { IfErr result IsTurnFault }
     {
         let Some(session) = &mut self.session else {
             return Ok(false);
@@ -285,7 +182,6 @@ impl<S: ProgressStore> Publishing<S> {
         requires room { self.old.unanswered ≤ self.old.window }
         ensures after { IfOk result (λ sent. IsSentNext self.old sent self.new) }
         ensures failed { IfErr result (λ fault. IsCutShort self.old fault self.new) }
-        ensures kind { IfErr result IsTurnFault }
     {
         let before = self.published;
         if !self.send_packet(rt, alloc)? {
@@ -302,7 +198,6 @@ impl<S: ProgressStore> Publishing<S> {
         requires { IsSending self.old }
         ensures after { IfOk result (λ _. AreSent self.old self.new) }
         ensures failed { IfErr result (λ fault. IsCutShort self.old fault self.new) }
-        ensures kind { IfErr result IsTurnFault }
     {
         while self.unanswered <= self.window {
             if !self.send_next(rt, alloc)? {
@@ -318,7 +213,6 @@ impl<S: ProgressStore> Publishing<S> {
         ensures after { (course : Course) → IsPublishing self.old (Some course)
             → IfOk result (λ _. self.new ≡ asked_if self.old.poll course self.old) }
         ensures failed { IfErr result (λ fault. (fault ≡ PeerGone) × (self.new ≡ self.old)) }
-        ensures kind { IfErr result IsTurnFault }
     {
         if self.poll.is_some() {
             return Ok(());
@@ -351,7 +245,6 @@ impl<S: ProgressStore> Publishing<S> {
             → IfOk result (λ _. self.new
             ≡ finished_if (is_done course && (self.old.unanswered == 0)) self.old) }
         ensures failed { IfErr result (λ fault. (fault ≡ PeerGone) × IsUnfinished self.old self.new) }
-        ensures kind { IfErr result IsTurnFault }
     {
         let Some(session) = &self.session else {
             return Ok(());
@@ -370,7 +263,6 @@ impl<S: ProgressStore> Publishing<S> {
         requires { IsSending self.old }
         ensures after { IfOk result (λ _. IsFollowed self.old self.new) }
         ensures failed { IfErr result (λ fault. IsCutShort self.old fault self.new) }
-        ensures kind { IfErr result IsTurnFault }
     {
         self.send_packets(rt, alloc)?;
         self.ask(rt)?;
@@ -400,7 +292,6 @@ impl<S: ProgressStore> Publishing<S> {
         ensures failed { (course : Course) → SessionStands self.old.session (Some course)
             → IfErr result (λ fault.
             IsUnsaved self.old (with_confirm session tag course) fault self.new) }
-        ensures kind { IfErr result IsSaveFault }
     {
         let Some(running) = &mut self.session else {
             return Ok(());
@@ -421,7 +312,6 @@ impl<S: ProgressStore> Publishing<S> {
         ensures failed { (course : Course) → SessionStands self.old.session (Some course)
             → IfErr result (λ fault.
             (session ≡ course.number) × IsNotBegun self.old fault self.new) }
-        ensures kind { IfErr result IsStartFault }
     {
         if is_own(&self.session, session) {
             self.begin(alloc)?;
@@ -436,7 +326,6 @@ impl<S: ProgressStore> Publishing<S> {
             → IfOk result (λ _. IsConfirmTaken self.old course confirm self.new) }
         ensures failed { (course : Course) → SessionStands self.old.session (Some course)
             → IfErr result (λ fault. IsConfirmFailed self.old course confirm fault self.new) }
-        ensures kind { IfErr result IsTurnFault }
     {
         let Some(unanswered) = self.unanswered.checked_sub(1) else {
             return Err(RunFault::PeerGone);
@@ -455,7 +344,6 @@ impl<S: ProgressStore> Publishing<S> {
         ensures after { (course : Course) → IsPublishing self.old (Some course)
             → IfOk result (λ moved. IsHeard self.old course moved self.new) }
         ensures failed { IfErr result (λ fault. HasFailed self.old fault self.new) }
-        ensures kind { IfErr result IsTurnFault }
     {
         match receive(&mut self.inbox, rt)? {
             ToConnector::PollReply(reply) => Ok(self.take_reply(&reply)),
@@ -472,7 +360,6 @@ impl<S: ProgressStore> Publishing<S> {
         requires working { self.old.finished ≡ false }
         ensures after { IfOk result (λ moved. IsAdvanced self.old moved self.new) }
         ensures failed { IfErr result (λ fault. HasFailed self.old fault self.new) }
-        ensures kind { IfErr result IsTurnFault }
     {
         if self.session.is_some() {
             return self.hear(rt, alloc);
@@ -488,7 +375,6 @@ impl<S: ProgressStore> Publishing<S> {
         ensures kept { IfOk result (λ _. IsConnectorEnd self.new) }
         ensures turned { IfOk result (λ _. IsWorkingTurn self.old.session self.old self.new) }
         ensures failed { IfErr result (λ fault. HasFailed self.old fault self.new) }
-        ensures kind { IfErr result IsTurnFault }
     {
         if !self.advance(rt, alloc)? {
             return Ok(());

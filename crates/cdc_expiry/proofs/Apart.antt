@@ -1,10 +1,10 @@
 -- Lists of triples whose timestamps differ.
 use Rattle.std.proofs.Common.{◌≡◌, ◌≢◌, ℕ, Bool, true, false, cond, inl, inr, List, [], ◌∷◌, ◌++◌, filter, nat_eq, sym, arith}
-use Rattle.std.specs.List.{All, IsDistinct}
+use Rattle.std.specs.List.{IsDistinct}
 use Rattle.std.specs.List.Sorted.{IsPermutation}
 use Rattle.std.specs.Cmp.{nat_eq_equiv}
 use Rattle.std.proofs.lemmas.Bool.Decides.{eqb_tells}
-use Rattle.std.proofs.lemmas.List.Elements.{All-filter, All-head, All-nil, All-push, All-tail, All-weaker, All-from_recursion, recursion_from_All}
+use Rattle.std.proofs.lemmas.List.Elements.{All-filter, All-weaker, All-from_recursion, recursion_from_All}
 use Rattle.std.proofs.lemmas.Map.Keys.{IsDistinct-cons, IsDistinct-from_apart, IsDistinct-head, IsDistinct-IsPermutation, IsDistinct-tail}
 use borrow.Author.Tests.{eqb-false}
 use Rattle.cdc_expiry.specs.declared.triple.Triple.{Triple}
@@ -19,16 +19,6 @@ TimestampsDiffer-filter p (x ∷ xs) differ =
       | true ↦ (All-filter p (λ y. y.timestamp ≢ x.timestamp) xs differ.0, TimestampsDiffer-filter p xs differ.1)
       | false ↦ TimestampsDiffer-filter p xs differ.1
     ]
-
--- one more triple, with a timestamp of its own
-pub TimestampsDiffer-push : (xs : List Triple) (x : Triple) → TimestampsDiffer xs
-    → All (λ y. y.timestamp ≢ x.timestamp) xs → TimestampsDiffer (xs ++ x ∷ [])
-TimestampsDiffer-push [] x differ others = (All-nil (λ y. y.timestamp ≢ x.timestamp), tt)
-TimestampsDiffer-push (z ∷ xs) x differ others = (
-  All-push (λ y. y.timestamp ≢ z.timestamp) xs x differ.0
-      (λ same. All-head (λ y. y.timestamp ≢ x.timestamp) z xs others (sym same)),
-  TimestampsDiffer-push xs x differ.1 (All-tail (λ y. y.timestamp ≢ x.timestamp) z xs others),
-)
 
 -- the same in the words of std, by which it outlasts a change of places
 abbrev same_timestamp : Triple → Triple → Bool

@@ -160,9 +160,3 @@ found_there xs i e t x ordered parts within at =
       | false ↦ λ hasnt. none_elsewhere xs i e t ordered parts
           (λ d in_it. ap (has_numbers e t) (get_or_default xs i d x within ∙ sym at) ∙ hasnt)
     ] refl
-
--- where it stops past the end, none has them
-pub found_nowhere : (xs : List Triple) (i e t : ℕ) → InOrder xs
-    → IsPartitionPoint (λ y. is_before e t y ≡ true) (λ y. is_before e t y ≡ false) xs i → length xs ≤ i
-    → All (λ x. has_numbers e t x ≡ false) xs
-found_nowhere xs i e t ordered parts past = none_elsewhere xs i e t ordered parts (λ d within. absurd (omega arith))

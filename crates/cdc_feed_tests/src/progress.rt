@@ -239,7 +239,8 @@ fn load_and_save(
     (loaded, saved, store.failures())
 }
 
-// A folder can be opened, but neither read nor written over. Below a file there is nothing, and that is no missing file.
+// A folder can be opened, but neither read nor written over. Below a file there is nothing, and that is no missing
+// file.
 #[test]
 fn a_file_that_cannot_be_reached_is_a_fault(rt: HostRuntime) -> Result<(), Fail> {
     let folder = scratch(&rt)?;

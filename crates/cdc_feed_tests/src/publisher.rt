@@ -142,8 +142,8 @@ fn a_session_starts_where_its_number_is_saved(rt: HostRuntime) {
     }
 }
 
-// A start may be asked for only where nothing is saved; a store that can't be read is found before that, and that there is no
-// further number after it.
+// A start may be asked for only where nothing is saved; a store that can't be read is found before that, and that there
+// is no further number after it.
 #[test]
 fn a_session_starts_late_where_nothing_is_saved(rt: HostRuntime) {
     let read_fault = Err(StartError::Store(StoreError::ReadFault));

@@ -1,5 +1,6 @@
 //! What subscribers answer and print, by worked examples, and that they find memory.
 
+use cdc_data_tests::bodies::FIRST;
 use cdc_message::{DecodeError, Delivery, Item, Message, decode};
 use cdc_subscriber::{Subscriber, TakeError, Taking};
 use cdc_types::Balances;
@@ -8,10 +9,6 @@ use std::io;
 use std::io::Write;
 use std::process::Abort;
 use std::test::Fail;
-
-// The body of a ledger's first event: at 2000, account 1 is debited by 100 and account 2 is credited.
-const FIRST: &str =
-    "{\"credit_account\":{\"code\":10,\"credits_pending\":\"0\",\"credits_posted\":\"100\",\"debits_pending\":\"0\",\"debits_posted\":\"0\",\"flags\":0,\"id\":\"2\",\"timestamp\":\"1001\",\"user_data_128\":\"0\",\"user_data_32\":0,\"user_data_64\":\"0\"},\"debit_account\":{\"code\":10,\"credits_pending\":\"0\",\"credits_posted\":\"0\",\"debits_pending\":\"0\",\"debits_posted\":\"100\",\"flags\":0,\"id\":\"1\",\"timestamp\":\"1000\",\"user_data_128\":\"0\",\"user_data_32\":0,\"user_data_64\":\"0\"},\"ledger\":700,\"timestamp\":\"2000\",\"transfer\":{\"amount\":\"100\",\"code\":1,\"flags\":0,\"id\":\"1\",\"pending_id\":\"0\",\"timeout\":0,\"timestamp\":\"2000\",\"user_data_128\":\"0\",\"user_data_32\":0,\"user_data_64\":\"0\"},\"type\":\"single_phase\"}";
 
 // What a subscriber is handed.
 enum Handed {

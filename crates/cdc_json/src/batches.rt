@@ -1,26 +1,28 @@
 //! The lines of batches.
 
-use crate::lines::{Line, Lines, Named};
-use cdc_ledger::{BatchError, Ledger};
-use cdc_script::ClientBatch;
+ghost use Rattle.std.specs.Prelude.{◌≡◌, ◌++◌, IfOk, OnOk, map};
+ghost use Rattle.cdc_json.specs.Lines.{account_result, answered_values, batch_value, json_line, json_lines};
+ghost use Rattle.cdc_json.specs.Lines.{results_value, transfer_result};
+ghost use Rattle.cdc_json.specs.Private.Sending.{entry_value};
+
+use crate::lines::{Field, Lines, Member, Named};
+use cdc_commands::Answered;
+use cdc_ledger::BatchError;
 use cdc_types::{AccountResult, BatchResults, TransferResult};
 use std::alloc::{AllocError, Global};
 
-/// Hands batches to a ledger, in order, closes it, and adds a line for each.
-pub(crate) fn push_batches(
+/// Adds the lines of batches: what the ledger answered to each.
+pub(crate) fn push_answers(
     alloc: Global,
     lines: &mut Lines,
-    ledger: &mut Ledger,
-    batches: &[ClientBatch],
-) -> Result<(), AllocError> {
-    for (place, item) in batches.iter().enumerate() {
-        let answer = match ledger.submit(alloc, &item.batch) {
-            Err(BatchError::OutOfMemory) => return Err(AllocError),
-            answer => answer,
-        };
-        push_batch(alloc, lines, place as u64 + 1, &answer)?;
+    answers: &[Answered],
+) -> Result<(), AllocError>
+    ensures { OnOk result (lines.new.text.items
+        ≡ lines.old.text.items ++ json_lines (answered_values answers.now)) }
+{
+    for answered in answers {
+        push_batch(alloc, lines, answered.number, &answered.answer)?;
     }
-    ledger.close();
     Ok(())
 }
 
@@ -30,32 +32,21 @@ pub(crate) fn push_batch(
     lines: &mut Lines,
     batch: u64,
     answer: &Result<BatchResults, BatchError>,
-) -> Result<(), AllocError> {
+) -> Result<(), AllocError>
+    ensures { OnOk result (lines.new.text.items
+        ≡ lines.old.text.items ++ json_line (batch_value batch answer.now)) }
+{
     match answer {
         Ok(BatchResults::Accounts(results)) => {
-            let results = account_results(alloc, results.as_slice())?;
-            push_results(alloc, lines, batch, results)
+            let entries = account_entries(alloc, results.as_slice())?;
+            push_results(alloc, lines, batch, entries.as_slice())
         }
         Ok(BatchResults::Transfers(results)) => {
-            let results = transfer_results(alloc, results.as_slice())?;
-            push_results(alloc, lines, batch, results)
+            let entries = transfer_entries(alloc, results.as_slice())?;
+            push_results(alloc, lines, batch, entries.as_slice())
         }
-        Ok(BatchResults::Pulsed(count)) => {
-            let expired = *count;
-            lines.push(alloc, &Line::Pulse { batch, expired })
-        }
-        Err(refusal) => {
-            lines.tally.batches = lines.tally.batches.saturating_add(1);
-            let (number, name) = (refusal.number(), refusal.name());
-            lines.push(
-                alloc,
-                &Line::RefusedBatch {
-                    batch,
-                    number,
-                    name,
-                },
-            )
-        }
+        Ok(BatchResults::Pulsed(count)) => push_pulse(alloc, lines, batch, *count),
+        Err(refusal) => push_refused(alloc, lines, batch, *refusal),
     }
 }
 
@@ -64,29 +55,103 @@ fn push_results(
     alloc: Global,
     lines: &mut Lines,
     batch: u64,
-    results: Vec<Named>,
-) -> Result<(), AllocError> {
-    let refused = results.iter().filter(|named| named.number != 0).count();
+    results: &[Named],
+) -> Result<(), AllocError>
+    ensures { OnOk result (lines.new.text.items
+        ≡ lines.old.text.items ++ json_line (results_value batch (map entry_value results.now))) }
+{
+    let refused = results.iter().filter(|entry| entry.number != 0).count();
     lines.tally.items = lines.tally.items.saturating_add(refused);
-    lines.push(alloc, &Line::Batch { batch, results })
+    lines.push(
+        alloc,
+        "batch",
+        &[
+            Member {
+                name: "batch",
+                value: Field::Number(batch),
+            },
+            Member {
+                name: "results",
+                value: Field::Table(results),
+            },
+        ],
+    )
+}
+
+/// Adds the line of a pulse.
+fn push_pulse(alloc: Global, lines: &mut Lines, batch: u64, expired: u64) -> Result<(), AllocError>
+    ensures { OnOk result (lines.new.text.items
+        ≡ lines.old.text.items ++ json_line (batch_value batch (Ok (BatchResults.Pulsed expired)))) }
+{
+    lines.push(
+        alloc,
+        "pulse",
+        &[
+            Member {
+                name: "batch",
+                value: Field::Number(batch),
+            },
+            Member {
+                name: "expired",
+                value: Field::Number(expired),
+            },
+        ],
+    )
+}
+
+/// Adds the line of a batch that was refused as a whole.
+fn push_refused(
+    alloc: Global,
+    lines: &mut Lines,
+    batch: u64,
+    refusal: BatchError,
+) -> Result<(), AllocError>
+    ensures { OnOk result (lines.new.text.items
+        ≡ lines.old.text.items ++ json_line (batch_value batch (Err refusal))) }
+{
+    lines.tally.batches = lines.tally.batches.saturating_add(1);
+    lines.push(
+        alloc,
+        "refused_batch",
+        &[
+            Member {
+                name: "batch",
+                value: Field::Number(batch),
+            },
+            Member {
+                name: "number",
+                value: Field::Number(refusal.number().into()),
+            },
+            Member {
+                name: "name",
+                value: Field::Text(refusal.name()),
+            },
+        ],
+    )
 }
 
 /// The results of accounts, by number and name.
-fn account_results(alloc: Global, results: &[AccountResult]) -> Result<Vec<Named>, AllocError> {
-    let mut named = Vec::with_capacity(alloc, results.len())?;
+fn account_entries(alloc: Global, results: &[AccountResult]) -> Result<Vec<Named>, AllocError>
+    ensures { IfOk result (λ entries. map entry_value entries.items
+        ≡ map account_result results.now) }
+{
+    let mut entries = Vec::with_capacity(alloc, results.len())?;
     for result in results {
         let (number, name) = (result.number(), result.name());
-        named.push(Named { number, name })?;
+        entries.push(Named { number, name })?;
     }
-    Ok(named)
+    Ok(entries)
 }
 
 /// The results of transfers, by number and name.
-fn transfer_results(alloc: Global, results: &[TransferResult]) -> Result<Vec<Named>, AllocError> {
-    let mut named = Vec::with_capacity(alloc, results.len())?;
+fn transfer_entries(alloc: Global, results: &[TransferResult]) -> Result<Vec<Named>, AllocError>
+    ensures { IfOk result (λ entries. map entry_value entries.items
+        ≡ map transfer_result results.now) }
+{
+    let mut entries = Vec::with_capacity(alloc, results.len())?;
     for result in results {
         let (number, name) = (result.number(), result.name());
-        named.push(Named { number, name })?;
+        entries.push(Named { number, name })?;
     }
-    Ok(named)
+    Ok(entries)
 }

@@ -1,120 +1,89 @@
 //! The commands with `--json`: each reads its files, as without it, and prints objects in the place of text.
 
+ghost use Rattle.std.specs.Prelude.{◌≡◌, ◌+◌, ℕ, List, Option, IfErr, IfOk, IfSome, Some};
+ghost use Rattle.cdc_script.specs.Reading.{ConsumesAtMost};
+ghost use Rattle.cdc_script.specs.Scripts.{max_bytes};
 ghost use Rattle.cdc_types.specs.Windows.{IsWindow};
+ghost use Rattle.cdc_commands.specs.Outcomes.{MayFailScript, Writes};
+ghost use Rattle.cdc_commands.specs.Simulated.{IsGoodScript};
+ghost use Rattle.cdc_run_command.specs.Plans.{IsPlan};
+ghost use Rattle.cdc_run_command.specs.RunPrinted.{MayFailRun};
+ghost use Rattle.cdc_json.specs.Objects.{CheckObjects, PrintsObjects, SimulationObjects};
+ghost use Rattle.cdc_json.specs.Objects.{TellsBooks, TellsMessages, TellsNothing};
+ghost use Rattle.cdc_json.specs.RunObjects.{RunObjects};
 
 use crate::books::books_json;
-use crate::faults::{fault_line, script_fault, steps_fault};
-use crate::lines::Lines;
+use crate::faults::{script_fault, steps_fault};
 use crate::messages::messages_json;
+use crate::outputs::{JsonEnding, JsonOutput, print_fault_json, print_json};
 use crate::runs::{RunOutput, run_json};
 use crate::simulations::simulation_json;
-use cdc_commands::{Ending, ProgramFault, print_text};
+use cdc_commands::{Ending, ProgramFault};
 use cdc_progress::ProgressStore;
 use cdc_run::Gate;
 use cdc_run_command::RunPlan;
 use cdc_script::{ReadError, ScriptError, parse_script, parse_steps, read_text};
-use cdc_telling::Tally;
 use std::alloc::Global;
 use std::io::{Read, Write};
 use std::sync::Wait;
 use std::thread::Threads;
 
-/// What a command prints, and how it ends once that is written.
-#[derive(Drop)]
-pub(crate) struct JsonOutput {
-    /// The lines, each an object.
-    text: Vec<u8>,
-    /// How much wasn't accepted.
-    tally: Tally,
-    /// How the command ends.
-    ending: Ending,
-}
-
-impl JsonOutput {
-    /// Lines of a command that has done all.
-    pub(crate) fn done(lines: Lines) -> JsonOutput {
-        JsonOutput::ended(lines, Ending::Done)
-    }
-
-    /// Lines of a command that ends so.
-    pub(crate) fn ended(lines: Lines, ending: Ending) -> JsonOutput {
-        let Lines { text, tally } = lines;
-        JsonOutput {
-            text,
-            tally,
-            ending,
-        }
-    }
-}
-
-/// How a command ended, and how much wasn't accepted.
-#[derive(Clone, Copy)]
-pub struct JsonEnding {
-    /// How it ended.
-    pub ending: Ending,
-    /// What wasn't accepted.
-    pub tally: Tally,
-}
-
-/// Prints what a command makes of what it reads, or the line of why it gave up; all at once.
-fn print_json<W: Write>(writer: &mut W, made: Result<JsonOutput, ProgramFault>) -> JsonEnding {
-    match made {
-        Ok(
-            JsonOutput {
-                text,
-                tally,
-                ending,
-            },
-        ) => JsonEnding {
-            ending: print_text(writer, text.as_slice(), ending),
-            tally,
-        },
-        Err(fault) => JsonEnding {
-            ending: print_text(writer, fault_line(fault).as_bytes(), Ending::Failed(fault)),
-            tally: Tally {
-                items: 0,
-                batches: 0,
-            },
-        },
-    }
-}
-
-/// Prints the line of why a command gave up.
-pub fn print_fault_json<W: Write>(writer: &mut W, fault: ProgramFault) -> Ending {
-    print_json(writer, Err(fault)).ending
-}
-
-/// Reads a script, and prints what `books --json` says of it.
+/// Reads a script, and prints what `books --json` says of it. A command that gives up prints why, and nothing else;
+/// nothing is written after a write that failed.
 pub fn books_json_command<R: Read, W: Write>(
     alloc: Global,
     reader: &mut R,
     writer: &mut W,
-) -> JsonEnding {
+) -> JsonEnding
+    ensures writes { Writes (PrintsObjects TellsBooks (R.remaining reader.old))
+        (W.contents writer.old) (W.contents writer.new) result.ending }
+    ensures bounded { ConsumesAtMost (max_bytes + 1)
+        (R.remaining reader.old) (R.remaining reader.new) }
+{
     print_json(writer, read_books(alloc, reader))
 }
 
 /// What `books --json` prints for the script of a reader.
-fn read_books<R: Read>(alloc: Global, reader: &mut R) -> Result<JsonOutput, ProgramFault> {
+fn read_books<R: Read>(alloc: Global, reader: &mut R) -> Result<JsonOutput, ProgramFault>
+    ensures output { IfOk result (λ output. PrintsObjects TellsBooks (R.remaining reader.old)
+        output.ending output.text.items) }
+    ensures fault { IfErr result MayFailScript }
+    ensures bounded { ConsumesAtMost (max_bytes + 1)
+        (R.remaining reader.old) (R.remaining reader.new) }
+{
     let bytes = read_text(alloc, reader)?;
     Ok(books_json(alloc, &bytes)?)
 }
 
-/// Reads a script, and prints what `messages --json` says of it.
+/// Reads a script, and prints what `messages --json` says of it. A command that gives up prints why, and nothing else;
+/// nothing is written after a write that failed.
 pub fn messages_json_command<R: Read, W: Write>(
     alloc: Global,
     reader: &mut R,
     writer: &mut W,
-) -> JsonEnding {
+) -> JsonEnding
+    ensures writes { Writes (PrintsObjects TellsMessages (R.remaining reader.old))
+        (W.contents writer.old) (W.contents writer.new) result.ending }
+    ensures bounded { ConsumesAtMost (max_bytes + 1)
+        (R.remaining reader.old) (R.remaining reader.new) }
+{
     print_json(writer, read_messages(alloc, reader))
 }
 
 /// What `messages --json` prints for the script of a reader.
-fn read_messages<R: Read>(alloc: Global, reader: &mut R) -> Result<JsonOutput, ProgramFault> {
+fn read_messages<R: Read>(alloc: Global, reader: &mut R) -> Result<JsonOutput, ProgramFault>
+    ensures output { IfOk result (λ output. PrintsObjects TellsMessages (R.remaining reader.old)
+        output.ending output.text.items) }
+    ensures fault { IfErr result MayFailScript }
+    ensures bounded { ConsumesAtMost (max_bytes + 1)
+        (R.remaining reader.old) (R.remaining reader.new) }
+{
     let bytes = read_text(alloc, reader)?;
     Ok(messages_json(alloc, &bytes)?)
 }
 
-/// Reads a script and a step file, and prints what `simulate --json` says of them. The script is judged first.
+/// Reads a script and a step file, and prints what `simulate --json` says of them. The script is judged first. A
+/// command that gives up prints why, and nothing else; nothing is written after a write that failed.
 pub fn simulate_json_command<R: Read, Q: Read, W: Write>(
     alloc: Global,
     script: &mut R,
@@ -123,11 +92,22 @@ pub fn simulate_json_command<R: Read, Q: Read, W: Write>(
     writer: &mut W,
 ) -> JsonEnding
     requires { IsWindow window }
+    ensures writes { Writes (SimulationObjects
+        (record {
+          window = window;
+          script = R.remaining script.old;
+          steps = Q.remaining steps.old;
+        }))
+        (W.contents writer.old) (W.contents writer.new) result.ending }
+    ensures script { ConsumesAtMost (max_bytes + 1)
+        (R.remaining script.old) (R.remaining script.new) }
+    ensures steps { ConsumesAtMost (max_bytes + 1) (Q.remaining steps.old) (Q.remaining steps.new) }
 {
     print_json(writer, read_simulation(alloc, script, steps, window))
 }
 
-/// Prints what `simulate --json` says of the bytes of a script and of a step file.
+/// Prints what `simulate --json` says of the bytes of a script and of a step file. A command that gives up prints why,
+/// and nothing else; nothing is written after a write that failed.
 pub fn print_simulation_json<W: Write>(
     alloc: Global,
     script: &[u8],
@@ -136,6 +116,9 @@ pub fn print_simulation_json<W: Write>(
     writer: &mut W,
 ) -> JsonEnding
     requires { IsWindow window }
+    ensures { Writes (SimulationObjects
+        (record { window = window; script = Some script.now; steps = Some steps.now }))
+        (W.contents writer.old) (W.contents writer.new) result.ending }
 {
     print_json(writer, simulation_json(alloc, script, steps, window))
 }
@@ -148,6 +131,13 @@ fn read_simulation<R: Read, Q: Read>(
     window: usize,
 ) -> Result<JsonOutput, ProgramFault>
     requires { IsWindow window }
+    ensures output { IfOk result (λ output. SimulationObjects
+        (record { window = window; script = R.remaining script.old; steps = Q.remaining steps.old })
+        output.ending output.text.items) }
+    ensures fault { IfErr result MayFailScript }
+    ensures script { ConsumesAtMost (max_bytes + 1)
+        (R.remaining script.old) (R.remaining script.new) }
+    ensures steps { ConsumesAtMost (max_bytes + 1) (Q.remaining steps.old) (Q.remaining steps.new) }
 {
     let script = read_text(alloc, script)?;
     match read_text(alloc, steps) {
@@ -157,11 +147,12 @@ fn read_simulation<R: Read, Q: Read>(
 }
 
 /// What is printed for the bytes of a script where its step file can't be read.
-fn unread_steps(
-    alloc: Global,
-    script: &[u8],
-    error: ReadError,
-) -> Result<JsonOutput, ProgramFault> {
+fn unread_steps(alloc: Global, script: &[u8], error: ReadError) -> Result<JsonOutput, ProgramFault>
+    ensures output { (window : ℕ) → (steps : Option (List ℕ)) → IfOk result (λ output.
+        SimulationObjects (record { window = window; script = Some script.now; steps = steps })
+        output.ending output.text.items) }
+    ensures fault { IfErr result MayFailScript }
+{
     match parse_script(alloc, script) {
         Err(ScriptError::Fault(fault)) => Ok(script_fault(alloc, script, fault)?),
         Err(ScriptError::OutOfMemory) => Err(ProgramFault::OutOfMemory),
@@ -178,7 +169,8 @@ pub struct JsonRun {
     pub text: Vec<u8>,
 }
 
-/// Reads a script, runs it on threads, and prints what `run --json` says of the run. The gate is asked before each turn.
+/// Reads a script, runs it on threads, and prints what `run --json` says of the run. The gate is asked before each
+/// turn. A command that gives up prints why, and nothing else; nothing is written after a write that failed.
 pub fn run_json_command<
     T: Threads + Wait + Sync,
     R: Read,
@@ -193,7 +185,18 @@ pub fn run_json_command<
     store: S,
     gate: &G,
     writer: &mut W,
-) -> JsonRun {
+) -> JsonRun
+    requires { IsPlan plan }
+    ensures writes { Writes (RunObjects (record {
+      closes = plan.faults.close.items;
+      start = plan.start;
+      held = S.held store;
+      honest = S.is_honest store;
+    }) (R.remaining reader.old) result.text.items)
+        (W.contents writer.old) (W.contents writer.new) result.ending }
+    ensures bounded { ConsumesAtMost (max_bytes + 1)
+        (R.remaining reader.old) (R.remaining reader.new) }
+{
     match read_run(rt, alloc, reader, plan, store, gate) {
         Ok(RunOutput { output, text }) => JsonRun {
             ending: print_json(writer, Ok(output)).ending,
@@ -214,38 +217,67 @@ fn read_run<T: Threads + Wait + Sync, R: Read, S: ProgressStore + Send + Drop, G
     plan: RunPlan,
     store: S,
     gate: &G,
-) -> Result<RunOutput, ProgramFault> {
+) -> Result<RunOutput, ProgramFault>
+    requires { IsPlan plan }
+    ensures output { IfOk result (λ made. RunObjects (record {
+      closes = plan.faults.close.items;
+      start = plan.start;
+      held = S.held store;
+      honest = S.is_honest store;
+    }) (R.remaining reader.old) made.text.items made.output.ending made.output.text.items) }
+    ensures fault { IfErr result MayFailRun }
+    ensures bounded { ConsumesAtMost (max_bytes + 1)
+        (R.remaining reader.old) (R.remaining reader.new) }
+{
     let bytes = read_text(alloc, reader)?;
     run_json(rt, alloc, &bytes, plan, store, gate)
 }
 
-/// Reads a script, and prints the line of its first fault, or nothing.
+/// Reads a script, and prints the line of its first fault, or nothing. A command that gives up prints why, and nothing
+/// else; nothing is written after a write that failed.
 pub fn check_json_command<R: Read, W: Write>(
     alloc: Global,
     script: &mut R,
     writer: &mut W,
-) -> JsonEnding {
+) -> JsonEnding
+    ensures writes { Writes (PrintsObjects TellsNothing (R.remaining script.old))
+        (W.contents writer.old) (W.contents writer.new) result.ending }
+    ensures bounded { ConsumesAtMost (max_bytes + 1)
+        (R.remaining script.old) (R.remaining script.new) }
+{
     print_json(writer, judge(alloc, script))
 }
 
 /// What a check says of the script of a reader.
-fn judge<R: Read>(alloc: Global, script: &mut R) -> Result<JsonOutput, ProgramFault> {
+fn judge<R: Read>(alloc: Global, script: &mut R) -> Result<JsonOutput, ProgramFault>
+    ensures output { IfOk result (λ output. PrintsObjects TellsNothing (R.remaining script.old)
+        output.ending output.text.items) }
+    ensures fault { IfErr result MayFailScript }
+    ensures bounded { ConsumesAtMost (max_bytes + 1)
+        (R.remaining script.old) (R.remaining script.new) }
+{
     let bytes = read_text(alloc, script)?;
     match parse_script(alloc, &bytes) {
-        Ok(_) => Ok(JsonOutput::done(Lines::new(alloc))),
+        Ok(_) => Ok(JsonOutput::nothing(alloc)),
         Err(ScriptError::Fault(fault)) => Ok(script_fault(alloc, &bytes, fault)?),
         Err(ScriptError::OutOfMemory) => Err(ProgramFault::OutOfMemory),
     }
 }
 
 /// Reads a script and then, where that is good, a step file, and prints the line of the fault that comes first, or
-/// nothing.
+/// nothing. A command that gives up prints why, and nothing else; nothing is written after a write that failed.
 pub fn check_files_json_command<R: Read, Q: Read, W: Write>(
     alloc: Global,
     script: &mut R,
     steps: &mut Q,
     writer: &mut W,
-) -> JsonEnding {
+) -> JsonEnding
+    ensures writes { Writes (CheckObjects (R.remaining script.old) (Q.remaining steps.old))
+        (W.contents writer.old) (W.contents writer.new) result.ending }
+    ensures script { ConsumesAtMost (max_bytes + 1)
+        (R.remaining script.old) (R.remaining script.new) }
+    ensures steps { ConsumesAtMost (max_bytes + 1) (Q.remaining steps.old) (Q.remaining steps.new) }
+{
     print_json(writer, judge_files(alloc, script, steps))
 }
 
@@ -254,27 +286,33 @@ fn judge_files<R: Read, Q: Read>(
     alloc: Global,
     script: &mut R,
     steps: &mut Q,
-) -> Result<JsonOutput, ProgramFault> {
-    let JsonOutput {
-        text,
-        tally,
-        ending,
-    } = judge(alloc, script)?;
-    match ending {
-        Ending::Done => judge_steps(alloc, steps),
-        _ => Ok(JsonOutput {
-            text,
-            tally,
-            ending,
-        }),
+) -> Result<JsonOutput, ProgramFault>
+    ensures output { IfOk result (λ output. CheckObjects
+        (R.remaining script.old) (Q.remaining steps.old) output.ending output.text.items) }
+    ensures fault { IfErr result MayFailScript }
+    ensures script { ConsumesAtMost (max_bytes + 1)
+        (R.remaining script.old) (R.remaining script.new) }
+    ensures steps { ConsumesAtMost (max_bytes + 1) (Q.remaining steps.old) (Q.remaining steps.new) }
+{
+    let bytes = read_text(alloc, script)?;
+    match parse_script(alloc, &bytes) {
+        Ok(_) => judge_steps(alloc, steps),
+        Err(ScriptError::Fault(fault)) => Ok(script_fault(alloc, &bytes, fault)?),
+        Err(ScriptError::OutOfMemory) => Err(ProgramFault::OutOfMemory),
     }
 }
 
-/// What a check says of a step file.
-fn judge_steps<Q: Read>(alloc: Global, steps: &mut Q) -> Result<JsonOutput, ProgramFault> {
+/// What a check says of the step file of a reader, once the script is judged.
+fn judge_steps<Q: Read>(alloc: Global, steps: &mut Q) -> Result<JsonOutput, ProgramFault>
+    ensures output { (script : Option (List ℕ)) → IfSome script IsGoodScript
+        → IfOk result (λ output. CheckObjects
+        script (Q.remaining steps.old) output.ending output.text.items) }
+    ensures fault { IfErr result MayFailScript }
+    ensures steps { ConsumesAtMost (max_bytes + 1) (Q.remaining steps.old) (Q.remaining steps.new) }
+{
     let bytes = read_text(alloc, steps)?;
     match parse_steps(alloc, &bytes) {
-        Ok(_) => Ok(JsonOutput::done(Lines::new(alloc))),
+        Ok(_) => Ok(JsonOutput::nothing(alloc)),
         Err(ScriptError::Fault(fault)) => Ok(steps_fault(alloc, &bytes, fault)?),
         Err(ScriptError::OutOfMemory) => Err(ProgramFault::OutOfMemory),
     }

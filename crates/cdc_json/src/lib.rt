@@ -7,12 +7,13 @@ mod commands;
 mod faults;
 mod lines;
 mod messages;
+mod outputs;
 mod runs;
 mod simulations;
 mod subscribers;
 
 pub use commands::{
-    JsonEnding, JsonRun, books_json_command, check_files_json_command, check_json_command,
-    messages_json_command, print_fault_json, print_simulation_json, run_json_command,
-    simulate_json_command,
+    JsonRun, books_json_command, check_files_json_command, check_json_command,
+    messages_json_command, print_simulation_json, run_json_command, simulate_json_command,
 };
+pub use outputs::{JsonEnding, print_fault_json};

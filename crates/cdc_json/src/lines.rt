@@ -1,25 +1,21 @@
 //! The objects that are printed, one in a line.
 
+ghost use Rattle.std.specs.Prelude.{◌≡◌, ◌++◌, List, [], OnOk};
+ghost use Rattle.serde_json.specs.Data.{array};
+ghost use Rattle.serde_json.specs.Events.{SendsValue};
+ghost use Rattle.serde_json.specs.View.{items_of};
+ghost use Rattle.std.specs.Prelude.{map};
+ghost use Rattle.cdc_json.specs.Lines.{json_line, line_of};
+ghost use Rattle.cdc_json.specs.Private.Sending.{AddsLine, entry_value, field_value, members_of};
+
 use cdc_telling::Tally;
 use itoa::Buffer;
 use serde::{Described, Serialize, Serializer};
-use serde_json::{Value, to_vec};
+use serde_json::to_vec;
 use std::alloc::{AllocError, Global};
 
-/// A number of 64 or 128 bits, which is written as a string of its decimal digits.
-#[derive(Clone, Copy)]
-pub(crate) struct Decimal(pub u128);
-
-impl Described for Decimal {}
-
-impl Serialize for Decimal {
-    fn serialize<S: Serializer>(&self, out: &mut S) -> Result<(), S::Error> {
-        out.str(Buffer::new().format(self.0))
-    }
-}
-
 /// A number from a table of results or refusals, and its name there.
-#[derive(Clone, Copy, Serialize)]
+#[derive(Clone, Copy)]
 pub(crate) struct Named {
     /// The number.
     pub number: u8,
@@ -27,82 +23,104 @@ pub(crate) struct Named {
     pub name: &'static str,
 }
 
-/// What a message is routed by.
-#[derive(Clone, Copy, Serialize)]
-pub(crate) struct HeaderLine {
-    pub event_type: &'static str,
-    pub ledger: u32,
-    pub transfer_code: u16,
-    pub debit_account_code: u16,
-    pub credit_account_code: u16,
+/// The value of a member.
+#[derive(Clone, Copy)]
+pub(crate) enum Field<'a> {
+    /// A JSON number.
+    Number(u64),
+    /// A number of 64 or 128 bits, which is written as a string of its decimal digits.
+    Wide(u128),
+    /// A string.
+    Text(&'a str),
+    /// True or false.
+    Flag(bool),
+    /// An array of objects, each of a number and its name.
+    Table(&'a [Named]),
+    /// Nothing.
+    Null,
 }
 
-/// A line.
-#[derive(Drop, Serialize)]
-#[serde(tag = "kind", rename_all = "snake_case")]
-pub(crate) enum Line<'a> {
-    /// A batch of accounts or transfers, with the results of its items.
-    Batch {
-        batch: u64,
-        results: Vec<Named>,
-    },
-    /// A pulse, with the number of transfers that expired.
-    Pulse {
-        batch: u64,
-        expired: u64,
-    },
-    /// A batch that was refused as a whole.
-    RefusedBatch {
-        batch: u64,
-        number: u8,
-        name: &'static str,
-    },
-    /// How far a subscriber is.
-    Subscriber {
-        subscriber: u64,
-        applied: u64,
-        last: Decimal,
-        ended: bool,
-        closed: bool,
-    },
-    /// An account in a subscriber's book.
-    Account {
-        subscriber: u64,
-        id: Decimal,
-        debits_pending: Decimal,
-        debits_posted: Decimal,
-        credits_pending: Decimal,
-        credits_posted: Decimal,
-    },
-    /// The message of an event; its timestamp is in seconds.
-    Message {
-        headers: HeaderLine,
-        timestamp: u64,
-        body: Value,
-    },
-    /// How many of all steps are done.
-    Steps {
-        done: u64,
-        of: u64,
-    },
-    /// The step that was refused.
-    RefusedStep {
-        step: u64,
-        name: &'static str,
-    },
-    /// What the store holds: nothing where no progress is saved.
-    Progress {
-        session: Option<Decimal>,
-        timestamp: Option<Decimal>,
-    },
-    /// The fault of a script or of a step file. Where it is the whole file's its line and column are 0.
-    FileFault {
-        file: &'static str,
-        line: u64,
-        column: u64,
-        word: &'a str,
-        name: &'static str,
-    },
+/// A member of an object.
+#[derive(Clone, Copy)]
+pub(crate) struct Member<'a> {
+    /// Its name.
+    pub name: &'a str,
+    /// Its value.
+    pub value: Field<'a>,
+}
+
+/// A line: an object whose first member names its kind.
+#[derive(Clone, Copy)]
+struct Line<'a> {
+    kind: &'a str,
+    members: &'a [Member<'a>],
+}
+
+impl Described for Named {
+    ghost use Rattle.serde_json.specs.Events.{SendsValue};
+    ghost use Rattle.cdc_json.specs.Private.Sending.{entry_value};
+
+    ghost writes = { λ entry. SendsValue (entry_value entry) };
+}
+
+impl Serialize for Named {
+    fn serialize<S: Serializer>(&self, out: &mut S) -> Result<(), S::Error> {
+        out.begin_map(Some(2))?;
+        out.key("number")?;
+        out.u64(self.number.into())?;
+        out.key("name")?;
+        out.str(self.name)?;
+        out.end_map()
+    }
+}
+
+impl Described for Field<'_> {
+    ghost use Rattle.serde_json.specs.Events.{SendsValue};
+    ghost use Rattle.cdc_json.specs.Private.Sending.{field_value};
+
+    ghost writes = { λ field. SendsValue (field_value field) };
+}
+
+impl Serialize for Field<'_> {
+    fn serialize<S: Serializer>(&self, out: &mut S) -> Result<(), S::Error> {
+        match self {
+            Field::Number(number) => out.u64(*number),
+            Field::Wide(number) => out.str(Buffer::new().format(*number)),
+            Field::Text(text) => out.str(text),
+            Field::Flag(flag) => out.bool(*flag),
+            Field::Table(entries) => send_table(out, entries),
+            Field::Null => out.unit(),
+        }
+    }
+}
+
+/// Sends the entries of a table.
+fn send_table<S: Serializer>(out: &mut S, entries: &[Named]) -> Result<(), S::Error>
+    ensures { OnOk result (SendsValue (array (items_of (map entry_value entries.now)))
+        (S.written out.old) (S.written out.new)) }
+{
+    entries.serialize(out)
+}
+
+impl Described for Line<'_> {
+    ghost use Rattle.serde_json.specs.Events.{SendsValue};
+    ghost use Rattle.cdc_json.specs.Lines.{line_of};
+    ghost use Rattle.cdc_json.specs.Private.Sending.{members_of};
+
+    ghost writes = { λ line. SendsValue (line_of line.kind.now (members_of line.members.now)) };
+}
+
+impl Serialize for Line<'_> {
+    fn serialize<S: Serializer>(&self, out: &mut S) -> Result<(), S::Error> {
+        out.begin_map(Some(self.members.len() + 1))?;
+        out.key("kind")?;
+        out.str(self.kind)?;
+        for member in self.members {
+            out.key(member.name)?;
+            member.value.serialize(out)?;
+        }
+        out.end_map()
+    }
 }
 
 /// The lines so far, and how much of what was asked for they say wasn't accepted.
@@ -116,7 +134,9 @@ pub(crate) struct Lines {
 
 impl Lines {
     /// No lines.
-    pub(crate) fn new(alloc: Global) -> Lines {
+    pub(crate) fn new(alloc: Global) -> Lines
+        ensures { result.text.items ≡ [] }
+    {
         Lines {
             text: Vec::new(alloc),
             tally: Tally {
@@ -126,12 +146,31 @@ impl Lines {
         }
     }
 
-    /// Adds a line.
-    pub(crate) fn push(&mut self, alloc: Global, line: &Line<'_>) -> Result<(), AllocError> {
-        // Members that come in order leave the writer nothing to lack but memory.
-        let bytes = to_vec(alloc, line).or(Err(AllocError))?;
-        self.text.extend_from_slice(bytes.as_slice())?;
-        self.text.push(b'\n')?;
-        Ok(())
+    /// Adds the line of this kind that has these members.
+    pub(crate) fn push(
+        &mut self,
+        alloc: Global,
+        kind: &str,
+        members: &[Member<'_>],
+    ) -> Result<(), AllocError>
+        ensures { OnOk result (self.new.text.items
+            ≡ self.old.text.items ++ json_line (line_of kind.now (members_of members.now))) }
+    {
+        push_value(alloc, &mut self.text, &Line { kind, members })
     }
+}
+
+/// Adds the line of a value.
+pub(crate) fn push_value<L: Serialize>(
+    alloc: Global,
+    text: &mut Vec<u8>,
+    value: &L,
+) -> Result<(), AllocError>
+    ensures { OnOk result (AddsLine (L.writes value.now) text.old.items text.new.items) }
+{
+    // Members that come in order leave the writer nothing to lack but memory.
+    let line = to_vec(alloc, value).or(Err(AllocError))?;
+    text.extend_from_slice(line.as_slice())?;
+    text.push(b'\n')?;
+    Ok(())
 }

@@ -1,27 +1,38 @@
 //! What `run --json` prints.
 
+ghost use Rattle.std.specs.Prelude.{◌≡◌, ◌++◌, ℕ, List, IfErr, IfOk, Ok, OnOk, Some, map};
+ghost use Rattle.cdc_run.specs.Reports.{replies_of};
+ghost use Rattle.cdc_run_command.specs.Plans.{IsPlan};
+ghost use Rattle.cdc_run_command.specs.Private.Merging.{IsOrderOf};
+ghost use Rattle.cdc_run_command.specs.Private.Runnable.{IsRunnable};
+ghost use Rattle.cdc_run_command.specs.RunPrinted.{MayFailRun};
+ghost use Rattle.cdc_script.specs.Scripts.{script_of};
+ghost use Rattle.cdc_json.specs.Lines.{json_lines, kept_values};
+ghost use Rattle.cdc_json.specs.Private.Taking.{numbered_values};
+ghost use Rattle.cdc_json.specs.RunObjects.{RunObjects, TellsReport};
+
 use crate::batches::push_batch;
-use crate::commands::JsonOutput;
-use crate::faults::{fault_of_run, script_fault};
+use crate::faults::script_fault;
 use crate::lines::Lines;
+use crate::outputs::JsonOutput;
 use crate::subscribers::push_subscriber;
-use cdc_commands::{ProgramFault, print_subscriber, push_batch as push_batch_line};
+use cdc_commands::{Ending, ProgramFault};
 use cdc_progress::ProgressStore;
-use cdc_run::{Config, Gate, Report, Share, part_share, run};
-use cdc_run_command::RunPlan;
-use cdc_script::{ClientBatch, Script, ScriptError, parse_script};
-use cdc_types::Batch;
+use cdc_run::Gate;
+use cdc_run_command::{Ran, RunPlan, print_run, replies_in_order, report_of_run};
+use cdc_script::{Script, ScriptError, parse_script};
+use cdc_subscriber::Subscriber;
+use cdc_traffic::Reply;
 use std::alloc::{AllocError, Global};
 use std::sync::Wait;
 use std::thread::Threads;
 
-/// The number of the one system that is run.
-const SYSTEM: u64 = 1;
-
 /// What `run --json` prints, and the same as text; no text where the script is bad.
 #[derive(Drop)]
 pub(crate) struct RunOutput {
+    /// What it prints, and how it ends.
     pub(crate) output: JsonOutput,
+    /// The text.
     pub(crate) text: Vec<u8>,
 }
 
@@ -33,7 +44,16 @@ pub(crate) fn run_json<T: Threads + Wait + Sync, S: ProgressStore + Send + Drop,
     plan: RunPlan,
     store: S,
     gate: &G,
-) -> Result<RunOutput, ProgramFault> {
+) -> Result<RunOutput, ProgramFault>
+    requires { IsPlan plan }
+    ensures output { IfOk result (λ made. RunObjects (record {
+      closes = plan.faults.close.items;
+      start = plan.start;
+      held = S.held store;
+      honest = S.is_honest store;
+    }) (Some bytes.now) made.text.items made.output.ending made.output.text.items) }
+    ensures fault { IfErr result MayFailRun }
+{
     match parse_script(alloc, bytes) {
         Ok(script) => run_script(rt, alloc, script, plan, store, gate),
         Err(ScriptError::Fault(fault)) => Ok(RunOutput {
@@ -52,88 +72,59 @@ fn run_script<T: Threads + Wait + Sync, S: ProgressStore + Send + Drop, G: Gate 
     plan: RunPlan,
     store: S,
     gate: &G,
-) -> Result<RunOutput, ProgramFault> {
-    let Script { bindings, batches } = script;
-    let batches = batches.into_vec();
-    let order = owners(alloc, batches.as_slice())?;
-    let scripts = part_batches(alloc, order.as_slice(), batches)?;
-    let RunPlan {
-        window,
-        prefetch,
-        faults,
-        start,
-    } = plan;
-    let config = Config {
-        system: SYSTEM,
-        bindings: bindings.into_vec(),
-        clients: scripts.len() as u64,
-        window,
-        prefetch,
-        start,
-    };
-    // (a script has few enough of all, and a plan is within its limits)
-    if !config.fits() {
-        return Err(ProgramFault::NotOneSystem);
-    }
-    match run(rt, alloc, config, scripts, faults, store, gate) {
-        Ok(report) => Ok(report_json(alloc, order.as_slice(), &report)?),
-        Err(fault) => Err(fault_of_run(fault)),
-    }
-}
-
-/// Who hands in each batch.
-fn owners(alloc: Global, batches: &[ClientBatch]) -> Result<Vec<u64>, AllocError> {
-    let mut owners = Vec::with_capacity(alloc, batches.len())?;
-    for item in batches {
-        owners.push(item.client)?;
-    }
-    Ok(owners)
-}
-
-/// The batches of each client, by the clients' numbers, from 1 to the greatest that hands one in, or 1.
-fn part_batches(
-    alloc: Global,
-    order: &[u64],
-    batches: Vec<ClientBatch>,
-) -> Result<Vec<Vec<Batch>>, AllocError> {
-    let mut left = Vec::with_capacity(alloc, batches.len())?;
-    for ClientBatch { client, batch } in batches {
-        left.push((client, batch))?;
-    }
-    let mut scripts = Vec::new(alloc);
-    for place in 0..order.iter().copied().max().unwrap_or(1) {
-        let Share { own, others } = part_share(alloc, place + 1, left)?;
-        scripts.push(own)?;
-        left = others;
-    }
-    Ok(scripts)
-}
-
-/// The lines of a run, in which clients have handed in the batches in this order.
-fn report_json(alloc: Global, order: &[u64], report: &Report) -> Result<RunOutput, AllocError> {
-    let mut lines = Lines::new(alloc);
-    let mut replied = String::new(alloc);
-    // How many replies of each client are taken.
-    let mut taken: [usize; 4] = [0; 4];
-    for (place, client) in order.iter().enumerate() {
-        let client = (*client as usize).saturating_sub(1);
-        let Some(count) = taken.get_mut(client) else {
-            continue;
-        };
-        let own = report.replies.get(client);
-        if let Some(reply) = own.and_then(|replies| replies.get(*count)) {
-            push_batch(alloc, &mut lines, place as u64 + 1, &reply.answer)?;
-            push_batch_line(&mut replied, place as u64 + 1, &reply.answer)?;
-        }
-        *count = count.saturating_add(1);
-    }
-    let mut text = replied.into_bytes();
-    for (place, subscriber) in report.subscribers.iter().enumerate() {
-        push_subscriber(alloc, &mut lines, place as u64 + 1, subscriber)?;
-        print_subscriber(&mut text, subscriber, place as u64 + 1)?;
-    }
+) -> Result<RunOutput, ProgramFault>
+    requires plan { IsPlan plan }
+    requires script { IsRunnable script }
+    ensures output { (bytes : List ℕ) → script_of bytes ≡ Ok script
+        → IfOk result (λ made. RunObjects (record {
+          closes = plan.faults.close.items;
+          start = plan.start;
+          held = S.held store;
+          honest = S.is_honest store;
+        }) (Some bytes) made.text.items made.output.ending made.output.text.items) }
+    ensures fault { IfErr result MayFailRun }
+{
+    let ran = report_of_run(rt, alloc, script, plan, store, gate)?;
+    let text = print_run(alloc, &ran)?;
+    let lines = run_lines(alloc, &ran)?;
     Ok(RunOutput {
-        output: JsonOutput::done(lines),
+        output: JsonOutput::ended(lines, Ending::Done),
         text,
     })
+}
+
+/// The lines of a run.
+fn run_lines(alloc: Global, ran: &Ran) -> Result<Lines, AllocError>
+    requires { IsOrderOf ran.now.order.items (replies_of ran.now.report) }
+    ensures { IfOk result (λ lines. TellsReport ran.now.order.items ran.now.report
+        lines.text.items) }
+{
+    let (order, replies) = (ran.order.as_slice(), ran.report.replies.as_slice());
+    let replies = replies_in_order(alloc, order, replies)?;
+    let mut lines = Lines::new(alloc);
+    push_replies(alloc, &mut lines, replies.as_slice())?;
+    push_kept(alloc, &mut lines, ran.report.subscribers.as_slice())?;
+    Ok(lines)
+}
+
+/// Adds the lines of replies to all batches.
+fn push_replies(alloc: Global, lines: &mut Lines, replies: &[&Reply]) -> Result<(), AllocError>
+    ensures { OnOk result (lines.new.text.items ≡ lines.old.text.items
+        ++ json_lines (numbered_values 1 (map (λ r. r.now) replies.now))) }
+{
+    for (place, reply) in replies.iter().enumerate() {
+        push_batch(alloc, lines, place as u64 + 1, &reply.answer)?;
+    }
+    Ok(())
+}
+
+/// Adds the lines of subscribers.
+fn push_kept(alloc: Global, lines: &mut Lines, subscribers: &[Subscriber]) -> Result<(), AllocError>
+    ensures { OnOk result (lines.new.text.items
+        ≡ lines.old.text.items ++ json_lines (kept_values 1 subscribers.now)) }
+{
+    for (place, subscriber) in subscribers.iter().enumerate() {
+        push_subscriber(alloc, lines, place as u64 + 1, subscriber)?;
+    }
+    Ok(())
 }

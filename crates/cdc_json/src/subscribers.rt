@@ -1,52 +1,11 @@
-//! Subscribers that hear a ledger's events, and their lines.
+//! The lines of subscribers.
 
-use crate::lines::{Decimal, Line, Lines};
-use cdc_log::EventLog;
-use cdc_match::Binding;
-use cdc_message::Message;
-use cdc_subscriber::{Subscriber, TakeError};
+ghost use Rattle.std.specs.Prelude.{◌≡◌, ◌++◌, map, OnOk};
+ghost use Rattle.cdc_json.specs.Lines.{account_value, json_line, json_lines, subscriber_value, subscriber_values};
+
+use crate::lines::{Field, Lines, Member};
+use cdc_subscriber::{Book, BookEntry, Subscriber};
 use std::alloc::{AllocError, Global};
-
-/// Adds the lines of a subscriber of each binding that has heard the events that its binding takes, and the end.
-pub(crate) fn push_listeners(
-    alloc: Global,
-    lines: &mut Lines,
-    bindings: &[Binding],
-    log: &EventLog,
-) -> Result<(), AllocError> {
-    for (place, binding) in bindings.iter().enumerate() {
-        let mut subscriber = Subscriber::new(alloc);
-        hear(alloc, &mut subscriber, binding, log)?;
-        push_subscriber(alloc, lines, place as u64 + 1, &subscriber)?;
-    }
-    Ok(())
-}
-
-/// Lets a subscriber hear the events of a ledger that a binding takes, and the end.
-fn hear(
-    alloc: Global,
-    subscriber: &mut Subscriber,
-    binding: &Binding,
-    log: &EventLog,
-) -> Result<(), AllocError> {
-    for place in 0..log.len() {
-        if let Some(event) = log.get(place) {
-            let message = Message::of(alloc, event)?;
-            if binding.matches(&message.headers()) {
-                subscriber
-                    .take_body(alloc, message.body().as_bytes())
-                    .map_err(want_of_memory)?;
-            }
-        }
-    }
-    subscriber.take_end();
-    Ok(())
-}
-
-/// The one error that taking an event's own body has.
-fn want_of_memory(_error: TakeError) -> AllocError {
-    AllocError
-}
 
 /// Adds the lines of the subscriber of this number, from 1: how far it is, and its book.
 pub(crate) fn push_subscriber(
@@ -54,32 +13,104 @@ pub(crate) fn push_subscriber(
     lines: &mut Lines,
     number: u64,
     subscriber: &Subscriber,
-) -> Result<(), AllocError> {
+) -> Result<(), AllocError>
+    ensures { OnOk result (lines.new.text.items
+        ≡ lines.old.text.items ++ json_lines (subscriber_values number subscriber.now)) }
+{
+    push_progress(alloc, lines, number, subscriber)?;
+    push_book(alloc, lines, number, subscriber.book())
+}
+
+/// Adds the line of how far a subscriber is.
+fn push_progress(
+    alloc: Global,
+    lines: &mut Lines,
+    number: u64,
+    subscriber: &Subscriber,
+) -> Result<(), AllocError>
+    ensures { OnOk result (lines.new.text.items
+        ≡ lines.old.text.items ++ json_line (subscriber_value number subscriber.now)) }
+{
     lines.push(
         alloc,
-        &Line::Subscriber {
-            subscriber: number,
-            applied: subscriber.applied_count(),
-            last: Decimal(subscriber.last().into()),
-            ended: subscriber.ended(),
-            closed: subscriber.closed(),
-        },
-    )?;
-    let book = subscriber.book();
+        "subscriber",
+        &[
+            Member {
+                name: "subscriber",
+                value: Field::Number(number),
+            },
+            Member {
+                name: "applied",
+                value: Field::Number(subscriber.applied_count()),
+            },
+            Member {
+                name: "last",
+                value: Field::Wide(subscriber.last().into()),
+            },
+            Member {
+                name: "ended",
+                value: Field::Flag(subscriber.ended()),
+            },
+            Member {
+                name: "closed",
+                value: Field::Flag(subscriber.closed()),
+            },
+        ],
+    )
+}
+
+/// Adds the lines of the accounts in a subscriber's book.
+fn push_book(alloc: Global, lines: &mut Lines, number: u64, book: &Book) -> Result<(), AllocError>
+    ensures { OnOk result (lines.new.text.items
+        ≡ lines.old.text.items ++ json_lines (map (account_value number) book.now)) }
+{
     for place in 0..book.len() {
         if let Some((id, balances)) = book.at_place(place) {
-            lines.push(
-                alloc,
-                &Line::Account {
-                    subscriber: number,
-                    id: Decimal(id),
-                    debits_pending: Decimal(balances.debits_pending),
-                    debits_posted: Decimal(balances.debits_posted),
-                    credits_pending: Decimal(balances.credits_pending),
-                    credits_posted: Decimal(balances.credits_posted),
-                },
-            )?;
+            push_account(alloc, lines, number, BookEntry { id, balances })?;
         }
     }
     Ok(())
+}
+
+/// Adds the line of an account in a subscriber's book.
+fn push_account(
+    alloc: Global,
+    lines: &mut Lines,
+    number: u64,
+    entry: BookEntry,
+) -> Result<(), AllocError>
+    ensures { OnOk result (lines.new.text.items
+        ≡ lines.old.text.items ++ json_line (account_value number entry)) }
+{
+    let balances = entry.balances;
+    lines.push(
+        alloc,
+        "account",
+        &[
+            Member {
+                name: "subscriber",
+                value: Field::Number(number),
+            },
+            Member {
+                name: "id",
+                value: Field::Wide(entry.id),
+            },
+            Member {
+                name: "debits_pending",
+                value: Field::Wide(balances.debits_pending),
+            },
+            Member {
+                name: "debits_posted",
+                value: Field::Wide(balances.debits_posted),
+            },
+            Member {
+                name: "credits_pending",
+                value: Field::Wide(balances.credits_pending),
+            },
+            Member {
+                name: "credits_posted",
+                value: Field::Wide(balances.credits_posted),
+            },
+        ],
+    )
 }

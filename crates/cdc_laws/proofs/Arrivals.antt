@@ -176,8 +176,8 @@ module _ (h : History) (sound : IsSound h) (start : ℕ) (confirms : List Confir
       (Contains-append_left cut.0 (events_after s.base (events h)) e there))
       (each_has (λ x. x.timestamp ≤ s.base) cut.0 e cut.1.low there)) in
       let replay : IsReplay (items_of taken ++ item ∷ []) (line_after h start) =
-      IsReplay-behind (items_of taken) (line_after h start) (map OfEvent cut.0) (line_after h s.base) found.place item is.replay
-      (line_splits h start s.base cut.0 cut.1) (each_of_map (Contains (items_of taken)) cut.0 front) here
+      IsReplay-behind (items_of taken) (line_after h start) (map OfEvent cut.0) (line_after h s.base) found.place item
+      is.replay (line_splits h start s.base cut.0 cut.1) (each_of_map (Contains (items_of taken)) cut.0 front) here
       (λ i x below at. up_to.before i x (omega (arith, below, found.tagged)) at) in
       record {
         sent = λ other there.

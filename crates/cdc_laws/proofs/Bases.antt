@@ -1,4 +1,5 @@
--- When a session connects to a broker, every event after the start and up to the moment after which it begins was taken.
+-- When a session connects to a broker, every event after the start and up to the moment after which it begins was
+-- taken.
 use Rattle.std.proofs.Common.{◌≡◌, ℕ, zero, suc, ◌+◌, ◌<◌, ◌≤◌, Bool, true, false, List, [], ◌∷◌, length, get_or, map, refl, sym, ap, ◌∙◌, subst, inl, inr, arith}
 use Rattle.std.specs.Prelude.{Contains, Some, slice_get}
 use Rattle.std.specs.Option.{option_map}
@@ -134,8 +135,8 @@ module _ (h : History) (sound : IsSound h) (start : ℕ) where
         ]
 
     -- a session of number n or below begins after such a moment, where those before it did
-    of_base : (earlier : List Shown) (x : Shown) → MayFollow h start confirms earlier x → AreSessions h start confirms earlier
-        → HasConfirmed earlier → x.number ≤ n
+    of_base : (earlier : List Shown) (x : Shown) → MayFollow h start confirms earlier x
+        → AreSessions h start confirms earlier → HasConfirmed earlier → x.number ≤ n
         → ((t : Shown) → Contains earlier t → t.number ≤ n → HasTakenUpTo h start taken t.base)
         → IsBase start confirms earlier x.base → HasTakenUpTo h start taken x.base
     of_base earlier x may each has low before (inl none) =
@@ -149,8 +150,8 @@ module _ (h : History) (sound : IsSound h) (start : ℕ) where
         (follows h start confirms earlier t each among).may.items (before t among (omega (arith, above, low))) is
 
     -- so each such session begins after a moment up to which every event was taken
-    pub bases_taken : (sessions : List Shown) → AreSessions h start confirms sessions → HasConfirmed sessions → (s : Shown)
-        → Contains sessions s → s.number ≤ n → HasTakenUpTo h start taken s.base
+    pub bases_taken : (sessions : List Shown) → AreSessions h start confirms sessions → HasConfirmed sessions
+        → (s : Shown) → Contains sessions s → s.number ≤ n → HasTakenUpTo h start taken s.base
     bases_taken [] each has s there low = absurd (none_there s there)
     bases_taken (x ∷ earlier) each has s there low =
         let older : HasConfirmed earlier = λ t among. has t (Contains-append_right (x ∷ []) earlier t among) in

@@ -72,8 +72,8 @@ KeepsTo-end h c keeps = record {
 
 -- ---- a session starts
 
--- what is saved as a session begins: its number is a new one; where nothing was held its timestamp is its start, and else
--- both stay
+-- what is saved as a session begins: its number is a new one; where nothing was held its timestamp is its start, and
+-- else both stay
 record Begins (held : Option Saved) (saved : Saved) : Type 0 where
   number : held_number held < saved.session
   from : ((held ≡ None) × (saved.timestamp ≡ saved.start))
@@ -239,7 +239,8 @@ module _ (h : History) (c : ConnectorState) (keeps : KeepsTo h c) (course : Cour
         none_yet = λ nothing. absurd (none_held h c keeps nothing course runs);
         base = IsBase-older start c.confirms keeps.sessions (shown_of on) (held_timestamp c.held) keeps.base;
         live = λ other there.
-            subst (IsLive h start c.confirms (shown_of on ∷ keeps.sessions) (held_number c.held)) (same_Some on other there)
+            subst (IsLive h start c.confirms (shown_of on ∷ keeps.sessions) (held_number c.held))
+            (same_Some on other there)
             (record {
               its = live.its;
               starts = live.starts;
@@ -286,7 +287,8 @@ module _ (h : History) (c : ConnectorState) (keeps : KeepsTo h c) (course : Cour
                   ∙ ap (λ ps. ps ++ Publish course.number course.sent item ∷ [])
                   (ap sent_by (sym is) ∙ keeps.makes);
               each = (
-                MayFollow-course h c.confirms on live.offered live.complete start earlier each.0.above each.0.base in_turn,
+                MayFollow-course h c.confirms on live.offered live.complete start earlier each.0.above each.0.base
+                    in_turn,
                 each.1,
               );
               numbers = λ s there.

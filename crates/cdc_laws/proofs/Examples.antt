@@ -120,8 +120,8 @@ book_as_of = refl
 book_of_nobody : balances_held (book_of (applied (hearing (told_at 0 ∷ told_at 1 ∷ [])))) 9 ≡ no_balances
 book_of_nobody = refl
 
--- one that joined after the first event: its book has both accounts of the second, with the ledger's balances as of that,
--- though it has heard nothing of the first
+-- one that joined after the first event: its book has both accounts of the second, with the ledger's balances as of
+-- that, though it has heard nothing of the first
 late_book : HoldsAccounts history 2000 (applied (hearing (told_at 1 ∷ [])))
 late_book = refl
 

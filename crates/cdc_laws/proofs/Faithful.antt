@@ -75,7 +75,8 @@ module _ (h : History) (start : ℕ) (binding : Arguments) (heard : Heard) (is :
 
   module _ (taken : List Item) (took : IsReplay taken (line_after h start)) where
     -- a replay of the queue of what a broker took is one of the queue of all that there is to tell
-    IsReplay-queue : IsReplay heard.items (queue taken binding) → IsReplay heard.items (queue (line_after h start) binding)
+    IsReplay-queue : IsReplay heard.items (queue taken binding)
+        → IsReplay heard.items (queue (line_after h start) binding)
     IsReplay-queue hears =
         IsReplay-trans heard.items (queue taken binding) (queue (line_after h start) binding) hears
         (IsReplay-filter (takes_item binding) taken (line_after h start) took)

@@ -9,7 +9,7 @@ use Rattle.cdc_types.specs.declared.events.Event.{Event}
 use Rattle.cdc_ledger.specs.Events.{event_of, events}
 use Rattle.cdc_ledger.specs.History.{History}
 use Rattle.cdc_ledger.specs.Sound as sound
-use Rattle.cdc_laws.specs.Line.{feed_after, feed_of}
+use Rattle.cdc_laws.specs.Line.{feed_after}
 use Rattle.cdc_laws.proofs.Places.{each_has}
 use Rattle.cdc_log.specs.Log.{RiseFrom, events_after}
 use Rattle.cdc_match.specs.Arguments.{Arguments}
@@ -81,11 +81,6 @@ rise_entries h t (e ∷ es) rise = (rise.0, rise_entries h e.timestamp es rise.1
 -- each event of a ledger is later than the one before it
 pub events_rise : (h : History) → sound.IsSound h → RiseFrom 0 (events h)
 events_rise h is = rise_entries h 0 h.entries is.rising
-
--- so a subscriber may tell by its timestamp alone whether an event of its feed has come before
-pub feed_rises : (h : History) (binding : Arguments) → sound.IsSound h → TimestampsRise (feed_of h binding)
-feed_rises h binding is =
-    TimestampsRise-from (feed_of h binding) (RiseFrom-filter (takes_event binding) 0 (events h) (events_rise h is))
 
 -- the events after a moment rise too
 pub after_rise : (h : History) (start : ℕ) → sound.IsSound h → TimestampsRise (events_after start (events h))

@@ -75,7 +75,8 @@ IsPublished-sent (s ∷ earlier) number tag item there =
 -- ---- sessions by their numbers
 
 -- each of lawful sessions may follow some of them
-pub record Follows (h : History) (start : ℕ) (confirms : List Confirm) (sessions : List Shown) (s : Shown) : Type 0 where
+pub record Follows (h : History) (start : ℕ) (confirms : List Confirm) (sessions : List Shown) (s : Shown)
+    : Type 0 where
   pub earlier : List Shown
   pub may : MayFollow h start confirms earlier s
 

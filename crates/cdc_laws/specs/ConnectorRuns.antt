@@ -48,8 +48,8 @@ pub record IsConfirmedTo (confirms : List Confirm) (s : Shown) (moment : ℕ) : 
   pub at : event.timestamp ≡ moment
   pub confirmed : AreConfirmed confirms s.number (place + 1)
 
--- a session may begin after a moment where these came before it: after the start, after the moment of an earlier session,
--- or after one up to which an earlier session is confirmed
+-- a session may begin after a moment where these came before it: after the start, after the moment of an earlier
+-- session, or after one up to which an earlier session is confirmed
 abbrev pub IsBase : ℕ → List Confirm → List Shown → ℕ → Type 0
 IsBase start confirms earlier moment =
     (moment ≡ start) ⊎ ((s : Shown) × Contains earlier s × ((s.base ≡ moment) ⊎ IsConfirmedTo confirms s moment))
@@ -57,7 +57,8 @@ IsBase start confirms earlier moment =
 -- a session may come after these: its number is above theirs; it begins after such a moment; what it has published is
 -- what there is to tell after that, in order and without a gap; and the end mark only once every tag before it was
 -- confirmed
-pub record MayFollow (h : History) (start : ℕ) (confirms : List Confirm) (earlier : List Shown) (s : Shown) : Type 0 where
+pub record MayFollow (h : History) (start : ℕ) (confirms : List Confirm) (earlier : List Shown) (s : Shown)
+    : Type 0 where
   pub above : (other : Shown) → Contains earlier other → other.number < s.number
   pub base : IsBase start confirms earlier s.base
   pub items : IsPrefix s.items (line_after h s.base)
@@ -68,8 +69,8 @@ abbrev pub AreSessions : History → ℕ → List Confirm → List Shown → Typ
 AreSessions h start confirms [] = Unit {0}
 AreSessions h start confirms (s ∷ earlier) = MayFollow h start confirms earlier s × AreSessions h start confirms earlier
 
--- a connector has sent these packets and received these confirms, over what the ledger of this history has to tell after
--- the start: they are the packets of such sessions
+-- a connector has sent these packets and received these confirms, over what the ledger of this history has to tell
+-- after the start: they are the packets of such sessions
 pub record IsConnectorRun (h : History) (start : ℕ) (sent : List Packet) (confirms : List Confirm) : Type 0 where
   pub sessions : List Shown
   pub makes : sent_by sessions ≡ sent

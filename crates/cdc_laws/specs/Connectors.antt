@@ -58,9 +58,9 @@ SendsInTurn confirms course =
     (tags_sent course ≤ length course.offered)
     ⊎ ((course.complete ≡ true) × AreConfirmed confirms course.number (length course.offered))
 
--- the session that runs has the number and the start that are held; it was offered the first events after its base, and all of them,
--- of a closed ledger, where none are to follow; the tags that were confirmed to it are of packets that it has sent, and
--- among the confirms; and it stands behind all sessions before it
+-- the session that runs has the number and the start that are held; it was offered the first events after its base, and
+-- all of them, of a closed ledger, where none are to follow; the tags that were confirmed to it are of packets that it
+-- has sent, and among the confirms; and it stands behind all sessions before it
 pub record IsLive (h : History) (start : ℕ) (confirms : List Confirm) (sessions : List Shown) (number : ℕ)
     (course : Course) : Type 0 where
   pub its : course.number ≡ number
@@ -73,8 +73,8 @@ pub record IsLive (h : History) (start : ℕ) (confirms : List Confirm) (session
   pub last : StandsLast start confirms sessions course
 
 -- a connector keeps to a history: its packets are those of sessions that may follow one another, with numbers up to the
--- one that is held, and neither they nor one that runs is there where nothing is held; the next one may begin after the timestamp that is held; and
--- so does the session that runs
+-- one that is held, and neither they nor one that runs is there where nothing is held; the next one may begin after the
+-- timestamp that is held; and so does the session that runs
 pub record KeepsTo (h : History) (c : ConnectorState) : Type 0 where
   pub sessions : List Shown
   pub makes : sent_by sessions ≡ c.sent

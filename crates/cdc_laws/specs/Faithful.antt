@@ -41,18 +41,18 @@ events_until t es = filter (λ e. nat_le e.timestamp t) es
 abbrev pub accounts_told : History → ℕ → ℕ → List ℕ
 accounts_told h start t = accounts_of (events_until t (events_after start (events h)))
 
--- a book of events has just the accounts of the ledger's events after the start and up to the last of the book's, each with
--- the ledger's balances as of that last one, whatever moved before the start
+-- a book of events has just the accounts of the ledger's events after the start and up to the last of the book's, each
+-- with the ledger's balances as of that last one, whatever moved before the start
 abbrev pub HoldsAccounts : History → ℕ → List Event → Type 0
 HoldsAccounts h start told =
     book_of told
     ≡ map (λ id. record { id = id; balances = as_of h (last_timestamp told) id })
     (accounts_told h start (last_timestamp told))
 
--- a subscriber has applied the first so many of the events after the start that its binding takes, whose timestamps rise,
--- so that none came twice or out of order; once it has heard the end it has applied all, and the ledger is closed; and
--- where its binding takes every event after the start, its book has just their accounts, each with the balances that the
--- ledger had at the last one applied; where the start is 0, so has every number
+-- a subscriber has applied the first so many of the events after the start that its binding takes, whose timestamps
+-- rise, so that none came twice or out of order; once it has heard the end it has applied all, and the ledger is
+-- closed; and where its binding takes every event after the start, its book has just their accounts, each with the
+-- balances that the ledger had at the last one applied; where the start is 0, so has every number
 pub record IsFaithful (h : History) (start : ℕ) (binding : Arguments) (heard : Heard) : Type 0 where
   pub prefix : IsPrefix (applied heard) (feed_after h start binding)
   pub rising : TimestampsRise (applied heard)

@@ -27,8 +27,8 @@ pub record Traffic : Type 0 where
   pub confirms : List Confirm
   pub received : List Confirm
 
--- it is that of a connector run over this history after the start, to this broker: what arrived was sent, whatever was lost, repeated
--- or reordered on the way, and what the connector received of confirms was sent by the broker
+-- it is that of a connector run over this history after the start, to this broker: what arrived was sent, whatever was
+-- lost, repeated or reordered on the way, and what the connector received of confirms was sent by the broker
 pub record IsTrafficOf (h : History) (start : ℕ) (b : BrokerState) (t : Traffic) : Type 0 where
   pub run : IsConnectorRun h start t.sent t.received
   pub packets : AreAmong t.arrived t.sent

@@ -24,7 +24,8 @@ abbrev pub LegalHistoriesAreSound : Type 0
 LegalHistoriesAreSound = (h : History) → IsLegal h → IsSound h
 
 -- where a broker took a replay of what the ledger has to tell after the start, and a subscriber heard a replay of its
--- queue, the subscriber is faithful: items may have come late, again or not at all on either way, and be cut off anywhere
+-- queue, the subscriber is faithful: items may have come late, again or not at all on either way, and be cut off
+-- anywhere
 abbrev pub SubscribersOfReplaysAreFaithful : Type 0
 SubscribersOfReplaysAreFaithful = (h : History) (start : ℕ) (binding : Arguments) (taken : List Item) (heard : Heard)
     → IsSound h → IsReplay taken (line_after h start) → IsReplay heard.items (queue taken binding)

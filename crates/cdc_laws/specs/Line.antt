@@ -21,8 +21,8 @@ told es closed = map OfEvent es ++ end_mark_if closed
 abbrev pub line : History → List Item
 line h = told (events h) h.closed
 
--- what it has to tell after a moment, as after the start of a publisher that joined late: the later events, and the end mark
--- once it is closed
+-- what it has to tell after a moment, as after the start of a publisher that joined late: the later events, and the end
+-- mark once it is closed
 abbrev pub line_after : History → ℕ → List Item
 line_after h moment = told (events_after moment (events h)) h.closed
 

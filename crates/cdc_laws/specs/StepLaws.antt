@@ -38,8 +38,8 @@ ConnectorsGoOn = (h g : History) (c : ConnectorState) → GoesOn h g → KeepsTo
 abbrev pub SessionsEnd : Type 0
 SessionsEnd = (h : History) (c : ConnectorState) → KeepsTo h c → KeepsTo h (record c { session = None })
 
--- a session starts under a number that is held then, where nothing was held before perhaps after a moment that was asked
--- for
+-- a session starts under a number that is held then, where nothing was held before perhaps after a moment that was
+-- asked for
 abbrev pub SessionsStart : Type 0
 SessionsStart = (h : History) (c : ConnectorState) (at : Option ℕ) (saved : Saved) (window : ℕ) → KeepsTo h c
     → begun c.held at ≡ Ok saved

@@ -28,8 +28,8 @@ pub fn connector_laws()
     ensures leaves { ReadingsAreLeft }
 {}
 
-/// Does nothing: each clause says of a step of a broker that it is what it took of what arrived, after it as before, and
-/// has confirmed nothing else.
+/// Does nothing: each clause says of a step of a broker that it is what it took of what arrived, after it as before,
+/// and has confirmed nothing else.
 pub fn broker_laws()
     ensures begins { BrokersBegin }
     ensures takes { PacketsAreTaken }

@@ -1,7 +1,7 @@
 -- The answers to a batch, one chain at a time, and of a chain one item at a time: what the first ones leave, and what
 -- is left of them.
 use Rattle.std.proofs.Common.{ℕ, zero, suc, ◌+◌, ◌-◌, ◌<◌, ◌≤◌, ◌≡◌, Bool, true, false, List, [], ◌∷◌, ◌++◌, Option, Some, None, length, get_or, take, drop, refl, ap, ap₂, sym, ◌∙◌, subst, arith, add-zero, add-one, append_assoc, append-nil, length-drop}
-use Rattle.std.specs.Prelude.{◌&&◌, ◌==◌, if◌then◌else◌, is_some, replicate, unwrap_or, All}
+use Rattle.std.specs.Prelude.{◌&&◌, ◌==◌, if◌then◌else◌, is_some, replicate}
 use Rattle.std.specs.List.{AllByRecursion}
 use Rattle.std.proofs.lemmas.Bool.{eq-eqb, ne_eqb}
 use Rattle.std.proofs.lemmas.List.{take_more, at_drop_more, at_drop_all, drop_all, length-take-le, take-append-drop, take_all}
@@ -9,7 +9,6 @@ use Rattle.std.proofs.Math.Seq.{drop-drop, take-length, drop-length}
 use Rattle.cdc_types.specs.declared.accounts.NewAccount.{NewAccount}
 use Rattle.cdc_types.specs.declared.transfers.NewTransfer.{NewTransfer}
 use Rattle.cdc_ledger.specs.Chains.{Rules, chains_of, in_front, is_none_left, before_others, refused_in_chain, unjudged, unjudged_one, played, history_after, chains_from, items_from}
-use Rattle.cdc_ledger.specs.Changes.{timed}
 use Rattle.cdc_ledger.specs.History.{History}
 use Rattle.cdc_ledger.specs.Stops.{AreUnrefused, IsStopped, taken_all}
 
@@ -95,14 +94,6 @@ replicate_push : {R : Type 0} (n : ℕ) (x : R) (rest : List R)
     → replicate n x ++ x ∷ rest ≡ replicate (suc n) x ++ rest
 replicate_push zero x rest = refl
 replicate_push (suc n) x rest = ap (λ xs. x ∷ xs) (replicate_push n x rest)
-
--- the same behind others
-pub replicate_more : {R : Type 0} (xs : List R) (n : ℕ) (x : R)
-    → (xs ++ replicate n x) ++ x ∷ [] ≡ xs ++ replicate (n + 1) x
-replicate_more xs n x =
-    append_assoc xs (replicate n x) (x ∷ [])
-    ∙ ap (λ ys. xs ++ ys)
-    (replicate_push n x [] ∙ append-nil (replicate (suc n) x) ∙ ap (λ m. replicate m x) (sym (add-one n)))
 
 -- what holds of a list's elements holds of two parts of it, and the other way round
 pub AllByRecursion_whole : {X : Type 0} (P : X → Type 0) (xs : List X) (n : ℕ) → AllByRecursion P (take n xs)

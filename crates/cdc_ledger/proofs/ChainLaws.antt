@@ -1,5 +1,5 @@
 -- What the chains of a batch keep of a history, whatever the rules of its items.
-use Rattle.std.proofs.Common.{ℕ, ◌+◌, ◌-◌, ◌<◌, ◌≤◌, ◌≡◌, Bool, true, false, List, [], ◌∷◌, Option, Some, None, length, refl, ap, sym, ◌∙◌, subst, arith}
+use Rattle.std.proofs.Common.{ℕ, ◌+◌, ◌-◌, ◌<◌, ◌≤◌, ◌≡◌, Bool, true, false, List, [], ◌∷◌, Option, Some, None, length, refl, ◌∙◌, arith}
 use Rattle.std.specs.Prelude.{◌&&◌, if◌then◌else◌, IfSome, unwrap_or}
 use Rattle.cdc_ledger.specs.Chains.{Rules, chains_of, in_front, is_none_left, refused_in_chain, before_others, played, history_after, chains_from, items_from}
 use Rattle.cdc_ledger.specs.Changes.{timed}

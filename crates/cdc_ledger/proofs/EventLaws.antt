@@ -1,5 +1,5 @@
 -- The events after one more entry or account, and their timestamps.
-use Rattle.std.proofs.Common.{◌<◌, ◌≤◌, [], ◌∷◌, ◌++◌, ◌≡◌, map, ap, ap₂, ◌∙◌, arith}
+use Rattle.std.proofs.Common.{◌<◌, ◌≤◌, [], ◌∷◌, ◌++◌, ◌≡◌, ap, ap₂, ◌∙◌, arith}
 use Rattle.std.specs.Prelude.{unwrap_or, Option}
 use Rattle.std.specs.List.{AllByRecursion}
 use Rattle.std.proofs.lemmas.List.{map_push}
@@ -11,7 +11,7 @@ use Rattle.cdc_ledger.specs.Balances.{balances}
 use Rattle.cdc_ledger.specs.Events.{event_of, events, shown_account, shown_transfer, nobody}
 use Rattle.cdc_ledger.specs.Sound.{HasAccounts}
 use Rattle.cdc_ledger.proofs.Changes.{pushed, with_account, IsUpTo}
-use Rattle.cdc_ledger.proofs.Elements.{AllByRecursion-weaker, map_same, map-map}
+use Rattle.cdc_ledger.proofs.Elements.{AllByRecursion-weaker, map_same}
 use Rattle.cdc_ledger.proofs.BalanceLaws.{balances-pushed_before}
 use Rattle.cdc_ledger.proofs.OpenedLaws.{opened-with_account_same}
 
@@ -60,7 +60,3 @@ events-with_account h o known = map_same (event_of (with_account h o)) (event_of
     (opened-with_account_same h o e.transfer.debit_account_id has.0)
     (opened-with_account_same h o e.transfer.credit_account_id has.1))
     h.entries known)
-
--- each event has the timestamp of its entry, so that what subscribers hear rises as the entries do
-pub timestamps-events : (h : History) → map (λ x. x.timestamp) (events h) ≡ map (λ e. e.timestamp) h.entries
-timestamps-events h = map-map (λ x. x.timestamp) (event_of h) h.entries

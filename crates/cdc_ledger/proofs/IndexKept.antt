@@ -147,10 +147,6 @@ due-none h now least =
     none_long [] long = refl
     none_long (x ∷ xs) long = absurd (omega arith)
 
--- an entry that has a triple of its own stores its transfer
-pub stores-opens : (e : Entry) → opens e ≡ true → stores e.kind ≡ true
-stores-opens e is = stores-holds e.kind (and_parts (holds e.kind) (not (e.transfer.timeout == 0)) is).0
-
 -- so after an entry the set is that of the history with the entry, whatever the entry does
 pub index_of-ended : (h : History) (e : Entry) → IsSound h → Follows h e → h.last < e.timestamp
     → index_of (pushed h e) ≡ ends_after (settled_by h e) e (length h.entries) (index_of h)

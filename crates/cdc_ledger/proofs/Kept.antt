@@ -1,5 +1,5 @@
 -- What is kept of the tables stays kept.
-use Rattle.std.proofs.Common.{ℕ, ◌≤◌, Bool, List, [], ◌∷◌, ◌++◌, ◌≡◌, Some, None, ap, ◌∙◌, length, sym, subst, map}
+use Rattle.std.proofs.Common.{ℕ, ◌≤◌, [], ◌∷◌, ◌++◌, ◌≡◌, Some, None, ap, ◌∙◌, length, sym, subst, map}
 use Rattle.std.specs.Prelude.{◌==◌, if◌then◌else◌}
 use Rattle.std.proofs.lemmas.List.{map_push}
 use Rattle.cdc_types.specs.declared.accounts.NewAccount.{NewAccount}

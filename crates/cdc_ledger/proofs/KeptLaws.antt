@@ -1,5 +1,5 @@
 -- A whole batch keeps what holds of every history, whatever the verdicts are.
-use Rattle.std.proofs.Common.{ℕ, ◌+◌, ◌-◌, ◌<◌, ◌≤◌, Bool, true, false, List, [], ◌∷◌, ◌≡◌, Option, Some, None, Result, Ok, Err, ◌||◌, refl, sym, subst, arith, length, ⊎_elim}
+use Rattle.std.proofs.Common.{ℕ, ◌+◌, ◌-◌, ◌<◌, ◌≤◌, Bool, false, List, [], ◌∷◌, ◌≡◌, Option, Some, None, Result, Ok, Err, ◌||◌, refl, sym, subst, arith, length, ⊎_elim}
 use Rattle.std.specs.Prelude.{◌==◌, if◌then◌else◌, nat_lt}
 use Rattle.std.proofs.lemmas.Bool.{and_cases, ltb-false}
 use Rattle.cdc_types.specs.declared.accounts.NewAccount.{NewAccount}

@@ -1,7 +1,7 @@
 -- What the ledger's tables are after one more entry.
 use Rattle.std.proofs.Common.{ℕ, ◌+◌, ◌<◌, ◌≤◌, List, [], ◌∷◌, ◌++◌, ◌≡◌, Option, Some, None, cond, get_or, length, map, refl, ap, ap₂, sym, ◌∙◌, subst, arith}
 use Rattle.std.specs.Prelude.{◌==◌, ◌&&◌, if◌then◌else◌, not, nat_lt, unwrap_or, option_map, IsSome, All}
-use Rattle.std.specs.List.{AllByRecursion, position_or_len}
+use Rattle.std.specs.List.{position_or_len}
 use Rattle.std.specs.Vec.{with_items}
 use Rattle.std.specs.declared.vec.Vec.{Vec}
 use Rattle.std.proofs.lemmas.List.{length-map, with_items_is}
@@ -11,9 +11,7 @@ use Rattle.cdc_types.specs.declared.accounts.Balances.{Balances}
 use Rattle.cdc_types.specs.declared.events.Entry.{Entry}
 use Rattle.cdc_types.specs.declared.events.Event.{Event}
 use Rattle.cdc_types.specs.declared.events.EventAccount.{EventAccount}
-use Rattle.cdc_types.specs.declared.transfers.Transfer.{Transfer}
 use Rattle.cdc_types.specs.Widths.{max_128}
-use Rattle.cdc_types.specs.Timestamps.{last_timestamp_from, last_timestamp}
 use Rattle.cdc_ledger.specs.declared.movements.Movement.{Movement}
 use Rattle.cdc_ledger.specs.declared.tables.Tables.TheInside.{Inside}
 use Rattle.cdc_ledger.specs.Accounts.{opened_as, no_balances, shown_as, shown_in, event_from}
@@ -22,12 +20,11 @@ use Rattle.cdc_ledger.specs.Changes.{pushed}
 use Rattle.cdc_ledger.specs.Contents.{Contents}
 use Rattle.cdc_ledger.specs.Effects.{Effect, effect_of, effect_by, settled_by, account_after}
 use Rattle.cdc_ledger.specs.Endings.{endings_after, endings_of}
-use Rattle.cdc_ledger.specs.Events.{accounts_now, account_now, account_at, events, shown_account, shown_transfer, event_of, nobody}
+use Rattle.cdc_ledger.specs.Events.{accounts_now, account_now, account_at, shown_account, shown_transfer, event_of, nobody}
 use Rattle.cdc_ledger.specs.Follows.{Follows}
 use Rattle.cdc_ledger.specs.History.{History, Opened, opened}
 use Rattle.cdc_ledger.specs.Kinds.{settles, stores}
 use Rattle.cdc_ledger.specs.Movements.{IsPlaced, IsMovement, SideFits, Takes, account_ids, accounts_after, effect_of_movement, settled_transfer}
-use Rattle.cdc_ledger.specs.OpenTriples.{index_of, ends_after}
 use Rattle.cdc_ledger.specs.Places.{account_place, place_of, stored_place}
 use Rattle.cdc_ledger.specs.Sound.{AreApart, IsSound}
 use Rattle.cdc_ledger.specs.Tables.{IsKept, contents_of, history_of}
@@ -35,12 +32,10 @@ use Rattle.cdc_ledger.specs.Verdict.{max_timestamp}
 use Rattle.cdc_ledger.proofs.AccountLaws.{accounts_now-pushed}
 use Rattle.cdc_ledger.proofs.BalanceLaws.{released_debit, released_credit}
 use Rattle.cdc_ledger.proofs.Elements.{map-map}
-use Rattle.cdc_ledger.proofs.IndexKept.{index_of-ended}
 use Rattle.cdc_ledger.proofs.Found.{find-accounts_now}
 use Rattle.cdc_ledger.proofs.OpenedLaws.{opened_id}
 use Rattle.cdc_ledger.proofs.PlaceLaws.{transfers_placed-pushed}
 use Rattle.cdc_ledger.proofs.EndingLaws.{endings_of-pushed}
-use Rattle.cdc_ledger.proofs.EventLaws.{events-pushed}
 use Rattle.cdc_ledger.proofs.SoundLaws.{both_fit, IsSound-pushed}
 
 -- the sums of the two accounts take the entry's effect

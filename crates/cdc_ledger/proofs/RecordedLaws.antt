@@ -1,5 +1,5 @@
 -- What the ledger's tables are once their last entry or their last account was taken out again.
-use Rattle.std.proofs.Common.{ℕ, zero, suc, ◌+◌, ◌-◌, ◌<◌, ◌≤◌, ◌≢◌, Bool, true, false, List, [], ◌∷◌, ◌++◌, ◌≡◌, Option, Some, None, get_or, set, length, map, take, refl, ap, ap₂, sym, ◌∙◌, subst, arith, length-append}
+use Rattle.std.proofs.Common.{ℕ, ◌+◌, ◌-◌, ◌<◌, ◌≤◌, ◌≢◌, Bool, true, false, List, [], ◌∷◌, ◌++◌, ◌≡◌, Option, Some, None, get_or, set, length, map, take, refl, ap, ap₂, sym, ◌∙◌, subst, arith, length-append}
 use Rattle.std.specs.Prelude.{◌==◌, ◌&&◌, if◌then◌else◌, find, position, IfSome, option_map}
 use Rattle.std.specs.List.{slice_get}
 use Rattle.std.specs.Vec.{with_items}
@@ -27,7 +27,7 @@ use Rattle.cdc_ledger.specs.Kinds.{stores}
 use Rattle.cdc_ledger.specs.Movements.{account_ids, accounts_after, credited_account, debited_account, effect_of_movement, IsStoredAt}
 use Rattle.cdc_ledger.specs.Places.{account_place, place_of, stored_place}
 use Rattle.cdc_ledger.specs.Recorded.{AreRecorded, IsLastOpened, IsLastRecorded, IsRecorded, grown, without_account, without_entry}
-use Rattle.cdc_ledger.specs.Sound.{AreApart, IsSound}
+use Rattle.cdc_ledger.specs.Sound.{AreApart}
 use Rattle.cdc_ledger.specs.Submit.{opened_by}
 use Rattle.cdc_ledger.specs.Tables.{IsKept, history_of}
 use Rattle.cdc_ledger.proofs.AccountLaws.{accounts_now-pushed, accounts_now-with_account}

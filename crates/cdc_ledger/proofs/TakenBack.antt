@@ -1,26 +1,24 @@
 -- Chains that fail: their accounts and entries are taken out again, the last one first.
-use Rattle.std.proofs.Common.{ℕ, zero, suc, ◌+◌, ◌-◌, ◌<◌, ◌≤◌, ◌≡◌, List, [], ◌∷◌, ◌++◌, Option, Some, None, length, get_or, take, drop, refl, ap, ap₂, sym, ◌∙◌, subst, arith, add-one}
-use Rattle.std.specs.Prelude.{unwrap_or}
+use Rattle.std.proofs.Common.{ℕ, zero, suc, ◌+◌, ◌-◌, ◌<◌, ◌≤◌, ◌≡◌, List, [], ◌∷◌, ◌++◌, length, get_or, take, refl, ap, sym, ◌∙◌, subst, arith, add-one}
 use Rattle.std.proofs.lemmas.List.{take_more, length-take-le}
 use Rattle.cdc_types.specs.declared.accounts.NewAccount.{NewAccount}
 use Rattle.cdc_types.specs.Features.{features}
 use Rattle.cdc_types.specs.Timestamps.{last_timestamp}
 use Rattle.cdc_ledger.specs.declared.recording.Recorded.{Recorded}
 use Rattle.cdc_ledger.specs.declared.told.Told.{Told}
-use Rattle.cdc_ledger.specs.Chains.{Rules, history_after, played}
-use Rattle.cdc_ledger.specs.Changes.{pushed, timed, with_account}
+use Rattle.cdc_ledger.specs.Changes.{pushed, with_account}
 use Rattle.cdc_ledger.specs.History.{History}
 use Rattle.cdc_ledger.specs.Recorded.{AreRecorded, IsLastOpened, IsLastRecorded, IsRecorded, grown, without_account, without_entry}
 use Rattle.cdc_ledger.specs.Movements.{settled_transfer}
 use Rattle.cdc_ledger.specs.OpenTriples.{ends_after}
 use Rattle.cdc_ledger.specs.Sound.{IsSound}
-use Rattle.cdc_ledger.specs.Stops.{AreUnrefused, IsStopped, taken_all}
+use Rattle.cdc_ledger.specs.Stops.{AreUnrefused, taken_all}
 use Rattle.cdc_ledger.specs.Submit.{account_rules, opened_by}
 use Rattle.cdc_ledger.specs.Told.{IsTold}
 use Rattle.cdc_ledger.specs.Verdict.{max_timestamp}
 use Rattle.cdc_ledger.proofs.AcceptedLaws.{accepted_account}
 use Rattle.cdc_ledger.proofs.BatchLaws.{AreUnrefused_less, no_account, taken_all_more}
-use Rattle.cdc_ledger.proofs.ChainLaws.{Before, taken_all-keeps}
+use Rattle.cdc_ledger.proofs.ChainLaws.{taken_all-keeps}
 use Rattle.cdc_ledger.proofs.RecordedLaws.{AreRecorded_pop, grown_push, without_account-opened, without_entry-pushed}
 use Rattle.cdc_ledger.proofs.SoundLaws.{IsSound-timed, IsSound-with_account}
 use Rattle.cdc_ledger.proofs.ToldLaws.{CanTell, IsTold-told, tell-later}
@@ -162,18 +160,3 @@ IsTold-tail h told told' rs i d inside all is log index =
     (get_or rs i d).place (get_or rs i d).event was.place was.event log index)
 
 -- ---- a chain that failed
-
--- the history after it is the one before it, with its timestamps taken
-pub history_after-failed : {A R : Type 0} (rules : Rules A R) (h g : History) (t : ℕ) (chain : List A) (stop : ℕ × R)
-    → IsStopped rules h t chain (Some stop) g
-    → timed h (t + (length chain - 1)) ≡ history_after rules h t chain
-history_after-failed rules h g t chain stop stopped =
-    let some : stop.0 < length chain = stopped.0 in
-    ap (timed h) (omega (arith, some))
-    ∙ sym (ap (λ q. unwrap_or q.1 (timed h (t + length chain - 1))) stopped.1)
-
--- the history after one that didn't is what its items made
-pub history_after-taken : {A R : Type 0} (rules : Rules A R) (h g : History) (t : ℕ) (chain : List A)
-    → IsStopped rules h t chain None g → g ≡ history_after rules h t chain
-history_after-taken rules h g t chain stopped =
-    sym (ap (λ q. unwrap_or q.1 (timed h (t + length chain - 1))) stopped)

@@ -1,5 +1,5 @@
 -- What is told of a history stays right.
-use Rattle.std.proofs.Common.{ℕ, ◌+◌, ◌<◌, ◌≤◌, ◌^◌, List, [], ◌∷◌, ◌++◌, ◌≡◌, true, false, Option, Some, None, Result, Ok, Err, length, map, refl, ap, ap₂, sym, ◌∙◌, subst, arith}
+use Rattle.std.proofs.Common.{ℕ, ◌+◌, ◌<◌, ◌≤◌, ◌^◌, List, [], ◌∷◌, ◌++◌, ◌≡◌, true, false, Option, Result, Ok, Err, length, map, refl, ap, ap₂, sym, ◌∙◌, subst, arith}
 use Rattle.std.specs.Prelude.{IfSome}
 use Rattle.std.specs.List.{AllByRecursion}
 use Rattle.cdc_types.specs.declared.events.Entry.{Entry}
@@ -10,7 +10,7 @@ use Rattle.cdc_types.specs.declared.accounts.NewAccount.{NewAccount}
 use Rattle.cdc_types.specs.declared.batches.Batch.TheVariants as batch
 use Rattle.cdc_types.specs.declared.batches.BatchResults.{BatchResults}
 use Rattle.cdc_types.specs.Features.{features}
-use Rattle.cdc_expiry.specs.Triples.{IsNewTimestamp, Triples}
+use Rattle.cdc_expiry.specs.Triples.{IsNewTimestamp}
 use Rattle.cdc_ledger.specs.declared.errors.BatchError.{BatchError}
 use Rattle.cdc_ledger.specs.declared.errors.BatchError.TheVariants.{LedgerClosed, BatchTooLarge, TimestampsExhausted, OutOfMemory}
 use Rattle.cdc_ledger.specs.Answers.{Answers}
@@ -21,7 +21,7 @@ use Rattle.cdc_ledger.specs.Effects.{settled_by}
 use Rattle.cdc_ledger.specs.Events.{event_of, events}
 use Rattle.cdc_ledger.specs.Filling.{expires_at}
 use Rattle.cdc_ledger.specs.Follows.{Follows}
-use Rattle.cdc_ledger.specs.History.{History, Opened}
+use Rattle.cdc_ledger.specs.History.{History}
 use Rattle.cdc_ledger.specs.Movements.{settled_transfer}
 use Rattle.cdc_ledger.specs.OpenTriples.{ends_after, index_of, opens}
 use Rattle.cdc_ledger.specs.Sound.{IsSound}
@@ -108,14 +108,6 @@ pub record IsToldAlike (g h : History) : Type 0 where
 pub IsTold-alike : (h g : History) (told : Told) → IsToldAlike g h → IsTold h told → IsTold g told
 IsTold-alike h g told alike is =
     record { logged = is.logged ∙ sym alike.logged; indexed = is.indexed ∙ sym alike.indexed }
-
--- more room changes nothing of what was told
-pub IsTold-same : (h g : History) (told told' : Told) → g ≡ h → told'.log.events ≡ told.log.events
-    → told'.index.triples ≡ told.index.triples → IsTold h told → IsTold g told'
-IsTold-same h g told told' same log index is = record {
-  logged = log ∙ is.logged ∙ ap events (sym same);
-  indexed = index ∙ is.indexed ∙ ap index_of (sym same);
-}
 
 -- requests for accounts tell nothing
 told_accounts : (h : History) (t : ℕ) (rs : List NewAccount) → IsSound h → h.last < t

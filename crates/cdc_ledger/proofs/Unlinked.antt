@@ -2,7 +2,7 @@
 use Rattle.std.proofs.Common.{ℕ, ◌+◌, ◌-◌, ◌≡◌, List, [], ◌∷◌, ◌++◌, Option, Some, None, false, refl, ap, ◌∙◌, arith}
 use Rattle.std.specs.Prelude.{unwrap_or}
 use Rattle.std.specs.List.{AllByRecursion}
-use Rattle.cdc_ledger.specs.Chains.{Rules, chains_from, chains_of, in_front, items_from, played}
+use Rattle.cdc_ledger.specs.Chains.{Rules, chains_from, chains_of, in_front, items_from}
 use Rattle.cdc_ledger.specs.Changes.{timed}
 use Rattle.cdc_ledger.specs.History.{History}
 use Rattle.cdc_ledger.proofs.BatchLaws.{alone_accepted, alone_refused}

@@ -2,4 +2,10 @@
 #![tactic(auto)]
 
 #[cfg(test)]
-mod ledger;
+mod chains;
+#[cfg(test)]
+mod courses;
+#[cfg(test)]
+mod phases;
+#[cfg(test)]
+mod sizes;

@@ -19,8 +19,8 @@ use std::hint::spin_loop;
 use std::marker::Model;
 use std::sync::Wait;
 
-/// A sender's end of a link. A clause sees which link it is of, the end's number there, and what it has sent so far with
-/// what each message names.
+/// A sender's end of a link. A clause sees which link it is of, the end's number there, and what it has sent so far
+/// with what each message names.
 pub struct LinkOut<M: Message> {
     number: u64,
     count: u64,
@@ -174,8 +174,8 @@ impl<M: Message> Model for Handed<M> {
 }
 
 impl<M: Message> Handed<M> {
-    /// The receiver's pass takes this end in, and learns what the link still holds. Answers how many messages the end has
-    /// sent.
+    /// The receiver's pass takes this end in, and learns what the link still holds. Answers how many messages the end
+    /// has sent.
     fn join(self, pass: &mut Pass<Parcel<M>, Knowledge<M, M::Name>>) -> u64
         requires own { IsPassOf self.link pass.old }
         requires receiver { IsReceiver (known pass.old) }
@@ -263,8 +263,8 @@ fn next_parcel<M: Message, R: Wait>(
 }
 
 impl<M: Message> LinkIn<M> {
-    /// Receives the message at the front. It waits while there is none. Where the senders are gone, one of them was given
-    /// up after all that is received by now, or 2^64 - 1 messages were received, nothing has changed.
+    /// Receives the message at the front. It waits while there is none. Where the senders are gone, one of them was
+    /// given up after all that is received by now, or 2^64 - 1 messages were received, nothing has changed.
     pub fn receive<R: Wait>(&mut self, rt: &R) -> Result<M, LinkFault>
         ensures received { IfOk result (λ value. Takes M.may_follow self.old value self.new) }
         ensures refused { IfErr result (λ fault. (fault ≡ PeerGone) × (self.new ≡ self.old)) }
@@ -345,8 +345,8 @@ impl<M: Message> LinkIn<M> {
     }
 }
 
-/// A link for so many messages on their way, and its ends: of each sender, numbered from 0, and of the receiver. There is
-/// room for one word more of each sender, that it was given up.
+/// A link for so many messages on their way, and its ends: of each sender, numbered from 0, and of the receiver. There
+/// is room for one word more of each sender, that it was given up.
 pub fn link<M: Message>(
     alloc: Global,
     capacity: usize,

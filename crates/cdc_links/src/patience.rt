@@ -1,17 +1,21 @@
 //! How long an end that waits looks again before it sleeps.
 
-/// How often a receiver that has to wait looks for a message before it sleeps. Where another processor is at work on the
-/// answer, that comes sooner than a sleeper wakes; where the answer needs this very processor, each look puts it off. So
-/// an end looks as often as has paid lately, or never.
+/// How often a receiver that has to wait looks for a message before it sleeps. Where another processor is at work on
+/// the answer, that comes sooner than a sleeper wakes; where the answer needs this very processor, each look puts it
+/// off. So an end looks twice as often after a look that has paid, half as often after a sleep, or never.
 #[derive(Clone, Copy)]
 pub(crate) struct Patience {
     looks: u32,
     sleeps: u32,
 }
 
-// So many looks take about as long as a thread takes that is put to sleep and woken, so at the worst a wait costs the
-// processor twice what it has to.
-const MOST_LOOKS: u32 = 256;
+// So many looks take about as long as a thread takes that is put to sleep and woken: with so many it is tried whether
+// looking pays, and a trial in vain costs the processor about what the sleep costs.
+const TRIED_LOOKS: u32 = 256;
+
+// The answer to a message mostly needs the work of several ends, and so several times as long as a waking. An end comes
+// to so many looks by those that have paid alone, and the first sleep halves them.
+const MOST_LOOKS: u32 = 1024;
 
 // After so many sleeps it is tried again whether looking pays.
 const SLEEPS_UNTIL_TRIED: u32 = 64;
@@ -21,7 +25,7 @@ impl Patience {
     /// where a way ends: it leaves the processor to the others, and never looks.
     pub(crate) fn new(senders: usize) -> Patience {
         Patience {
-            looks: if senders > 1 { MOST_LOOKS } else { 0 },
+            looks: if senders > 1 { TRIED_LOOKS } else { 0 },
             sleeps: 0,
         }
     }
@@ -33,7 +37,7 @@ impl Patience {
 
     /// A message came while the end looked.
     pub(crate) fn note_found(&mut self) {
-        self.looks = MOST_LOOKS;
+        self.looks = self.looks.saturating_mul(2).min(MOST_LOOKS);
     }
 
     /// No message came, and the end sleeps. One that looks at all does so at least once.
@@ -43,7 +47,7 @@ impl Patience {
         }
         self.sleeps = self.sleeps.wrapping_add(1);
         self.looks = if self.sleeps.is_multiple_of(SLEEPS_UNTIL_TRIED) {
-            MOST_LOOKS
+            TRIED_LOOKS
         } else {
             self.looks.div_ceil(2)
         };

@@ -107,8 +107,8 @@ impl<M, N> Lesson<Parcel<M>, Knowledge<M, N>> for Halts {
     ghost fact = { λ v items. ⊤ };
 }
 
-/// A receive tells its pass who has sent the message, under what name, and that it could follow; where a sender was given
-/// up, nothing.
+/// A receive tells its pass who has sent the message, under what name, and that it could follow; where a sender was
+/// given up, nothing.
 pub struct Receives;
 
 impl<M: Message> Outcome<Parcel<M>, Knowledge<M, M::Name>> for Receives {

@@ -8,7 +8,7 @@ use Rattle.json.proofs.Printed.Decimals.{IsNumber-decimal}
 use Rattle.json.proofs.Printed.Tokens.{tokens-print}
 use Rattle.json.proofs.Printed.Trees.{value-json_tokens, ArePrintable-json_tokens}
 use Rattle.serde_json.specs.Data.{Data, object}
-use Rattle.serde_json.specs.Read.{number_of, of_json, of_members, max_depth}
+use Rattle.serde_json.specs.Read.{of_json, max_depth}
 use Rattle.serde_json.specs.Read as values
 use Rattle.serde_json.specs.Written.{compact_text, outline}
 use Rattle.serde_json.proofs.Numbers.{number_of-decimal}

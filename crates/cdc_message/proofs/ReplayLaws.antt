@@ -92,14 +92,6 @@ IsReplay-again w f x replay there =
     let all = IsReplay-all w f replay in
     IsReplay-push w f x all.0 replay (HaveSame-again w (take all.0 f) x all.1 there)
 
--- the element of f that comes next
-pub IsReplay-next : {X : Type 0} (w f : List X) (x : X) (n : ℕ) → IsReplay w f → HaveSame w (take n f) → n < length f
-    → get_or f n x ≡ x
-    → IsReplay (w ++ x ∷ []) f
-IsReplay-next w f x n replay same below here =
-    let more : take (n + 1) f ≡ take n f ++ x ∷ [] = take_more f n x below ∙ ap (λ y. take n f ++ y ∷ []) here in
-    IsReplay-push w f x (n + 1) replay (rw more (HaveSame-push w (take n f) x same))
-
 -- a beginning of a replay
 pub IsReplay-take : {X : Type 0} (k : ℕ) (w f : List X) → IsReplay w f → IsReplay (take k w) f
 IsReplay-take k w f replay = record {

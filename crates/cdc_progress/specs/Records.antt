@@ -2,8 +2,8 @@
 use Rattle.std.specs.Prelude.{◌≡◌, ◌⊎◌, ℕ, ◌<◌, ◌≤◌, ◌^◌, List, ◌∷◌, ◌++◌, codes, decimal}
 use Rattle.cdc_types.specs.declared.bounds.TheConstants.Limits.{TIMESTAMP}
 
--- the number of the last session; the timestamp up to which every event after the start is confirmed; and the start, the
--- moment after which the first session began: a publisher never tells what came up to it
+-- the number of the last session; the timestamp up to which every event after the start is confirmed; and the start,
+-- the moment after which the first session began: a publisher never tells what came up to it
 pub record Saved : Type 0 where
   pub session : ℕ
   pub timestamp : ℕ

@@ -6,8 +6,8 @@ use cdc_types::Limits;
 use std::marker::Model;
 
 /// How far a publisher has come: the number of its last session, the timestamp up to which every event is confirmed
-/// (TigerBeetle, Change Data Capture, progress tracking), and its start, the moment after which its first session began,
-/// which is no later. A clause sees the three numbers.
+/// (TigerBeetle, Change Data Capture, progress tracking), and its start, the moment after which its first session
+/// began, which is no later. A clause sees the three numbers.
 #[derive(Clone, Copy, Debug, PartialEq, Eq)]
 pub struct Progress {
     session: u64,

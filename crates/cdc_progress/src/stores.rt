@@ -23,8 +23,9 @@ pub trait ProgressStore {
 
     /// What is held, or none where nothing was saved yet.
     ///
-    /// A refused load changes nothing that is held. `ReadFault`: it can't be read, and `failures` counts it, as no other
-    /// answer does. `BadRecord`: it is no record; an honest store never says so. `OutOfMemory`: there was no memory.
+    /// A refused load changes nothing that is held. `ReadFault`: it can't be read, and `failures` counts it, as no
+    /// other answer does. `BadRecord`: it is no record; an honest store never says so. `OutOfMemory`: there was no
+    /// memory.
     fn load(&mut self) -> Result<Option<Progress>, StoreError>
         ensures given { IfOk result (λ given. held self.new ≡ given) }
         ensures honest_load { IsTrue (is_honest self.old)
@@ -40,8 +41,8 @@ pub trait ProgressStore {
 
     /// Makes this what is held.
     ///
-    /// `WriteFault`: it can't be written, and `failures` counts it, as no other answer does; what was held is held, or the
-    /// new record is. `OutOfMemory`: there was no memory, and what was held is held.
+    /// `WriteFault`: it can't be written, and `failures` counts it, as no other answer does; what was held is held, or
+    /// the new record is. `OutOfMemory`: there was no memory, and what was held is held.
     fn save(&mut self, progress: Progress) -> Result<(), StoreError>
         ensures saved { OnOk result (held self.new ≡ Some progress) }
         ensures refused { OnErr result

@@ -12,7 +12,7 @@ use Rattle.cdc_message.specs.declared.items.Item.TheVariants.{Event as OfEvent, 
 use Rattle.cdc_message.specs.declared.packets.Packet.{Packet}
 use Rattle.cdc_message.specs.declared.packets.Packet.TheVariants.{Connect, Publish}
 use Rattle.cdc_publisher.specs.declared.session.Poll.{Poll}
-use Rattle.cdc_publisher.specs.Courses.{Course, all_sent, confirmed_timestamp, is_confirmed, is_done, is_sent, may_end, next_packet, next_poll, numbers_from, publish_packet, tags_sent, takes_confirm, unconfirmed}
+use Rattle.cdc_publisher.specs.Courses.{Course, all_sent, confirmed_timestamp, has_ended, is_confirmed, is_done, is_sent, may_end, next_packet, next_poll, numbers_from, publish_packet, tags_sent, takes_confirm, unconfirmed}
 use Rattle.cdc_publisher.specs.Kept.{Kept, confirmed_of, holds_tag, is_nil, poll_of}
 use Rattle.cdc_publisher.specs.Stands.{StandsFor, entry_of, flag_count}
 use Rattle.cdc_publisher.specs.Turns.{ends, packet_of, publish_of}
@@ -28,10 +28,20 @@ past_sent course sent tag past = by (is_confirmed course tag) (sent tag)
     by true up = let is : IsTrue (nat_lt 0 tag && nat_le tag (tags_sent course)) = up refl in grind (arith, nat_tests)
 
 -- as many tags wait as are kept
-waiting_is : (kept : Kept) (course : Course) → StandsFor kept course
+pub waiting_is : (kept : Kept) (course : Course) → StandsFor kept course
     → length kept.unconfirmed ≡ length (unconfirmed course)
 waiting_is kept course stands =
     ap length stands.unconfirmed ∙ length-map (unconfirmed course) (entry_of course.base course.offered)
+
+-- by the counts, the end mark was sent where more tags are than events
+ended_by : (n tags u : ℕ) (ended : Bool) → tags + u ≡ n + flag_count ended → (IsTrue ended → u ≡ 0)
+    → ended ≡ nat_lt n tags
+ended_by n tags u true count last = let none : u ≡ 0 = last refl in grind (arith, nat_tests)
+ended_by n tags u false count last = grind (arith, nat_tests)
+
+pub ended_is : (kept : Kept) (course : Course) → StandsFor kept course → kept.ended ≡ has_ended course
+ended_is kept course stands =
+    ended_by (length course.offered) (tags_sent course) (length kept.unsent) kept.ended stands.count stands.end_last
 
 -- by the counts, no event is unsent where all are sent
 sent_all : (n tags u : ℕ) (ended : Bool) → tags + u ≡ n + flag_count ended → (IsTrue ended → u ≡ 0)

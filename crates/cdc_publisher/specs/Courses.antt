@@ -1,6 +1,6 @@
 -- The course of a session: what it was offered, what it has sent of that, and what was confirmed (TigerBeetle, Change
 -- Data Capture; RabbitMQ, Publisher Confirms, for tags).
-use Rattle.std.specs.Prelude.{ℕ, zero, suc, ◌+◌, ◌-◌, ◌==◌, ◌&&◌, not, nat_lt, nat_le, Bool, true, false, Option, Some, None, Result, Ok, Err, List, [], ◌∷◌, ◌++◌, length, filter, slice_get, unwrap_or, if◌then◌else◌}
+use Rattle.std.specs.Prelude.{ℕ, zero, suc, ◌+◌, ◌-◌, ◌==◌, ◌&&◌, not, nat_lt, nat_le, Bool, true, false, Option, Some, None, Result, Ok, Err, List, [], ◌∷◌, ◌++◌, length, drop, filter, slice_get, unwrap_or, if◌then◌else◌}
 use Rattle.std.specs.List.{list_all, list_any}
 use Rattle.cdc_types.specs.declared.bounds.TheConstants.Limits.{SESSION}
 use Rattle.cdc_types.specs.declared.events.Event.{Event}
@@ -16,8 +16,8 @@ use Rattle.cdc_publisher.specs.declared.errors.StartError.TheVariants.{SessionsE
 use Rattle.cdc_publisher.specs.declared.session.Poll.{Poll}
 
 -- a session: its number; the start, the moment that the first session began after; the timestamp that this one begins
--- after; for how many events it waits at a time; the events that it was offered, in order; whether none follow them; how
--- many packets it has sent; and the tags that were confirmed to it
+-- after; for how many events it waits at a time; the events that it was offered, in order; whether none follow them;
+-- how many packets it has sent; and the tags that were confirmed to it
 pub record Course : Type 0 where
   pub number : ℕ
   pub start : ℕ
@@ -85,6 +85,10 @@ numbers_from first (suc n) = first ∷ numbers_from (first + 1) n
 abbrev pub unconfirmed : Course → List ℕ
 unconfirmed course = filter (λ tag. not (is_confirmed course tag)) (numbers_from 1 (tags_sent course))
 
+-- the events that were offered and aren't sent, in order
+abbrev pub unsent : Course → List Event
+unsent course = drop (tags_sent course) course.offered
+
 -- every event that was offered is sent
 abbrev pub all_sent : Course → Bool
 all_sent course = nat_le (length course.offered) (tags_sent course)
@@ -138,6 +142,10 @@ has_event (Some (Publish session tag (OfEvent event))) = true
 abbrev pub with_sent : Option Packet → Course → Course
 with_sent None course = course
 with_sent (Some packet) course = record course { sent = course.sent + 1 }
+
+-- the mark of the end was sent: more tags than there are events
+abbrev pub has_ended : Course → Bool
+has_ended course = nat_lt (length course.offered) (tags_sent course)
 
 -- a confirm of a session's tag counts where it is this session and the tag was sent and isn't confirmed
 abbrev pub takes_confirm : Course → ℕ → ℕ → Bool

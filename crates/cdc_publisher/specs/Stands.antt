@@ -45,8 +45,8 @@ pub record StandsFor (kept : Kept) (course : Course) : Type 0 where
 abbrev pub IsFrom : ℕ → ℕ → Type 0
 IsFrom start moment = (start ≤ moment) × (moment ≤ TIMESTAMP)
 
--- what bounds the numbers that are kept: timestamps by the start and the greatest one, packets by how far timestamps have
--- risen, and what waits by the window
+-- what bounds the numbers that are kept: timestamps by the start and the greatest one, packets by how far timestamps
+-- have risen, and what waits by the window
 pub record HasBounds (kept : Kept) : Type 0 where
   pub base : kept.base ≤ TIMESTAMP
   pub last : IsFrom kept.start kept.last

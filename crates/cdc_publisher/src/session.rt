@@ -1,11 +1,11 @@
 //! The session itself.
 
-ghost use Rattle.std.specs.Prelude.{◌≡◌, ◌⊎◌, ◌≤◌, IsTrue, Some, Err, IfOk, IfErr, OnOk, OnErr, is_some, option_map, unwrap_or};
+ghost use Rattle.std.specs.Prelude.{◌≡◌, ◌⊎◌, ◌≤◌, IsTrue, Some, Err, IfOk, IfErr, OnOk, OnErr, is_some, option_map, unwrap_or, ◌==◌, length, option_copied, slice_get};
 ghost use Rattle.circular_buffer.specs.Buffer.{buffer};
 ghost use Rattle.cdc_progress.specs.Stores.{IsRisked, MayRefuseSave};
 ghost use Rattle.cdc_types.specs.Timestamps.{last_timestamp_from};
 ghost use Rattle.cdc_types.specs.Windows.{IsWindow};
-ghost use Rattle.cdc_publisher.specs.Courses.{Course, begun, confirmed_timestamp, first_saved, has_event, is_done, next_packet, next_poll, next_saved, progress_of, takes_confirm, with_confirm, with_offer, with_sent};
+ghost use Rattle.cdc_publisher.specs.Courses.{Course, begun, confirmed_timestamp, first_saved, has_event, has_ended, is_done, next_packet, next_poll, next_saved, progress_of, tags_sent, takes_confirm, unconfirmed, unsent, with_confirm, with_offer, with_sent};
 ghost use Rattle.cdc_publisher.specs.Kept.{holds_tag, poll_of, without_tag};
 ghost use Rattle.cdc_publisher.specs.Offers.{IsOffered};
 ghost use Rattle.cdc_publisher.specs.Stands.{StandsFor};
@@ -157,7 +157,8 @@ impl Session {
     /// store has saved its number; so no later session has the same one. `window` is for how many events it may wait at
     /// a time; it makes room for these before it turns to the store.
     ///
-    /// Where nothing is held it begins after `at`, or after 0 where that is none, and the store keeps this as the start.
+    /// Where nothing is held it begins after `at`, or after 0 where that is none, and the store keeps this as the
+    /// start.
     /// Where progress is held, `at` has to be none: `StartNotAllowed`, found once the store has loaded, and before
     /// `SessionsExhausted`; nothing is saved then.
     pub fn start<S: ProgressStore>(
@@ -315,6 +316,68 @@ impl Session {
         ensures { (course : Course) → StandsFor self.now course → result ≡ is_done course }
     {
         self.ended && self.unconfirmed.is_empty()
+    }
+
+    /// Whether the session knows that no further event follows.
+    pub fn is_complete(&self) -> bool
+        ensures { (course : Course) → StandsFor self.now course → result ≡ course.complete }
+    {
+        self.complete
+    }
+
+    /// Whether the end mark was sent.
+    pub fn has_ended(&self) -> bool
+        ensures { (course : Course) → StandsFor self.now course → result ≡ has_ended course }
+    {
+        self.ended
+    }
+
+    /// The timestamp of the event that the session was offered last, or the base; in nanoseconds.
+    pub fn last_offered(&self) -> u64
+        ensures { (course : Course) → StandsFor self.now course
+            → result ≡ last_timestamp_from course.base course.offered }
+    {
+        self.last
+    }
+
+    /// How many events the session was offered and has not sent yet.
+    pub fn unsent_len(&self) -> usize
+        ensures { (course : Course) → StandsFor self.now course → result ≡ length (unsent course) }
+    {
+        self.unsent.len()
+    }
+
+    /// The event that the session sends next of those that it was offered, if one is unsent.
+    pub fn next_event(&self) -> Option<&Event>
+        ensures { (course : Course) → StandsFor self.now course
+            → option_copied result ≡ slice_get (unsent course) 0 }
+    {
+        self.unsent.front()
+    }
+
+    /// How many tags wait for their confirms.
+    pub fn waiting_len(&self) -> usize
+        ensures { (course : Course) → StandsFor self.now course
+            → result ≡ length (unconfirmed course) }
+    {
+        self.unconfirmed.len()
+    }
+
+    /// The first of the tags that wait for their confirms, if one waits.
+    pub fn first_waiting(&self) -> Option<u64>
+        ensures { (course : Course) → StandsFor self.now course
+            → result ≡ slice_get (unconfirmed course) 0 }
+    {
+        let first = self.unconfirmed.front()?;
+        Some(first.tag)
+    }
+
+    /// Whether as many tags wait for their confirms as may wait at a time.
+    pub fn is_full(&self) -> bool
+        ensures { (course : Course) → StandsFor self.now course
+            → result ≡ (length (unconfirmed course) == course.window) }
+    {
+        self.unconfirmed.is_full()
     }
 
     /// Whether the end mark comes next, where no event is unsent.

@@ -56,8 +56,8 @@ struct Maker {
     text: String,
 }
 
-/// A step file for a script: steps that its world takes, one after another, in most of which all goes on and among which
-/// faults are strewn. A session waits for so many events at a time. Of a bad script there are none.
+/// A step file for a script: steps that its world takes, one after another, in most of which all goes on and among
+/// which faults are strewn. A session waits for so many events at a time. Of a bad script there are none.
 pub fn random_steps(
     alloc: Global,
     script: &[u8],

@@ -6,7 +6,7 @@ use Rattle.std.specs.List.{AllZip}
 use Rattle.std.proofs.lemmas.List.{length-map, map-append}
 use Rattle.std.proofs.lemmas.List.Elements.{All-cons, All-map}
 use Rattle.std.proofs.lemmas.Simd.{map-map}
-use Rattle.cdc_ends.specs.Clients.{ArePartsOf, IsClient, Talk}
+use Rattle.cdc_ends.specs.Clients.{ArePartsOf, Talk}
 use Rattle.cdc_ends.specs.declared.conversations.ClientParts.{ClientParts}
 use Rattle.cdc_ends.specs.LedgerEnds.{IsDesk, is_over, Desk as LedgerDesk}
 use Rattle.cdc_ends.specs.Ends.{EndState, has_finished}

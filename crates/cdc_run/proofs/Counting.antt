@@ -12,12 +12,12 @@ use Rattle.cdc_progress.specs.declared.errors.StoreError.TheVariants as store
 use Rattle.cdc_ends.specs.Ends.{EndState}
 use Rattle.cdc_ends.specs.Faults.{IsTurnFault}
 use Rattle.cdc_ends.specs.Seats.{ConnectorSeat, broker_seat, client_seat, connector_seat, ledger_seat, subscriber_seat}
-use Rattle.cdc_links.specs.Links.{LinkId, fresh_end}
+use Rattle.cdc_links.specs.Links.{LinkId}
 use Rattle.cdc_progress.specs.Records.{Saved}
 use Rattle.cdc_progress.specs.Stores.{Risks}
 use Rattle.cdc_run.specs.Accounts.{IsRefused}
 use Rattle.cdc_run.specs.Jobs.{ComesTo}
-use Rattle.cdc_run.specs.Made.{AreMade, fresh_inbox, made_clients, made_subscribers}
+use Rattle.cdc_run.specs.Made.{AreMade, made_clients, made_subscribers}
 use Rattle.cdc_run.specs.Meeting.{IsConnectorFault, IsRunFault, MayHaveMet, MayMeet, clients_from, fault_in, places_in, subscribers_from}
 use Rattle.cdc_run.specs.Outcomes.{fault_among, fault_of, first_of}
 use Rattle.cdc_run.specs.Scripted.{ScriptedState}

@@ -32,8 +32,8 @@ pub record HasSettled (mail : LedgerMail) (c : Talk) : Type 0 where
   pub answers_left : List (ℕ × (Reply × Past))
   pub account : IsAccount c.answers (link ∷ []) answers_left
 
--- it has the replies to its own batches in that order, and its batches in that order are those that it was replied to:
--- none was left out, none came twice
+-- a client has the replies to its own batches in that order, and its batches in that order are those that were
+-- answered: none was left out, none came twice
 pub record IsReplied (order : List (ℕ × Batch)) (number : ℕ) (replies : List Reply) : Type 0 where
   pub answers : replies ≡ map (λ m. m.0) (said_to number order)
   pub batches : batches_by number order ≡ map (λ r. r.batch) replies

@@ -34,8 +34,9 @@ pub(crate) trait Job: Send + Drop {
         ensures ends { IfOk result (ends_as self) }
         ensures fails { IfErr result (fails_as self) };
 
-    /// Lets go of it before it has worked, and tells all that wait for it that nothing comes.
-    fn give_up<R: Wait>(self, rt: &R);
+    /// Lets go of it before it has worked, and tells all that wait for it that nothing comes, and the gate that it had
+    /// no thread.
+    fn give_up<R: Wait, G: Gate>(self, rt: &R, gate: &G);
 }
 
 /// What the thread of a job promises: the job's end, or a fault that it has met.
@@ -67,7 +68,7 @@ fn start<'s, E, J: Job + 's, R: Threads + Wait + Sync, G: Gate + Sync>(
             ensures { ComesTo J.ends_as J.fails_as job result }
         {
             if refused.load(Ordering::SeqCst) == place {
-                job.give_up(rt);
+                job.give_up(rt, gate);
                 return Err(RunFault::OutOfMemory);
             }
             job.work(rt, alloc, gate)

@@ -33,6 +33,11 @@ impl Scripted {
         Scripted { end, script }
     }
 
+    /// The client's number.
+    pub(crate) fn number(&self) -> u64 {
+        self.end.number()
+    }
+
     /// The end and its script.
     pub(crate) fn into_parts(self) -> (ClientEnd, Vec<Batch>)
         ensures end { result.0 ≡ self.end }

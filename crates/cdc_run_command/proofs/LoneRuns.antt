@@ -6,7 +6,7 @@ use Rattle.std.proofs.lemmas.List.Elements.{All-cons, All-head, All-nil, All-tai
 use Rattle.std.proofs.lemmas.Simd.{map-map}
 use Rattle.cdc_ends.specs.ConnectorEnds.{first_origin}
 use Rattle.cdc_laws.specs.Connectors.{held_start}
-use Rattle.cdc_laws.specs.Line.{line, line_after}
+use Rattle.cdc_laws.specs.Line.{line_after}
 use Rattle.cdc_laws.proofs.Lines.{line_after-zero}
 use Rattle.cdc_ledger.specs.declared.errors.BatchError.{BatchError}
 use Rattle.cdc_ledger.specs.History.{History, empty_history}
@@ -29,7 +29,7 @@ use Rattle.cdc_types.specs.declared.batches.Batch.{Batch}
 use Rattle.cdc_types.specs.declared.batches.BatchResults.{BatchResults}
 use Rattle.cdc_types.specs.Features.{features}
 use Rattle.cdc_commands.specs.Feeds.{subscribers_text}
-use Rattle.cdc_run_command.specs.LoneRuns.{HasOneClient, LoneRunsPrintBooks}
+use Rattle.cdc_run_command.specs.LoneRuns.{LoneRunsPrintBooks}
 use Rattle.cdc_commands.specs.Printed.{answer, batch_lines, printed_books}
 use Rattle.cdc_commands.specs.Report.{batch_line}
 use Rattle.cdc_run_command.specs.Runs.{AreMerged, client_count, entries_of, kept_text, own_of, owners_of, reply_lines, scripts_of, shares_from}

@@ -1,15 +1,13 @@
 -- The replies to clients, put into the order of the script.
-use Rattle.std.proofs.Common.{◌≡◌, ◌≢◌, ℕ, ◌+◌, ◌-◌, ◌<◌, ◌≤◌, zero, suc, Bool, true, false, List, [], ◌∷◌, ◌++◌, Some, None, refl, sym, ap, ap₂, ◌∙◌, subst, map, length, take, append_assoc, append-nil, arith, inl, inr}
+use Rattle.std.proofs.Common.{◌≡◌, ◌≢◌, ℕ, ◌+◌, ◌-◌, ◌<◌, ◌≤◌, zero, suc, Bool, true, false, List, [], ◌∷◌, ◌++◌, Some, refl, sym, ap, ◌∙◌, subst, map, length, take, arith, inl, inr}
 use Rattle.std.specs.Prelude.{◌⊎◌, ◌==◌, All, filter, if◌then◌else◌, slice_get, slice_index_or, slice_set}
 use Rattle.std.specs.Option.{option_map}
-use Rattle.std.proofs.lemmas.Bool.Decides.{eqb_tells}
-use Rattle.std.proofs.lemmas.List.{length-map, length-set, length-take-le, map-append, take_all}
-use Rattle.std.proofs.lemmas.List.Elements.{filter-append}
+use Rattle.std.proofs.lemmas.List.{length-map, length-set, map-append, take_all}
 use Rattle.std.proofs.lemmas.Option.{get_or_from_slice_get, slice_get-map, slice_get_read, slice_get_within}
 use Rattle.cdc_traffic.specs.declared.requests.Reply.{Reply}
-use Rattle.cdc_run_command.specs.Private.Merging.{HasNext, IsOrderOf, TakesNext, times_in}
+use Rattle.cdc_run_command.specs.Private.Merging.{HasNext, IsOrderOf, TakesNext, numbered_lines, times_in}
 use Rattle.cdc_commands.specs.Report.{batch_line}
-use Rattle.cdc_run_command.specs.Runs.{AreMerged, own_of, reply_lines, shares_from}
+use Rattle.cdc_run_command.specs.Runs.{AreMerged, own_of, reply_lines}
 use Rattle.cdc_commands.proofs.Places.{found_at, take_found}
 use Rattle.cdc_run_command.proofs.ShareLemmas.{other_number, own_of-other, own_of-same, same_number, shares_are}
 
@@ -213,53 +211,42 @@ module _ {X : Type 0} where
         ∙ take_all count.0 share (omega (arith, so_often)));
   }
 
--- ---- their lines
-
--- the line of one reply more
-reply_lines-more : (n : ℕ) (entries : List (ℕ × Reply)) (e : ℕ × Reply)
-    → reply_lines n (entries ++ e ∷ []) ≡ reply_lines n entries ++ batch_line (n + length entries) e.1.answer
-reply_lines-more n [] e =
-    append-nil (batch_line n e.1.answer) ∙ ap (λ m. batch_line m e.1.answer) (let z : n ≡ n + 0 = omega arith in z)
-reply_lines-more n (d ∷ entries) e =
-    ap (λ (xs : List ℕ). batch_line n d.1.answer ++ xs) (reply_lines-more (n + 1) entries e)
-    ∙ ap (λ m. batch_line n d.1.answer ++ (reply_lines (n + 1) entries ++ batch_line m e.1.answer))
-    (let z : n + 1 + length entries ≡ n + suc (length entries) = omega arith in z)
-    ∙ sym (append_assoc (batch_line n d.1.answer) (reply_lines (n + 1) entries)
-    (batch_line (n + suc (length entries)) e.1.answer))
-
--- the first so many batches of an order have their lines
-pub record HasPrinted (order : List ℕ) (shares : List (List Reply)) (i : ℕ) (taken : List ℕ) (lines : List ℕ)
+-- the replies to the first so many batches of an order
+pub record HasFound (order : List ℕ) (shares : List (List Reply)) (i : ℕ) (taken : List ℕ) (found : List Reply)
     : Type 0 where
   pub entries : List (ℕ × Reply)
   pub merging : IsMerging order shares i taken entries
-  pub lines_are : lines ≡ reply_lines 1 entries
+  pub found_are : found ≡ map (λ (e : ℕ × Reply). e.1) entries
 
--- at first none has
-pub printed_none : (order : List ℕ) (shares : List (List Reply)) (taken lines : List ℕ)
-    → length taken ≡ length shares → All (λ n. n ≡ 0) taken → lines ≡ [] → HasPrinted order shares 0 taken lines
-printed_none order shares taken lines places none empty = record {
+-- at first there is none
+pub found_none : (order : List ℕ) (shares : List (List Reply)) (taken : List ℕ) (found : List Reply)
+    → length taken ≡ length shares → All (λ n. n ≡ 0) taken → found ≡ [] → HasFound order shares 0 taken found
+found_none order shares taken found places none empty = record {
   entries = [];
   merging = merging_none order shares taken places none;
-  lines_are = empty;
+  found_are = empty;
 }
 
--- one line more
-pub printed_more : (order : List ℕ) (shares : List (List Reply)) (i : ℕ) (taken new lines lines' : List ℕ)
-    (client : ℕ) (next : Reply) → IsOrderOf order shares → HasPrinted order shares i taken lines
-    → slice_get order i ≡ Some client → TakesNext shares taken client next new
-    → lines' ≡ lines ++ batch_line (i + 1) next.answer → HasPrinted order shares (i + 1) new lines'
-printed_more order shares i taken new lines lines' client next of has found takes added =
+-- one reply more
+pub found_more : (order : List ℕ) (shares : List (List Reply)) (i : ℕ) (taken new : List ℕ) (found found' : List Reply)
+    (client : ℕ) (next : Reply) → IsOrderOf order shares → HasFound order shares i taken found
+    → slice_get order i ≡ Some client → TakesNext shares taken client next new → found' ≡ found ++ next ∷ []
+    → HasFound order shares (i + 1) new found'
+found_more order shares i taken new found found' client next of has there takes added =
     let first : HasNext shares taken client =
-    has_next order shares i taken has.entries client of has.merging found in
-    let so_many : length has.entries ≡ i =
-    sym (length-map has.entries (λ (e : ℕ × Reply). e.0)) ∙ ap length has.merging.owners
-    ∙ length-take-le i order (let h : i < length order = slice_get_within order i client found in omega (arith, h)) in
+    has_next order shares i taken has.entries client of has.merging there in
     record {
       entries = has.entries ++ (client, next) ∷ [];
-      merging = merging_more order shares i taken new has.entries client next first.from_one has.merging found takes;
-      lines_are = added
-          ∙ ap (λ (xs : List ℕ). xs ++ batch_line (i + 1) next.answer) has.lines_are
-          ∙ ap (λ m. reply_lines 1 has.entries ++ batch_line m next.answer)
-          (let z : i + 1 ≡ 1 + length has.entries = omega (arith, so_many) in z)
-          ∙ sym (reply_lines-more 1 has.entries (client, next));
+      merging = merging_more order shares i taken new has.entries client next first.from_one has.merging there takes;
+      found_are = added ∙ ap (λ (xs : List Reply). xs ++ next ∷ []) has.found_are
+          ∙ sym (map-append (λ (e : ℕ × Reply). e.1) has.entries ((client, next) ∷ []));
     }
+
+-- ---- their lines
+
+-- the lines of replies are those of the entries that have them
+pub lines_numbered : (n : ℕ) (entries : List (ℕ × Reply))
+    → numbered_lines n (map (λ (e : ℕ × Reply). e.1) entries) ≡ reply_lines n entries
+lines_numbered n [] = refl
+lines_numbered n (e ∷ entries) =
+    ap (λ (text : List ℕ). batch_line n e.1.answer ++ text) (lines_numbered (n + 1) entries)

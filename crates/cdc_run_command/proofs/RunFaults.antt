@@ -1,5 +1,5 @@
 -- The faults of a run, as the program answers them: none is that its ends aren't of one system.
-use Rattle.std.proofs.Common.{◌≡◌, ℕ, Bool, inl, inr, sym, subst}
+use Rattle.std.proofs.Common.{ℕ, Bool, inl, inr, sym, subst}
 use Rattle.cdc_ends.specs.declared.faults.RunFault.{RunFault}
 use Rattle.cdc_ends.specs.declared.faults.RunFault.TheVariants.{PeerGone, OutOfMemory, Store, SessionsExhausted, NotOneSystem, StartNotAllowed}
 use Rattle.cdc_progress.specs.Stores.{Risks}

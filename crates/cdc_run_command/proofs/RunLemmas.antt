@@ -1,14 +1,12 @@
 -- A run of a script, and what is printed of it.
-use Rattle.std.proofs.Common.{◌≡◌, ◌∙◌, ℕ, ◌+◌, ◌-◌, ◌<◌, ◌≤◌, zero, suc, List, [], ◌∷◌, Some, None, Ok, Err, refl, sym, ap, subst, map, length, arith}
-use Rattle.std.specs.Prelude.{All, IfOk, IfSome, Option, Result, fold, max, slice_get, slice_index_or}
+use Rattle.std.proofs.Common.{◌≡◌, ◌∙◌, ℕ, ◌+◌, ◌≤◌, zero, suc, List, [], ◌∷◌, Some, None, Ok, Err, refl, sym, ap, subst, map, length, arith}
+use Rattle.std.specs.Prelude.{IfOk, IfSome, Option, Result, fold, max, slice_get, slice_index_or}
 use Rattle.std.specs.Option.{option_map}
 use Rattle.std.proofs.lemmas.List.{length-map}
-use Rattle.std.proofs.lemmas.Option.{get_or_from_slice_get, slice_get-map, slice_get_within}
+use Rattle.std.proofs.lemmas.Option.{get_or_from_slice_get, slice_get-map}
 use Rattle.cdc_ledger.specs.History.{History}
 use Rattle.cdc_match.specs.declared.binding.Binding.{Binding}
-use Rattle.cdc_run.specs.Configs.{Fits}
-use Rattle.cdc_run.specs.Reports.{AreSubscribed, HasRun, replies_of}
-use Rattle.cdc_run.specs.declared.reports.Report.{Report}
+use Rattle.cdc_run.specs.Reports.{AreSubscribed}
 use Rattle.cdc_script.specs.Scripts.{script_of}
 use Rattle.cdc_script.specs.declared.scripts.ClientBatch.{ClientBatch}
 use Rattle.cdc_script.specs.declared.scripts.Script.{Script}
@@ -22,10 +20,9 @@ use Rattle.cdc_commands.specs.declared.faults.ProgramFault.{ProgramFault}
 use Rattle.cdc_commands.specs.declared.output.Output.{Output}
 use Rattle.cdc_run_command.specs.Private.Merging.{IsOrderOf, times_in}
 use Rattle.cdc_run_command.specs.Private.Runnable.{IsClient, IsRunnable}
-use Rattle.cdc_run_command.specs.RunPrinted.{PrintsRun, RunCommandPrints}
+use Rattle.cdc_run_command.specs.RunPrinted.{RunCommandPrints}
 use Rattle.cdc_run_command.specs.Runs.{Setting, client_count, entries_of, own_of, owners_of, shares_from}
 use Rattle.cdc_commands.proofs.Places.{found_at}
-use Rattle.cdc_run_command.proofs.ReplyLemmas.{found_as}
 use Rattle.cdc_run_command.proofs.ShareLemmas.{length-own_of, length-shares_from, slice_get-shares_from}
 
 -- ---- how many clients there are

@@ -10,4 +10,5 @@ mod shares;
 
 pub use lone_runs::lone_run_laws;
 pub use plans::RunPlan;
-pub use run::{run_command, run_of};
+pub use run::{Ran, report_of_run, run_command, run_of};
+pub use run_report::{print_run, replies_in_order};

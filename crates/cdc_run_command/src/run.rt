@@ -9,7 +9,9 @@ ghost use Rattle.cdc_run_command.specs.Plans.{IsPlan};
 ghost use Rattle.cdc_commands.specs.Outcomes.{Writes};
 ghost use Rattle.cdc_run_command.specs.Private.Runnable.{IsRunnable};
 ghost use Rattle.cdc_run_command.specs.RunPrinted.{MayFailRun, RunCommandPrints};
-ghost use Rattle.cdc_run_command.specs.Runs.{RunsTo};
+ghost use Rattle.cdc_run.specs.Reports.{replies_of};
+ghost use Rattle.cdc_run_command.specs.Private.Merging.{IsOrderOf};
+ghost use Rattle.cdc_run_command.specs.Runs.{MayComeTo, RunsTo, owners_of};
 
 use crate::faults::fault_of_run;
 use crate::lone_runs::lone_run_laws;
@@ -18,7 +20,7 @@ use crate::run_report::print_run;
 use crate::shares::{Parted, part_batches};
 use cdc_commands::{Ending, Output, ProgramFault, file_fault, print_output};
 use cdc_progress::ProgressStore;
-use cdc_run::{Config, Gate, run};
+use cdc_run::{Config, Gate, Report, run};
 use cdc_script::{Script, ScriptError, parse_script, read_text};
 use std::alloc::Global;
 use std::io::{Read, Write};
@@ -100,6 +102,40 @@ fn run_clients<T: Threads + Wait + Sync, S: ProgressStore + Send + Drop, G: Gate
     }) script text.items) }
     ensures fault { IfErr result MayFailRun }
 {
+    let ran = report_of_run(rt, alloc, script, plan, store, gate)?;
+    Ok(print_run(alloc, &ran)?)
+}
+
+/// What a run of a script came to.
+#[derive(Drop)]
+pub struct Ran {
+    /// The client that has handed in each batch, in the order of the script.
+    pub order: Vec<u64>,
+    /// What the run reports.
+    pub report: Report,
+}
+
+/// What a run of a script comes to, for whoever prints it. There is nothing where the run met a fault.
+pub fn report_of_run<T: Threads + Wait + Sync, S: ProgressStore + Send + Drop, G: Gate + Sync>(
+    rt: &T,
+    alloc: Global,
+    script: Script,
+    plan: RunPlan,
+    store: S,
+    gate: &G,
+) -> Result<Ran, ProgramFault>
+    requires plan { IsPlan plan }
+    requires script { IsRunnable script }
+    ensures comes { IfOk result (λ ran. MayComeTo (record {
+      closes = plan.faults.close.items;
+      start = plan.start;
+      held = S.held store;
+      honest = S.is_honest store;
+    }) script ran.report) }
+    ensures order { IfOk result (λ ran. ran.order.items ≡ owners_of script.batches) }
+    ensures replies { IfOk result (λ ran. IsOrderOf ran.order.items (replies_of ran.report)) }
+    ensures fault { IfErr result MayFailRun }
+{
     let Script { bindings, batches } = script;
     let bindings = bindings.into_vec();
     let batches = batches.into_vec();
@@ -122,11 +158,10 @@ fn run_clients<T: Threads + Wait + Sync, S: ProgressStore + Send + Drop, G: Gate
         prefetch,
         start,
     };
-    let report = match run(rt, alloc, config, scripts, faults, store, gate) {
-        Ok(report) => report,
-        Err(fault) => return Err(fault_of_run(fault)),
-    };
-    Ok(print_run(alloc, order.as_slice(), &report)?)
+    match run(rt, alloc, config, scripts, faults, store, gate) {
+        Ok(report) => Ok(Ran { order, report }),
+        Err(fault) => Err(fault_of_run(fault)),
+    }
 }
 
 /// Reads a script, runs it on threads, and prints what `run_of` says of its bytes. A command that gives up prints why,

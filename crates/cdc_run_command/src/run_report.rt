@@ -3,40 +3,56 @@
 ghost use Rattle.std.specs.Prelude.{◌≡◌, ◌++◌, ℕ, All, IfOk, List, OnOk, length, map, string_bytes};
 ghost use Rattle.cdc_run.specs.Reports.{replies_of};
 ghost use Rattle.cdc_traffic.specs.declared.requests.Reply.{Reply as Replied};
-ghost use Rattle.cdc_run_command.specs.Private.Merging.{HasNext, IsOrderOf, TakesNext};
-ghost use Rattle.cdc_run_command.specs.Runs.{AreMerged, PrintsReport, kept_text, reply_lines};
+ghost use Rattle.cdc_run_command.specs.Private.Merging.{HasNext, IsOrderOf, TakesNext, numbered_lines};
+ghost use Rattle.cdc_run_command.specs.Runs.{AreMerged, PrintsReport, kept_text};
 
+use crate::run::Ran;
 use cdc_commands::{print_subscriber, push_batch};
-use cdc_run::Report;
 use cdc_subscriber::Subscriber;
 use cdc_traffic::Reply;
 use std::alloc::{AllocError, Global};
 
-/// What is printed of a run, in which clients have handed in the batches in this order.
-pub fn print_run(alloc: Global, order: &[u64], report: &Report) -> Result<Vec<u8>, AllocError>
-    requires { IsOrderOf order.now (replies_of report.now) }
-    ensures { IfOk result (λ text. PrintsReport order.now report.now text.items) }
+/// What is printed of a run.
+pub fn print_run(alloc: Global, ran: &Ran) -> Result<Vec<u8>, AllocError>
+    requires { IsOrderOf ran.now.order.items (replies_of ran.now.report) }
+    ensures { IfOk result (λ text. PrintsReport ran.now.order.items ran.now.report text.items) }
 {
-    let lines = reply_text(alloc, order, report.replies.as_slice())?;
-    let mut text = lines.into_bytes();
-    push_kept(&mut text, report.subscribers.as_slice())?;
+    let (order, replies) = (ran.order.as_slice(), ran.report.replies.as_slice());
+    let replies = replies_in_order(alloc, order, replies)?;
+    let mut text = reply_text(alloc, replies.as_slice())?.into_bytes();
+    push_kept(&mut text, ran.report.subscribers.as_slice())?;
     Ok(text)
 }
 
-/// The lines of the replies to all batches, which clients have handed in in this order.
-fn reply_text(alloc: Global, order: &[u64], replies: &[Vec<Reply>]) -> Result<String, AllocError>
-    requires { IsOrderOf order.now (map (λ v. v.items) replies.now) }
-    ensures { IfOk result (λ text. (merged : List (ℕ × Replied))
-        × (AreMerged order.now (map (λ v. v.items) replies.now) merged
-        × (string_bytes text ≡ reply_lines 1 merged))) }
+/// The lines of replies to all batches.
+fn reply_text(alloc: Global, replies: &[&Reply]) -> Result<String, AllocError>
+    ensures { IfOk result (λ text. string_bytes text
+        ≡ numbered_lines 1 (map (λ r. r.now) replies.now)) }
 {
     let mut lines = String::new(alloc);
-    let mut taken = none_taken(alloc, replies.len())?;
-    for (place, client) in order.iter().enumerate() {
-        let reply = take_next(replies, &mut taken, *client);
+    for (place, reply) in replies.iter().enumerate() {
         push_batch(&mut lines, place as u64 + 1, &reply.answer)?;
     }
     Ok(lines)
+}
+
+/// The replies to all batches, in the order of the script, in which clients have handed them in.
+pub fn replies_in_order<'a>(
+    alloc: Global,
+    order: &[u64],
+    replies: &'a [Vec<Reply>],
+) -> Result<Vec<&'a Reply>, AllocError>
+    requires { IsOrderOf order.now (map (λ v. v.items) replies.now) }
+    ensures { IfOk result (λ found. (merged : List (ℕ × Replied))
+        × (AreMerged order.now (map (λ v. v.items) replies.now) merged
+        × (map (λ r. r.now) found.items ≡ map (λ e. e.1) merged))) }
+{
+    let mut found = Vec::with_capacity(alloc, order.len())?;
+    let mut taken = none_taken(alloc, replies.len())?;
+    for client in order {
+        found.push(take_next(replies, &mut taken, *client))?;
+    }
+    Ok(found)
 }
 
 /// The next reply to a client, of which so many of each client are taken.

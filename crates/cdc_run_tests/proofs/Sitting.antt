@@ -62,7 +62,8 @@ module _ (system : ℕ) (w : Wiring) where
 
   -- each client, behind those of some links
   clients_made : (before links : List (LinkId Reply)) (number : ℕ) → before ++ links ≡ w.to_clients
-      → number ≡ length before + 1 → All IsClient (map (sits_at client_seat) (made_clients system w.to_ledger number links))
+      → number ≡ length before + 1
+      → All IsClient (map (sits_at client_seat) (made_clients system w.to_ledger number links))
   clients_made before [] number split count = All-nil IsClient
   clients_made before (link ∷ links) number split count =
       let long = length_push before link in
@@ -124,7 +125,8 @@ wired_up config faults held honest risks system wired ends made is named =
 -- ---- turns
 
 -- all ends, by where they sit
-abbrev all_seats : ℕ × LedgerSeat → List (ℕ × ClientSeat) → ℕ × ConnectorSeat → ℕ × BrokerSeat → List (ℕ × SubscriberSeat)
+abbrev all_seats : ℕ × LedgerSeat → List (ℕ × ClientSeat) → ℕ × ConnectorSeat → ℕ × BrokerSeat
+    → List (ℕ × SubscriberSeat)
     → RunSeats
 all_seats ledger clients connector broker subscribers = record {
   ledger = ledger;
@@ -177,7 +179,8 @@ seated wiring system ends broker are same sits =
     record {
       ledger = subst (λ n. LedgerSits (wiring n) (ledger_seat ends.ledger.work)) (sym are.ledger_system)
           (subst (λ (v : Wiring). LedgerSits v (ledger_seat ends.ledger.work)) (sym same) are.ledger);
-      clients = All-weaker (λ c. IsClient system w (sits_at client_seat c)) (λ c. ClientSits (wiring c.system) (client_seat c.work))
+      clients = All-weaker (λ c. IsClient system w (sits_at client_seat c))
+          (λ c. ClientSits (wiring c.system) (client_seat c.work))
           (λ c h. subst (λ n. ClientSits (wiring n) (client_seat c.work)) (sym h.0)
           (subst (λ (v : Wiring). ClientSits v (client_seat c.work)) (sym same) h.1))
           ends.clients.items (read_back (IsClient system w) (sits_at client_seat) ends.clients.items are.clients);

@@ -3,7 +3,7 @@
 ghost use Rattle.std.specs.Prelude.{◌≡◌, ◌+◌, ◌≤◌, vec_len};
 ghost use Rattle.cdc_run.specs.Configs.{Fits};
 
-use cdc_ends::{Repeats, Story};
+use cdc_ends::{Repeats, RunFault, Story};
 use cdc_match::Binding;
 use cdc_progress::MemoryStore;
 use cdc_run::{Config, Faults, Gate, Place, Report, run};
@@ -18,7 +18,8 @@ use std::sync::atomic::{AtomicU64, Ordering};
 const MOST_LOOKS: u32 = 1_000_000_000;
 
 // Holds the first turn of every place until all have been asked for; then the third turn of client 1 until the second
-// one of the last subscriber has been asked for, and the other way round. The test fails where a hold waits for too long.
+// one of the last subscriber has been asked for, and the other way round. The test fails where a hold waits for too
+// long.
 #[derive(Drop)]
 struct MeetingGate<'a, R: Abort> {
     rt: &'a R,
@@ -82,6 +83,10 @@ impl<R: Abort> Gate for MeetingGate<'_, R> {
     fn hear_broker(&self, _story: Story) {}
 
     fn hear_subscriber(&self, _number: u64, _repeats: Repeats) {}
+
+    fn hear_fault(&self, _place: Place, _fault: RunFault) {}
+
+    fn hear_unstarted(&self, _place: Place) {}
 }
 
 fn account(id: u128) -> NewAccount {

@@ -1,5 +1,5 @@
-//! Ends of one system that have finished are settled; ends of two systems aren't, nor are ends that haven't begun, or of
-//! which one has met a fault.
+//! Ends of one system that have finished are settled; ends of two systems aren't, nor are ends that haven't begun, or
+//! of which one has met a fault.
 
 ghost use Rattle.std.specs.Prelude.{◌≡◌, map};
 ghost use Rattle.cdc_run.specs.Configs.{Fits};

@@ -75,8 +75,8 @@ pub fn parse_script(alloc: Global, text: &[u8]) -> Result<Script, ScriptError>
     Ok(draft.finish()?)
 }
 
-/// The script that a reader's text writes, or its first fault. It asks for at most one byte more than a script may have,
-/// and for no more after a read that failed.
+/// The script that a reader's text writes, or its first fault. It asks for at most one byte more than a script may
+/// have, and for no more after a read that failed.
 pub fn read_script<R: Read>(
     alloc: Global,
     reader: &mut R,

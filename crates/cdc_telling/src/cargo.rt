@@ -1,14 +1,14 @@
-//! What goes from actor to actor in a simulation.
+//! What goes from actor to actor in a simulation, as it is told.
 
 use crate::movements::Movement;
+use cdc_message::{Answer, Item, decode};
+use std::alloc::{AllocError, Global};
 
 /// An item that is published, queued and handed out.
 #[derive(Clone, Copy)]
 pub(crate) enum Cargo {
-    /// The event at this place of the ledger's log, from 0, with its timestamp in nanoseconds and the money that it moved.
+    /// An event, with its timestamp in nanoseconds and the money that it moved.
     Event {
-        /// Its place.
-        place: usize,
         /// Its timestamp.
         timestamp: u64,
         /// The money.
@@ -47,6 +47,20 @@ pub(crate) struct Confirm {
 }
 
 impl Cargo {
+    /// An item, whose event stands in the body of its message.
+    pub(crate) fn of(alloc: Global, item: &Item) -> Result<Cargo, AllocError> {
+        let Item::Event(message) = item else {
+            return Ok(Cargo::EndMark);
+        };
+        match decode(alloc, message.body().as_bytes()) {
+            Ok(event) => Ok(Cargo::Event {
+                timestamp: event.timestamp,
+                movement: Movement::of(&event),
+            }),
+            Err(_) => Err(AllocError),
+        }
+    }
+
     /// The money that an event moved.
     pub(crate) fn movement(self) -> Option<Movement> {
         match self {
@@ -56,7 +70,32 @@ impl Cargo {
     }
 }
 
+impl Confirm {
+    /// A confirm of a publish.
+    pub(crate) fn of(confirm: &cdc_message::Confirm) -> Option<Confirm> {
+        match confirm.answer {
+            Answer::Confirmed(tag) => Some(Confirm {
+                session: confirm.session,
+                tag,
+            }),
+            _ => None,
+        }
+    }
+}
+
 impl Packet {
+    /// A packet that was sent.
+    pub(crate) fn of(alloc: Global, packet: &cdc_message::Packet) -> Result<Packet, AllocError> {
+        match packet {
+            cdc_message::Packet::Connect { session } => Ok(Packet::Connect { session: *session }),
+            cdc_message::Packet::Publish { session, tag, item } => Ok(Packet::Publish {
+                session: *session,
+                tag: *tag,
+                cargo: Cargo::of(alloc, item)?,
+            }),
+        }
+    }
+
     /// The money of the event that is published.
     pub(crate) fn movement(self) -> Option<Movement> {
         match self {

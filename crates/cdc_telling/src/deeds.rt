@@ -91,28 +91,28 @@ pub(crate) enum ConnectorDeed {
 pub(crate) enum QueueDeed {
     /// The queue handed out an item.
     Sent {
-        position: usize,
+        position: u64,
         cargo: Cargo,
     },
     /// The queue went back to a position.
     Rewound {
-        position: usize,
+        position: u64,
     },
     /// So many deliveries were lost on their way, and the queue went back to a position.
     Broken {
-        position: usize,
+        position: u64,
         lost: usize,
     },
     /// The subscriber took an item.
     Took {
-        position: usize,
+        position: u64,
         cargo: Cargo,
         taking: Taking,
     },
     /// An acknowledgement came to the queue, where all positions up to this one are acknowledged now.
     Acknowledged {
         number: u64,
-        position: usize,
+        position: u64,
     },
     /// The subscriber closed.
     Closed,
@@ -345,19 +345,19 @@ impl QueueDeed {
         match self {
             QueueDeed::Sent { position, cargo } => position_sentence(position, cargo),
             QueueDeed::Rewound { position } => {
-                Sentence::One("begins again at position ", position as u128, "")
+                Sentence::One("begins again at position ", position.into(), "")
             }
             QueueDeed::Broken { position, lost } => Sentence::Two(
                 "lost on the way ",
                 lost as u128,
                 ", begins again at position ",
-                position as u128,
+                position.into(),
                 "",
             ),
             QueueDeed::Took { cargo, taking, .. } => taking_sentence(cargo, taking),
             QueueDeed::Acknowledged { position, .. } => Sentence::One(
                 "counted, all up to position ",
-                position as u128,
+                position.into(),
                 " are acknowledged",
             ),
             QueueDeed::Closed => Sentence::Plain("the subscriber applies no more"),
@@ -377,18 +377,18 @@ impl QueueDeed {
 }
 
 /// An item at a position.
-fn position_sentence(position: usize, cargo: Cargo) -> Sentence {
+fn position_sentence(position: u64, cargo: Cargo) -> Sentence {
     match cargo {
         Cargo::Event { timestamp, .. } => {
             Sentence::Two(
                 "position ",
-                position as u128,
+                position.into(),
                 ", event ",
                 timestamp.into(),
                 "",
             )
         }
-        Cargo::EndMark => Sentence::One("position ", position as u128, ", end mark"),
+        Cargo::EndMark => Sentence::One("position ", position.into(), ", end mark"),
     }
 }
 

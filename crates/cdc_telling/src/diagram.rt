@@ -91,7 +91,7 @@ fn queue_arrow(i: u128, deed: QueueDeed) -> Sentence {
         QueueDeed::Rewound { .. } => Sentence::One("Note over B: queue ", i, " "),
         QueueDeed::Broken { .. } => Sentence::One("B--xS", i, ": "),
         QueueDeed::Took { position, .. } => {
-            Sentence::Two("Note over S", i, ": position ", position as u128, ", ")
+            Sentence::Two("Note over S", i, ": position ", position.into(), ", ")
         }
         QueueDeed::Acknowledged { number, .. } => {
             Sentence::Two("S", i, "-->>B: acknowledgement ", number.into(), ", ")

@@ -196,8 +196,8 @@ fn number_at(text: &[u8], greatest: u128) -> Option<u128> {
 }
 
 impl Slips {
-    /// Takes a line, which has this number. A batch counts on from its moment, or from the last timestamp that was given
-    /// out; each of its requests takes one, and at a pulse each transfer that expires.
+    /// Takes a line, which has this number. A batch counts on from its moment, or from the last timestamp that was
+    /// given out; each of its requests takes one, and at a pulse each transfer that expires.
     fn add(&mut self, line: Line<'_>, number: u64) {
         match line.kind {
             Some(Kind::Account) => self.last = self.last.saturating_add(1),

@@ -26,8 +26,8 @@ struct Search<'a> {
     tries: usize,
 }
 
-/// An order of batches, by their places from 0, that keeps each client's and comes to the results that were printed; none
-/// where none is found in time.
+/// An order of batches, by their places from 0, that keeps each client's and comes to the results that were printed;
+/// none where none is found in time.
 pub(crate) fn find_order(
     alloc: Global,
     batches: &[ClientBatch],
@@ -112,7 +112,8 @@ impl<'a> Search<'a> {
         None
     }
 
-    /// Hands in the batch at a place, which comes next where it has the results that were printed. Answers whether it did.
+    /// Hands in the batch at a place, which comes next where it has the results that were printed. Answers whether it
+    /// did.
     fn try_batch(&mut self, alloc: Global, place: usize) -> Result<bool, AllocError> {
         let Some(item) = self.batches.get(place) else {
             return Ok(false);

@@ -1,30 +1,32 @@
 //! Why a step isn't enabled: a sentence for each reason.
 
-use crate::following::{Followed, place_of};
+use crate::readings::subscriber_number;
 use crate::sentences::Sentence;
-use crate::sessions::{Session, Waiting};
+use cdc_progress::{MemoryStore, Progress};
+use cdc_publisher::Session;
 use cdc_types::Step;
+use cdc_world::World;
 
 /// Why a step isn't enabled now.
-pub(crate) fn reason(step: &Step, followed: &Followed) -> Sentence {
+pub(crate) fn reason(step: &Step, world: &World<MemoryStore>) -> Sentence {
     match step {
         Step::Send(i) | Step::Rewind(i) | Step::Break(i) | Step::Take(i) | Step::Close(i) => {
-            queue_reason(step, *i, followed)
+            queue_reason(step, *i, world)
         }
-        Step::Ack(i, k) => ack_reason(*i, *k, followed),
-        Step::Arrive(k) => arrival_reason(*k, followed),
-        _ => connector_reason(step, followed),
+        Step::Ack(i, k) => ack_reason(*i, *k, world),
+        Step::Arrive(k) => arrival_reason(*k, world),
+        _ => connector_reason(step, world),
     }
 }
 
 /// Why a packet isn't there.
-fn arrival_reason(k: u64, followed: &Followed) -> Sentence {
-    count_reason(k, followed.packets.len(), PACKETS).unwrap_or(UNKNOWN)
+fn arrival_reason(k: u64, world: &World<MemoryStore>) -> Sentence {
+    count_reason(k, world.packets(), PACKETS).unwrap_or(UNKNOWN)
 }
 
 /// Why a confirm isn't there.
-fn answer_reason(k: u64, followed: &Followed) -> Sentence {
-    count_reason(k, followed.confirms.len(), CONFIRMS).unwrap_or(UNKNOWN)
+fn answer_reason(k: u64, world: &World<MemoryStore>) -> Sentence {
+    count_reason(k, world.confirms(), CONFIRMS).unwrap_or(UNKNOWN)
 }
 
 /// Where no reason is known, which is never.
@@ -46,7 +48,7 @@ const CONFIRMS: [&str; 3] = [
 /// Why there is nothing of this number among so many, if there is nothing.
 fn count_reason(number: u64, count: usize, words: [&'static str; 3]) -> Option<Sentence> {
     let [none, one, more] = words;
-    if place_of(number) < count {
+    if 0 < number && number <= count as u64 {
         return None;
     }
     Some(match (number, count) {
@@ -58,39 +60,59 @@ fn count_reason(number: u64, count: usize, words: [&'static str; 3]) -> Option<S
 }
 
 /// Why a session doesn't start after a moment where progress is saved: what is saved.
-pub(crate) fn start_reason(followed: &Followed) -> Sentence {
+pub(crate) fn start_reason(saved: Progress) -> Sentence {
     Sentence::Two(
         "session ",
-        followed.sessions.into(),
+        saved.session().into(),
         " has saved progress up to ",
-        followed.saved_up_to.into(),
+        saved.timestamp().into(),
         ", and a moment is taken only where none is saved",
     )
 }
 
 /// Why a step of the connector isn't enabled.
-fn connector_reason(step: &Step, followed: &Followed) -> Sentence {
-    let Some(session) = &followed.session else {
+fn connector_reason(step: &Step, world: &World<MemoryStore>) -> Sentence {
+    let Some(session) = world.session() else {
         return Sentence::Plain("no session runs");
     };
     match step {
         Step::Start | Step::StartAt(_) => {
-            Sentence::One("session ", session.number.into(), " runs already")
+            Sentence::One("session ", session.number().into(), " runs already")
         }
         Step::Poll => poll_reason(session),
         Step::Publish => publish_reason(session),
-        Step::Answer(k) => answer_reason(*k, followed),
+        Step::Answer(k) => answer_reason(*k, world),
         _ => UNKNOWN,
+    }
+}
+
+/// For how many confirms a session waits.
+#[derive(Clone, Copy)]
+struct Waiting {
+    /// How many they are.
+    count: usize,
+    /// The tag of the first of them.
+    first: u64,
+}
+
+impl Waiting {
+    /// For which confirms a session waits, if it does.
+    fn of(session: &Session) -> Option<Waiting> {
+        let first = session.first_waiting()?;
+        Some(Waiting {
+            count: session.waiting_len(),
+            first,
+        })
     }
 }
 
 /// Why a session wants no events.
 fn poll_reason(session: &Session) -> Sentence {
-    if session.has_unsent() {
+    if session.unsent_len() > 0 {
         return Sentence::Plain("the session has an event that it is to publish first");
     }
-    match session.waiting() {
-        Some(waiting) if session.room() == 0 => {
+    match Waiting::of(session) {
+        Some(waiting) if session.is_full() => {
             waiting_sentence(
                 [
                     "the session waits for the confirm of tag ",
@@ -120,8 +142,8 @@ fn waiting_sentence(words: [&'static str; 2], waiting: Waiting) -> Sentence {
 
 /// Why a session has no packet.
 fn publish_reason(session: &Session) -> Sentence {
-    match session.waiting() {
-        Some(waiting) if session.complete && !session.ended => {
+    match Waiting::of(session) {
+        Some(waiting) if session.is_complete() && !session.has_ended() => {
             waiting_sentence(
                 [
                     "the end mark waits for the confirm of tag ",
@@ -130,40 +152,36 @@ fn publish_reason(session: &Session) -> Sentence {
                 waiting,
             )
         }
-        _ if session.ended => Sentence::Plain("the session has sent all, and the end mark"),
+        _ if session.has_ended() => Sentence::Plain("the session has sent all, and the end mark"),
         _ => Sentence::Plain("the session has no event that is to be published"),
     }
 }
 
-/// Why there is no subscriber of this number, if there is none.
-fn subscriber_reason(i: u64, followed: &Followed) -> Option<Sentence> {
-    let count = followed.lanes.len();
-    if place_of(i) < count {
-        return None;
-    }
-    Some(Sentence::Two(
+/// Why there is no subscriber of this number.
+fn subscriber_reason(i: u64, world: &World<MemoryStore>) -> Sentence {
+    Sentence::Two(
         "there is no subscriber ",
         i.into(),
         ": the last one is number ",
-        count as u128,
+        world.subscriber_count() as u128,
         "",
-    ))
+    )
 }
 
 /// Why a step of a queue or its subscriber isn't enabled.
-fn queue_reason(step: &Step, i: u64, followed: &Followed) -> Sentence {
-    if let Some(sentence) = subscriber_reason(i, followed) {
-        return sentence;
-    }
+fn queue_reason(step: &Step, i: u64, world: &World<MemoryStore>) -> Sentence {
+    let Some(number) = subscriber_number(i, world) else {
+        return subscriber_reason(i, world);
+    };
     match step {
         Step::Take(_) => Sentence::One("nothing is on its way to subscriber ", i.into(), ""),
-        Step::Send(_) => sending_reason(i, queued_count(i, followed)),
+        Step::Send(_) => sending_reason(i, world.broker().queue_len(number)),
         _ => UNKNOWN,
     }
 }
 
 /// Why queue `i`, to which so many items came, hands out none.
-fn sending_reason(i: u64, count: usize) -> Sentence {
+fn sending_reason(i: u64, count: u64) -> Sentence {
     if count == 0 {
         return Sentence::One("queue ", i.into(), " is empty");
     }
@@ -171,25 +189,17 @@ fn sending_reason(i: u64, count: usize) -> Sentence {
         "queue ",
         i.into(),
         " has nothing behind position ",
-        count as u128,
+        count.into(),
         "",
     )
 }
 
-/// How many items came to queue `i`.
-fn queued_count(i: u64, followed: &Followed) -> usize {
-    match followed.lanes.get(place_of(i)) {
-        Some(lane) => lane.len(),
-        None => 0,
-    }
-}
-
 /// Why an acknowledgement isn't there.
-fn ack_reason(i: u64, k: u64, followed: &Followed) -> Sentence {
-    if let Some(sentence) = subscriber_reason(i, followed) {
-        return sentence;
-    }
-    match (ack_count(i, followed), k) {
+fn ack_reason(i: u64, k: u64, world: &World<MemoryStore>) -> Sentence {
+    let Some(number) = subscriber_number(i, world) else {
+        return subscriber_reason(i, world);
+    };
+    match (world.acks(number), k) {
         (0, _) => Sentence::One("subscriber ", i.into(), " has acknowledged nothing"),
         (_, 0) => Sentence::Plain("numbers count from 1"),
         (count, _) => Sentence::Two(
@@ -199,13 +209,5 @@ fn ack_reason(i: u64, k: u64, followed: &Followed) -> Sentence {
             count as u128,
             "",
         ),
-    }
-}
-
-/// How many acknowledgements subscriber `i` gave.
-fn ack_count(i: u64, followed: &Followed) -> usize {
-    match followed.lanes.get(place_of(i)) {
-        Some(lane) => lane.ack_count(),
-        None => 0,
     }
 }

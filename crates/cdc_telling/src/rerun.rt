@@ -4,16 +4,16 @@ ghost use Rattle.cdc_types.specs.Windows.{IsWindow};
 
 use crate::deeds::{Deed, push_movement};
 use crate::diagram::Diagram;
-use crate::following::Followed;
 use crate::items::ItemLines;
+use crate::readings::{Leaving, count_up_to, deed_of, leaving_by};
 use crate::reasons::{reason, start_reason};
 use crate::results::batch_sentence;
 use crate::sentences::Sentence;
 use crate::steps::step_words;
 use crate::texts::Text;
-use cdc_ledger::{BatchError, Ledger};
+use cdc_ledger::BatchError;
 use cdc_match::Binding;
-use cdc_progress::MemoryStore;
+use cdc_progress::{MemoryStore, Progress};
 use cdc_script::{Act, ClientBatch, Script};
 use cdc_types::{Batch, Step};
 use cdc_world::{Did, StepError, World};
@@ -42,8 +42,8 @@ struct SecondRun {
     batches: IntoIter<ClientBatch>,
     /// How many batches the script has.
     batch_count: usize,
-    /// What steps tell.
-    followed: Followed,
+    /// How many of them the ledger took.
+    taken: usize,
 }
 
 /// Plays a script by a step file once more, and tells it.
@@ -57,14 +57,10 @@ pub(crate) fn rerun(
     requires { IsWindow window }
 {
     let Script { bindings, batches } = script;
-    let Ok(followed) = Followed::new(alloc, bindings.as_slice(), window) else {
-        told.why.give_up();
-        return;
-    };
     let mut run = SecondRun {
         batch_count: batches.as_slice().len(),
         batches: batches.into_vec().into_iter(),
-        followed,
+        taken: 0,
     };
     play_anew(alloc, bindings.into_vec(), window, &mut run, acts, told);
 }
@@ -83,7 +79,7 @@ fn play_anew(
     match World::new(alloc, bindings, window, MemoryStore::new()) {
         Ok(mut world) => {
             run.play(alloc, &mut world, acts, told);
-            run.tell_left_out(world.ledger(), told);
+            tell_left_out(&mut world, told);
         }
         Err(_) => told.why.give_up(),
     }
@@ -103,13 +99,6 @@ impl SecondRun {
                 told.refused = Some(place);
                 return;
             }
-        }
-    }
-
-    /// Tells how many events are left out before a start, where there was one.
-    fn tell_left_out(&mut self, ledger: &Ledger, told: &mut Retold<'_>) {
-        if let Some(sentence) = self.followed.left_out_sentence(ledger) {
-            told.items.push_sentence(sentence);
         }
     }
 
@@ -141,39 +130,73 @@ impl SecondRun {
         step: &Step,
         told: &mut Retold<'_>,
     ) -> bool {
+        let leaving = leaving_by(alloc, step, world);
         match world.step(alloc, step) {
             Ok(did) => {
-                self.tell(alloc, step, &did, world.ledger(), told);
+                self.tell(alloc, step, &did, leaving, world, told);
                 true
             }
             Err(refusal) => {
-                push_why(step, refusal, &self.followed, &mut told.why);
+                push_why(step, refusal, world, &mut told.why);
                 false
             }
         }
     }
 
-    /// Tells a step that was done. The ledger is that after it.
+    /// Tells a step that was done. The world is that after it.
     fn tell(
         &mut self,
         alloc: Global,
         step: &Step,
         did: &Did,
-        ledger: &Ledger,
+        leaving: Result<Leaving, AllocError>,
+        world: &World<MemoryStore>,
         told: &mut Retold<'_>,
     ) {
         if let (Step::Submit(batch), Did::Submitted(results)) = (step, did) {
-            told.items.push_results(batch, results, ledger);
+            self.taken = self.taken.saturating_add(1);
+            told.items.push_results(batch, results, world.ledger());
         }
-        match self.followed.follow(alloc, step, did, ledger) {
-            Ok(deed) => told.push(step, deed),
+        match leaving {
+            Ok(leaving) => match deed_of(alloc, step, did, leaving, self.taken, world) {
+                Ok(deed) => told.push(step, deed),
+                Err(_) => told.trace.give_up(),
+            },
             Err(_) => told.trace.give_up(),
         }
     }
 }
 
+/// What the store of a world holds, if it holds anything.
+fn saved_in(world: &mut World<MemoryStore>) -> Option<Progress> {
+    match world.progress() {
+        Ok(saved) => saved,
+        Err(_) => None,
+    }
+}
+
+/// Tells how many events are left out before a start, where one was asked for.
+fn tell_left_out(world: &mut World<MemoryStore>, told: &mut Retold<'_>) {
+    let start = match saved_in(world) {
+        Some(saved) => saved.start(),
+        None => 0,
+    };
+    if start > 0 {
+        let ledger = world.ledger();
+        told.items.push_sentence(Sentence::Three(
+            "events up to the start, ",
+            start.into(),
+            ", are left out: ",
+            count_up_to(ledger, start) as u128,
+            " of ",
+            ledger.log().len() as u128,
+            "",
+        ));
+    }
+}
+
 /// Why a step is refused. Of one that memory ran out for nothing can be said.
-fn push_why(step: &Step, refusal: StepError, followed: &Followed, why: &mut Text) {
+fn push_why(step: &Step, refusal: StepError, world: &mut World<MemoryStore>, why: &mut Text) {
     match (refusal, step) {
         (StepError::OutOfMemory, _) => why.give_up(),
         (StepError::Refused(answer), Step::Submit(batch)) => {
@@ -182,24 +205,26 @@ fn push_why(step: &Step, refusal: StepError, followed: &Followed, why: &mut Text
         _ => {
             why.push_sentence(step_words(step));
             why.push(": ");
-            push_refusal(step, refusal, followed, why);
+            push_refusal(step, refusal, world, why);
         }
     }
 }
 
 /// Why a step is refused that is no batch.
-fn push_refusal(step: &Step, refusal: StepError, followed: &Followed, why: &mut Text) {
+fn push_refusal(step: &Step, refusal: StepError, world: &mut World<MemoryStore>, why: &mut Text) {
     match refusal {
         StepError::NotEnabled => {
             why.push("not enabled: ");
-            why.push_sentence(reason(step, followed));
+            why.push_sentence(reason(step, world));
         }
         StepError::SessionsExhausted => {
             why.push("sessions_exhausted: no number is left for a session");
         }
         StepError::StartNotAllowed => {
             why.push("start_not_allowed: ");
-            why.push_sentence(start_reason(followed));
+            if let Some(saved) = saved_in(world) {
+                why.push_sentence(start_reason(saved));
+            }
         }
         _ => why.push(refusal.name()),
     }

@@ -1,5 +1,5 @@
-//! What each result of an item that wasn't accepted means: a sentence for each, with the numbers of the request and of the
-//! ledger that it speaks of.
+//! What each result of an item that wasn't accepted means: a sentence for each, with the numbers of the request and of
+//! the ledger that it speaks of.
 
 use crate::sentences::Sentence;
 use cdc_ledger::{BatchError, Ledger};

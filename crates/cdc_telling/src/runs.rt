@@ -1,5 +1,5 @@
-//! Why items of a run weren't accepted: its batches are handed to a ledger once more, in an order in which they come to the
-//! results that were printed, and what it answers is told.
+//! Why items of a run weren't accepted: its batches are handed to a ledger once more, in an order in which they come to
+//! the results that were printed, and what it answers is told.
 
 use crate::items::ItemLines;
 use crate::orders::find_order;
@@ -11,11 +11,11 @@ use std::alloc::{AllocError, Global};
 /// What is told of a run.
 #[derive(Drop)]
 pub enum RunTold {
-    /// A line for each item that wasn't accepted, and for each batch that was refused. The batches had one client, and so
-    /// one order.
+    /// A line for each item that wasn't accepted, and for each batch that was refused. The batches had one client, and
+    /// so one order.
     Alone(String),
-    /// The same, told in an order of several clients' batches that comes to the results that were printed. The run may have
-    /// had another one that does.
+    /// The same, told in an order of several clients' batches that comes to the results that were printed. The run may
+    /// have had another one that does.
     InOneOrder(String),
     /// No such order was found in time.
     OrderUnknown,

@@ -1,6 +1,6 @@
 -- Laws of a list of events and of its last timestamp, where the list rises and where it doesn't.
 use Rattle.std.proofs.Common.{◌≡◌, ℕ, suc, zero, ◌-◌, ◌<◌, ◌≤◌, Bool, true, false, List, [], ◌∷◌, ◌++◌, length, filter, refl, arith, sub-one}
-use Rattle.std.specs.Prelude.{Some, slice_get, All, AllPairs, if◌then◌else◌}
+use Rattle.std.specs.Prelude.{Some, slice_get, All, if◌then◌else◌}
 use Rattle.cdc_types.specs.declared.events.Event.{Event}
 use Rattle.cdc_types.specs.Timestamps.{last_timestamp_from, last_timestamp, RiseFrom}
 
@@ -49,14 +49,3 @@ RiseFrom-above t [] rising k d below = absurd (omega arith)
 RiseFrom-above t (e ∷ es) rising zero d below = rising.0
 RiseFrom-above t (e ∷ es) rising (suc k) d below =
     omega (arith, rising.0, RiseFrom-above e.timestamp es rising.1 k d (omega arith))
-
--- and it is later than every event before it, not only than the one next to it
-pub RiseFrom-in_turn : (t : ℕ) (es : List Event) → RiseFrom t es
-    → AllPairs (λ earlier later. earlier.timestamp < later.timestamp) es
-RiseFrom-in_turn t [] rising i j d before below = absurd (omega arith)
-RiseFrom-in_turn t (e ∷ es) rising zero zero d before below = absurd (omega arith)
-RiseFrom-in_turn t (e ∷ es) rising zero (suc j) d before below =
-    RiseFrom-above e.timestamp es rising.1 j d (omega arith)
-RiseFrom-in_turn t (e ∷ es) rising (suc i) zero d before below = absurd (omega arith)
-RiseFrom-in_turn t (e ∷ es) rising (suc i) (suc j) d before below =
-    RiseFrom-in_turn e.timestamp es rising.1 i j d (omega arith) (omega arith)

@@ -3,8 +3,8 @@
 use crate::batches::Batch;
 use crate::moments::Moment;
 
-/// One action of one actor. Packets, confirms, subscribers and acknowledgements are numbered from 1, in the order in which
-/// they came to be.
+/// One action of one actor. Packets, confirms, subscribers and acknowledgements are numbered from 1, in the order in
+/// which they came to be.
 #[derive(Drop)]
 pub enum Step {
     /// The ledger takes a batch.
@@ -35,7 +35,8 @@ pub enum Step {
     Break(u64),
     /// A subscriber takes the first delivery that is on its way to it.
     Take(u64),
-    /// An acknowledgement that a subscriber sent comes to the broker: the subscriber's number, then the acknowledgement's.
+    /// An acknowledgement that a subscriber sent comes to the broker: the subscriber's number, then the
+    /// acknowledgement's.
     Ack(u64, u64),
     /// A subscriber closes.
     Close(u64),

@@ -248,8 +248,8 @@ joins_late =
     Submit (batch.Accounts 1000 (account 1 ∷ account 2 ∷ [])) ∷ Submit (batch.Transfers 2000 two_transfers)
     ∷ StartAt 2000 ∷ []
 
--- the second event alone is told, and yet the book has both amounts, since the ledger's balances come with it; the moment
--- that was asked for is held as where all is confirmed up to, and as the start
+-- the second event alone is told, and yet the book has both amounts, since the ledger's balances come with it; the
+-- moment that was asked for is held as where all is confirmed up to, and as the start
 tells_what_follows : shown (run_of start (joins_late ++ Publish ∷ Arrive 1 ∷ taken 2 ++ Send 1 ∷ Take 1 ∷ [])) ≡ (
   (10, None),
   Some (record { session = 1; timestamp = 2000; start = 2000 }),

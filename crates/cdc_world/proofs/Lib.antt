@@ -2,6 +2,7 @@ pub mod ActorMoves
 pub mod BrokerMoves
 pub mod ClosedSubscribers
 pub mod ConnectorMoves
+pub mod Counting
 mod Examples
 pub mod NumberedElements
 pub mod OrderlyWorlds

@@ -25,7 +25,8 @@ abbrev pub ClosedSubscribersStay : Type 0
 ClosedSubscribersStay = (w : WorldState) (step : Step) (answer : Result Did StepError)
     → (w' : WorldState) → Next w step answer w' → AllStay w w'
 
--- steps lead to a world in which nothing has happened, over a store that holds nothing, or a timestamp that is its start
+-- steps lead to a world in which nothing has happened, over a store that holds nothing, or a timestamp that is its
+-- start
 abbrev pub NewWorldsAreReached : Type 0
 NewWorldsAreReached = (bindings : List Arguments) (window : ℕ) (held : Option Saved)
     → IsAtStart held → IsReached (new_world bindings window held)

@@ -1,7 +1,7 @@
 -- What a world keeps after a step, and after a play.
-use Rattle.std.specs.Prelude.{◌≡◌, ◌≤◌, ℕ, IsTrue, Option, Some, None, Result, Ok, Err, List, [], ◌∷◌, length, take, drop}
+use Rattle.std.specs.Prelude.{◌≡◌, ◌≤◌, ℕ, IsTrue, IsOk, is_some, Option, Some, None, Result, Ok, Err, List, [], ◌∷◌, length, take, drop}
 use Rattle.std.specs.List.{list_any}
-use Rattle.cdc_progress.specs.Stores.{IsCounted, Risks}
+use Rattle.cdc_progress.specs.Stores.{IsCounted, Risks, no_risks}
 use Rattle.cdc_progress.specs.declared.errors.StoreError.TheVariants as store
 use Rattle.cdc_types.specs.declared.steps.Step.{Step}
 use Rattle.cdc_world.specs.Closed.{AllStay}
@@ -92,3 +92,12 @@ IsStoreCounted before after (Err (Refused why)) = after ≡ before
 IsStoreCounted before after (Err SessionsExhausted) = after ≡ before
 IsStoreCounted before after (Err OutOfMemory) = after ≡ before
 IsStoreCounted before after (Err StartNotAllowed) = after ≡ before
+
+-- a play that ends so, each of its steps taken once, leaves the count as it is, but for a step that is refused
+abbrev pub IsPlayCounted : ℕ → ℕ → Option StepError → Type 0
+IsPlayCounted before after None = after ≡ before
+IsPlayCounted before after (Some why) = IsStoreCounted before after (Err why)
+
+-- a session that runs saves its progress, where nothing may befall the store
+abbrev pub SavesSafely : Parts → Result Did StepError → Type 0
+SavesSafely p answer = IsTrue (is_some p.actors.session) → p.risks ≡ no_risks → IsOk answer

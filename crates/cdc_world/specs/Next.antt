@@ -239,7 +239,8 @@ takes_memory (Ack i k) = false
 takes_memory (Close i) = false
 takes_memory _ = true
 
--- the step isn't refused by any of the actors, or only as a session doesn't start, which is found once the store has loaded
+-- the step isn't refused by any of the actors, or only as a session doesn't start, which is found once the store has
+-- loaded
 abbrev pub IsTried : Outcome → Type 0
 IsTried (Ok after) = Unit {0}
 IsTried (Err SessionsExhausted) = Unit {0}
@@ -273,8 +274,8 @@ Next w step (Err OutOfMemory) w' = IsTrue (takes_memory step) × (IsTried (next 
 Next w step (Err (Store why)) w' =
     IsTrue (uses_store step) × (IsTried (next w step) × AfterFailure w step why w')
 
--- a step of this outcome may be answered so over a store of these risks: the store fails where it may. Memory may run out
--- wherever the step is tried: a start makes its room before it turns to the store
+-- a step of this outcome may be answered so over a store of these risks: the store fails where it may. Memory may run
+-- out wherever the step is tried: a start makes its room before it turns to the store
 abbrev pub IsStepRisked : Risks → Outcome → Result Did StepError → Type 0
 IsStepRisked risks outcome (Ok did) = Unit {0}
 IsStepRisked risks outcome (Err NotEnabled) = Unit {0}
@@ -299,8 +300,8 @@ abbrev pub IsAtStart : Option Saved → Type 0
 IsAtStart None = Unit {0}
 IsAtStart (Some saved) = saved.timestamp ≡ saved.start
 
--- steps lead to this world from one in which nothing has happened, over a store that holds nothing, or a timestamp that is
--- its start
+-- steps lead to this world from one in which nothing has happened, over a store that holds nothing, or a timestamp that
+-- is its start
 pub record IsReached (w : WorldState) : Type 0 where
   pub bindings : List Arguments
   pub window : ℕ

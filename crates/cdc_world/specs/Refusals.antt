@@ -2,7 +2,7 @@
 use Rattle.cdc_ledger.specs.declared.errors.BatchError.{BatchError}
 use Rattle.cdc_ledger.specs.declared.errors.BatchError.TheVariants as batch
 use Rattle.cdc_progress.specs.declared.errors.StoreError.{StoreError}
-use Rattle.cdc_progress.specs.declared.errors.StoreError.TheVariants as store
+use Rattle.cdc_publisher.specs.Errors.{store_refusal as start_error_of}
 use Rattle.cdc_publisher.specs.declared.errors.StartError.{StartError}
 use Rattle.cdc_publisher.specs.declared.errors.StartError.TheVariants as start
 use Rattle.cdc_world.specs.declared.steps.StepError.{StepError}
@@ -15,16 +15,13 @@ batch_refusal batch.BatchTooLarge = Refused batch.BatchTooLarge
 batch_refusal batch.TimestampsExhausted = Refused batch.TimestampsExhausted
 batch_refusal batch.OutOfMemory = OutOfMemory
 
--- the store's
-abbrev pub store_refusal : StoreError → StepError
-store_refusal store.ReadFault = Store store.ReadFault
-store_refusal store.WriteFault = Store store.WriteFault
-store_refusal store.BadRecord = Store store.BadRecord
-store_refusal store.OutOfMemory = OutOfMemory
-
 -- that of a session that doesn't start
 abbrev pub start_refusal : StartError → StepError
 start_refusal (start.Store why) = Store why
 start_refusal start.SessionsExhausted = SessionsExhausted
 start_refusal start.OutOfMemory = OutOfMemory
 start_refusal start.StartNotAllowed = StartNotAllowed
+
+-- the store's: that of a session whose store answers so
+abbrev pub store_refusal : StoreError → StepError
+store_refusal why = start_refusal (start_error_of why)

@@ -1,11 +1,11 @@
 -- Steps that are tried again.
-use Rattle.std.specs.Prelude.{◌≡◌, ◌≤◌, ℕ, zero, suc, Bool, true, false, IsTrue, Result, Ok, Err}
+use Rattle.std.specs.Prelude.{◌≡◌, ◌≤◌, ℕ, zero, suc, Bool, true, false, IsTrue, Option, Result, Ok, Err}
 use Rattle.cdc_types.specs.declared.steps.Step.{Step}
 use Rattle.cdc_world.specs.declared.steps.Did.{Did}
 use Rattle.cdc_world.specs.declared.steps.StepError.{StepError}
 use Rattle.cdc_world.specs.declared.steps.StepError.TheVariants.{NotEnabled, Refused, Store, SessionsExhausted, OutOfMemory, StartNotAllowed}
 use Rattle.cdc_progress.specs.Stores.{Risks}
-use Rattle.cdc_world.specs.Moves.{MovesBy}
+use Rattle.cdc_world.specs.Moves.{IsPlayCounted, IsStoreCounted, MovesBy}
 use Rattle.cdc_world.specs.Next.{NextOver}
 use Rattle.cdc_world.specs.Parts.{Parts}
 use Rattle.cdc_world.specs.Worlds.{WorldState}
@@ -37,6 +37,20 @@ pub record NextPast (risks : Risks) (tries : ℕ) (w : WorldState) (step : Step)
   pub fails : FailsTimes risks failed w step before
   pub last : NextOver risks before step answer w'
   pub spent : IsTrue (is_passing answer) → failed ≡ tries
+
+-- each try that failed may have counted in the store; where no step is tried again, none did
+abbrev pub HaveTriesCounted : ℕ → ℕ → ℕ → Type 0
+HaveTriesCounted tries before between = (before ≤ between) × (tries ≡ 0 → between ≡ before)
+
+-- so may those of a step that is answered so, and then its last try
+abbrev pub IsStoreCountedPast : ℕ → ℕ → ℕ → Result Did StepError → Type 0
+IsStoreCountedPast tries before after answer =
+    (between : ℕ) × (HaveTriesCounted tries before between × IsStoreCounted between after answer)
+
+-- and those of a play that ends so, and then the last try of a step that is refused
+abbrev pub IsPlayCountedPast : ℕ → ℕ → ℕ → Option StepError → Type 0
+IsPlayCountedPast tries before after refusal =
+    (between : ℕ) × (HaveTriesCounted tries before between × IsPlayCounted between after refusal)
 
 -- what is kept goes on by a step that is tried so; of a step that loads this is said over an honest store
 abbrev pub MovesPast : ℕ → Parts → Step → Result Did StepError → Parts → Type 0

@@ -6,6 +6,7 @@ ghost use Rattle.cdc_types.specs.declared.steps.Step.TheVariants.{Ack, Answer, A
 ghost use Rattle.cdc_world.specs.Next.{uses_store};
 ghost use Rattle.cdc_world.specs.Parts.{subscription_parts};
 ghost use Rattle.cdc_world.specs.Turns.{ActorsMove, empty_actors, place_in};
+ghost use Rattle.cdc_world.specs.Worlds.{numbered};
 
 use crate::broker::{hand_out, take_in};
 use crate::connector::{poll, publish, take_confirm};
@@ -117,6 +118,30 @@ impl Actors {
         ensures { result.now ≡ self.now.confirms }
     {
         self.confirms.as_slice()
+    }
+
+    /// The packet that was sent under this number, from 1 on.
+    pub(crate) fn packet(&self, k: u64) -> Option<&Packet>
+        ensures { option_copied result ≡ numbered self.now.packets k }
+    {
+        let place = place_of(k, self.packets.len())?;
+        Some(&self.packets[place])
+    }
+
+    /// The confirm that was sent under this number, from 1 on.
+    pub(crate) fn confirm(&self, k: u64) -> Option<&Confirm>
+        ensures { option_copied result ≡ numbered self.now.confirms k }
+    {
+        let place = place_of(k, self.confirms.len())?;
+        Some(&self.confirms[place])
+    }
+
+    /// The broker.
+    pub(crate) fn broker(&self) -> &Broker
+        ensures kept { result.now ≡ self.now.broker }
+        ensures count { length result.now.queues ≡ length self.now.subscriptions }
+    {
+        &self.broker
     }
 
     /// How many subscribers there are.

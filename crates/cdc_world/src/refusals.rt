@@ -27,10 +27,7 @@ impl From<StoreError> for StepError {
     ghost from_gives = { λ why e. e ≡ store_refusal why };
 
     fn from(why: StoreError) -> StepError {
-        match why {
-            StoreError::OutOfMemory => StepError::OutOfMemory,
-            _ => StepError::Store(why),
-        }
+        StepError::from(StartError::from(why))
     }
 }
 

@@ -1,21 +1,24 @@
 //! The world itself.
 
-ghost use Rattle.std.specs.Prelude.{◌≡◌, ◌<◌, ◌≤◌, ℕ, Some, IfOk, IfErr, IsTrue, OnOk, Err, length};
+ghost use Rattle.std.specs.Prelude.{◌≡◌, ◌-◌, ◌<◌, ◌≤◌, ℕ, Some, IfOk, IfErr, IsTrue, OnOk, Err, length, map, option_copied, slice_get};
+ghost use Rattle.cdc_broker.specs.Packets.{current_session, expected_tag};
 ghost use Rattle.cdc_laws.specs.Faithful.{IsFaithful, kept_from};
 ghost use Rattle.cdc_progress.specs.Stores.{IsRisked, MayRefuseLoad};
 ghost use Rattle.cdc_subscriber.specs.Heard.{kept_of};
 ghost use Rattle.cdc_types.specs.Windows.{IsWindow};
 ghost use Rattle.cdc_types.specs.declared.steps.Step.TheVariants.{Save};
-ghost use Rattle.cdc_world.specs.Moves.{IsStoreCounted, Moves, PlayFixesClosed, PlayFixesClosedBy, Plays, PlaysBy, StepFixesClosed};
+ghost use Rattle.cdc_world.specs.Moves.{IsPlayCounted, IsStoreCounted, Moves, PlayFixesClosed, PlayFixesClosedBy, Plays, PlaysBy, SavesSafely, StepFixesClosed};
 ghost use Rattle.cdc_world.specs.Next.{IsReached, start_after};
-ghost use Rattle.cdc_world.specs.Stands.{Stands};
-ghost use Rattle.cdc_world.specs.Tries.{MovesPast, NextPast, is_passing};
-ghost use Rattle.cdc_world.specs.Worlds.{Subscription, WorldState, new_world, numbered, start_of};
+ghost use Rattle.cdc_world.specs.Stands.{SessionStands, Stands, queue_for, view_of};
+ghost use Rattle.cdc_world.specs.Tries.{IsPlayCountedPast, IsStoreCountedPast, MovesPast, NextPast, is_passing};
+ghost use Rattle.cdc_world.specs.Worlds.{Subscription, WorldState, new_world, numbered, start_of, taken_items};
 
 use crate::actors::Actors;
 use crate::steps::{Did, StepError};
+use cdc_broker::Broker;
 use cdc_ledger::Ledger;
 use cdc_match::Binding;
+use cdc_message::{Confirm, Delivery, Packet};
 use cdc_progress::{Progress, ProgressStore, StoreError};
 use cdc_publisher::Session;
 use cdc_subscriber::Subscriber;
@@ -36,8 +39,8 @@ pub struct Played {
 /// subscribers, each with a queue. Any packet, confirm or acknowledgement that was ever sent may come at any time, any
 /// number of times or never.
 ///
-/// A world keeps only what is still to be used, so a clause speaks of the states of all actors: whatever state the world
-/// stands for before a step, it stands for one after it that the step may leave.
+/// A world keeps only what is still to be used, so a clause speaks of the states of all actors: whatever state the
+/// world stands for before a step, it stands for one after it that the step may leave.
 #[derive(Drop)]
 pub struct World<S: ProgressStore> {
     actors: Actors,
@@ -88,13 +91,14 @@ impl<S: ProgressStore + Drop> World<S> {
 }
 
 impl<S: ProgressStore> World<S> {
-    /// Takes one step. A step that is refused changes nothing, except that a store that fails counts it, and that one that
-    /// fails to save may hold the new record. No step changes what a closed subscriber has heard, and so what it has
-    /// applied.
+    /// Takes one step. A step that is refused changes nothing, except that a store that fails counts it, and that one
+    /// that fails to save may hold the new record. No step changes what a closed subscriber has heard, and so what it
+    /// has applied.
     pub fn step(&mut self, alloc: Global, step: &Step) -> Result<Did, StepError>
         ensures next { Moves self.old step.now result self.new }
         ensures fixed { StepFixesClosed self.old step.now result self.new }
         ensures counted { IsStoreCounted self.old.failed self.new.failed result }
+        ensures safe { step.now ≡ Save → SavesSafely self.old result }
         ensures honest { self.new.honest ≡ self.old.honest }
         ensures risks { self.new.risks ≡ self.old.risks }
     {
@@ -110,19 +114,21 @@ impl<S: ProgressStore> World<S> {
     pub fn play(&mut self, alloc: Global, steps: &[Step]) -> Played
         ensures plays { Plays self.old steps.now result.done result.refusal self.new }
         ensures fixed { PlayFixesClosed self.old steps.now result.done result.refusal self.new }
+        ensures counted { IsPlayCounted self.old.failed self.new.failed result.refusal }
         ensures honest { self.new.honest ≡ self.old.honest }
         ensures risks { self.new.risks ≡ self.old.risks }
     {
         self.play_past(alloc, steps, 0)
     }
 
-    /// Takes these steps in order, up to the first that is refused. One that is refused because the store failed or memory
-    /// ran out is taken again, at most `tries` times more; the answer of the last try is the step's.
+    /// Takes these steps in order, up to the first that is refused. One that is refused because the store failed or
+    /// memory ran out is taken again, at most `tries` times more; the answer of the last try is the step's.
     pub fn play_past(&mut self, alloc: Global, steps: &[Step], tries: usize) -> Played
         ensures plays { PlaysBy (NextPast self.old.risks tries) self.old steps.now result.done
             result.refusal self.new }
         ensures fixed { PlayFixesClosedBy (NextPast self.old.risks tries) self.old steps.now
             result.done result.refusal self.new }
+        ensures counted { IsPlayCountedPast tries self.old.failed self.new.failed result.refusal }
         ensures honest { self.new.honest ≡ self.old.honest }
         ensures risks { self.new.risks ≡ self.old.risks }
     {
@@ -147,10 +153,10 @@ impl<S: ProgressStore> World<S> {
         self.actors.ledger()
     }
 
-    /// The subscriber of this number, from 1 on. In every world that steps lead to, what it has applied is a beginning of the
-    /// ledger's events after the start that its binding takes, and complete once it has ended; what it keeps is told by that;
-    /// and where its binding takes every event, its book has just their accounts, with the ledger's balances as of the last
-    /// one that it has applied.
+    /// The subscriber of this number, from 1 on. In every world that steps lead to, what it has applied is a beginning
+    /// of the ledger's events after the start that its binding takes, and complete once it has ended; what it keeps is
+    /// told by that; and where its binding takes every event, its book has just their accounts, with the ledger's
+    /// balances as of the last one that it has applied.
     pub fn subscriber(&self, i: usize) -> &Subscriber
         requires first { 0 < i }
         requires last { i ≤ length self.now.actors.subscriptions }
@@ -190,6 +196,45 @@ impl<S: ProgressStore> World<S> {
         self.store.load()
     }
 
+    /// The connector's session, where it is up.
+    pub fn session(&self) -> Option<&Session>
+        ensures kept { option_copied result ≡ self.now.actors.session }
+        ensures stands { (w : WorldState) → Stands self.now w
+            → SessionStands (option_copied result) w.session }
+    {
+        self.actors.session()
+    }
+
+    /// The broker, with a queue for each subscriber.
+    pub fn broker(&self) -> &Broker
+        ensures kept { result.now ≡ self.now.actors.broker }
+        ensures connection { (w : WorldState) → Stands self.now w
+            → result.now.connection ≡ current_session w.accepted }
+        ensures expected { (w : WorldState) → Stands self.now w
+            → result.now.expected ≡ expected_tag w.accepted }
+        ensures queues { (w : WorldState) → Stands self.now w
+            → map view_of result.now.queues ≡ map (queue_for (taken_items w)) w.subscriptions }
+        ensures count { length result.now.queues ≡ length self.now.actors.subscriptions }
+    {
+        self.actors.broker()
+    }
+
+    /// The packet that was sent under this number, from 1 on.
+    pub fn packet(&self, k: u64) -> Option<&Packet>
+        ensures { (w : WorldState) → Stands self.now w
+            → option_copied result ≡ numbered w.packets k }
+    {
+        self.actors.packet(k)
+    }
+
+    /// The confirm that was sent under this number, from 1 on.
+    pub fn confirm(&self, k: u64) -> Option<&Confirm>
+        ensures { (w : WorldState) → Stands self.now w
+            → option_copied result ≡ numbered w.confirms k }
+    {
+        self.actors.confirm(k)
+    }
+
     /// How many packets were ever sent.
     pub fn packets(&self) -> usize
         ensures { (w : WorldState) → Stands self.now w → result ≡ length w.packets }
@@ -214,6 +259,28 @@ impl<S: ProgressStore> World<S> {
         self.actors.subscription(i).flight.len()
     }
 
+    /// The delivery that comes first of those that are on their way to the subscriber of this number, from 1 on.
+    pub fn first_in_flight(&self, i: usize) -> Option<&Delivery>
+        requires first { 0 < i }
+        requires last { i ≤ length self.now.actors.subscriptions }
+        ensures { (w : WorldState) → Stands self.now w → (s : Subscription)
+            → numbered w.subscriptions i ≡ Some s → option_copied result ≡ slice_get s.flight 0 }
+    {
+        self.actors.subscription(i).flight.front()
+    }
+
+    /// The delivery that was handed out last of those that are on their way to the subscriber of this number, from 1
+    /// on.
+    pub fn last_in_flight(&self, i: usize) -> Option<&Delivery>
+        requires first { 0 < i }
+        requires last { i ≤ length self.now.actors.subscriptions }
+        ensures { (w : WorldState) → Stands self.now w → (s : Subscription)
+            → numbered w.subscriptions i ≡ Some s → option_copied result
+            ≡ slice_get s.flight (length s.flight - 1) }
+    {
+        self.actors.subscription(i).flight.back()
+    }
+
     /// How many positions the subscriber of this number, from 1 on, has acknowledged.
     pub fn acks(&self, i: usize) -> usize
         requires first { 0 < i }
@@ -227,6 +294,7 @@ impl<S: ProgressStore> World<S> {
     /// Takes one step, and again after each refusal that may pass, at most `tries` times more.
     fn step_past(&mut self, alloc: Global, step: &Step, tries: usize) -> Result<Did, StepError>
         ensures next { MovesPast tries self.old step.now result self.new }
+        ensures counted { IsStoreCountedPast tries self.old.failed self.new.failed result }
         ensures honest { self.new.honest ≡ self.old.honest }
         ensures risks { self.new.risks ≡ self.old.risks }
     {
@@ -258,6 +326,7 @@ impl<S: ProgressStore> World<S> {
     fn save(&mut self) -> Result<Did, StepError>
         ensures next { Moves self.old Save result self.new }
         ensures counted { IsStoreCounted self.old.failed self.new.failed result }
+        ensures safe { SavesSafely self.old result }
         ensures honest { self.new.honest ≡ self.old.honest }
         ensures risks { self.new.risks ≡ self.old.risks }
     {

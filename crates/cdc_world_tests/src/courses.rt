@@ -48,8 +48,8 @@ const EMPTY: [Step; 10] = [
     Step::Take(1),
 ];
 
-// The steps of a run with each fault: a crash between a publish and its confirm, a late packet and confirm of the session
-// that crashed, deliveries that are rewound and broken off, an acknowledgement that comes twice, and a close.
+// The steps of a run with each fault: a crash between a publish and its confirm, a late packet and confirm of the
+// session that crashed, deliveries that are rewound and broken off, an acknowledgement that comes twice, and a close.
 const FAULTY: [Step; 28] = [
     Step::Start,
     Step::Publish,

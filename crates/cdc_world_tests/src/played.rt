@@ -112,8 +112,8 @@ pub fn look_at(world: &mut World<MemoryStore>) -> Option<Seen> {
     })
 }
 
-/// A course: the two accounts and transfers of these amounts, if there are any; then these steps, each of which is tried so
-/// many times more.
+/// A course: the two accounts and transfers of these amounts, if there are any; then these steps, each of which is
+/// tried so many times more.
 #[derive(Clone, Copy)]
 pub struct Course<'a> {
     pub amounts: &'a [u128],

@@ -40,8 +40,8 @@ fn random_step(alloc: Global, world: &World<MemoryStore>, random: u64) -> Result
 // How many random steps are played in a world.
 const STEPS: u64 = 300;
 
-// Plays the same random steps in both worlds, where one that the store refuses is tried again in the second; says whether
-// each step is answered alike.
+// Plays the same random steps in both worlds, where one that the store refuses is tried again in the second; says
+// whether each step is answered alike.
 fn are_answered_alike(
     alloc: Global,
     sound: &mut World<MemoryStore>,

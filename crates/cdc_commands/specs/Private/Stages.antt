@@ -10,21 +10,22 @@ use Rattle.cdc_world.specs.Worlds.{WorldState}
 use Rattle.cdc_script.specs.declared.scripts.ClientBatch.{ClientBatch}
 use Rattle.cdc_script.specs.declared.step_files.Act.{Act}
 use Rattle.cdc_script.specs.declared.step_files.Act.TheVariants as act
+use Rattle.cdc_commands.specs.declared.batches.Answered.{Answered}
 use Rattle.cdc_commands.specs.declared.faults.ProgramFault.{ProgramFault}
 use Rattle.cdc_commands.specs.declared.faults.ProgramFault.TheVariants as fault
 use Rattle.cdc_commands.specs.Simulations.{Stage}
 
--- what contracts see of a simulation: its world, how many batches are done, and the bytes of a line for each of them
+-- what contracts see of a simulation: its world, how many batches are done, and what the ledger answered
 pub record SimulationParts : Type 0 where
   pub world : Parts
   pub batches : ℕ
-  pub lines : List ℕ
+  pub answers : List Answered
 
--- its world stands for that of the stage, and its batches and their lines are those of the stage
+-- its world stands for that of the stage, and its batches and the answers are those of the stage
 pub record IsAt (simulation : SimulationParts) (stage : Stage) : Type 0 where
   pub world : Stands simulation.world stage.world
   pub batches : simulation.batches ≡ stage.batches
-  pub lines : simulation.lines ≡ stage.lines
+  pub answers : simulation.answers ≡ stage.answers
 
 -- a simulation gives up for want of memory alone
 abbrev pub IsSimulationFault : ProgramFault → Type 0

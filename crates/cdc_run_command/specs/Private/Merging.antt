@@ -1,5 +1,7 @@
 -- The replies to clients, while they are put into the order of the script.
-use Rattle.std.specs.Prelude.{◌≡◌, ◌==◌, ℕ, ◌+◌, ◌-◌, ◌<◌, ◌≤◌, List, Some, All, filter, length, slice_get, slice_set}
+use Rattle.std.specs.Prelude.{◌≡◌, ◌==◌, ℕ, ◌+◌, ◌-◌, ◌<◌, ◌≤◌, List, [], ◌∷◌, ◌++◌, Some, All, filter, length, slice_get, slice_set}
+use Rattle.cdc_traffic.specs.declared.requests.Reply.{Reply}
+use Rattle.cdc_commands.specs.Report.{batch_line}
 
 -- so often does this client stand in an order
 abbrev pub times_in : ℕ → List ℕ → ℕ
@@ -29,3 +31,8 @@ module _ {X : Type 0} where
     pub count_is : slice_get old (client - 1) ≡ Some count
     pub next_is : slice_get share count ≡ Some next
     pub new_is : new ≡ slice_set old (client - 1) (count + 1)
+
+-- the lines of replies, the first of which is that to the batch of this number
+abbrev pub numbered_lines : ℕ → List Reply → List ℕ
+numbered_lines n [] = []
+numbered_lines n (reply ∷ rest) = batch_line n reply.answer ++ numbered_lines (n + 1) rest

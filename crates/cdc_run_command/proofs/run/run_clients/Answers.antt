@@ -1,82 +1,13 @@
-use Rattle.std.proofs.Common.{◌≡◌, ◌∙◌, ◌≤◌, ℕ, List, Some, ap, arith, length, map, subst, sym}
-use Rattle.std.specs.Prelude.{slice_get}
-use Rattle.std.proofs.lemmas.List.{length-map}
-use Rattle.cdc_run.specs.Reports.{HasRun, replies_of}
-use Rattle.cdc_script.specs.declared.scripts.ClientBatch.{ClientBatch}
-use Rattle.cdc_types.specs.declared.batches.Batch.{Batch}
-use Rattle.cdc_run_command.specs.Private.Merging.{IsOrderOf}
-use Rattle.cdc_run_command.specs.Private.Runnable.{IsClient}
-use Rattle.cdc_run_command.specs.RunPrinted.{MayFailRun}
-use Rattle.cdc_run_command.specs.Runs.{PrintsReport, client_count, entries_of, owners_of, shares_from}
-use Rattle.cdc_run_command.proofs.RunFaults.{may_fail}
-use Rattle.cdc_run_command.proofs.RunLemmas.{clients_fit, order_of_shares, subscribed_same}
-use Rattle.cdc_run_command.proofs.ShareLemmas.{length-shares_from}
+use Rattle.std.proofs.Common.{List, ℕ, subst}
+use Rattle.cdc_run_command.specs.Runs.{PrintsReport}
 use Rattle.cdc_run_command.proofs.run.run_clients.Goals as goal
-
-pub run-requires-clause-fits : goal.run-requires-clause-fits
-run-requires-clause-fits g c κs within =
-    let script = c.args.script in
-    let fit = clients_fit script c.requires.script in
-    let bindings = c.into_vec-bindings.result in
-    let counted : c.in_ok-clients.field-0.clients ≡ client_count script.batches =
-    c.in_ok-clients.ensures.clients ∙ ap client_count c.into_vec-batches.ensures in
-    let so_many : length bindings.items ≡ length script.bindings = ap length c.into_vec-bindings.ensures in
-    record {
-      some_client = omega (arith, counted, fit.0);
-      clients = omega (arith, counted, fit.1);
-      some_binding = omega (arith, bindings.ok.0, so_many, c.requires.script.some);
-      bindings = omega (arith, bindings.ok.0, so_many, c.requires.script.few);
-      window = c.requires.plan.window;
-      some_prefetch = c.requires.plan.prefetch.least;
-      prefetch = c.requires.plan.prefetch.greatest;
-    }
-
-pub run-requires-clause-scripts : goal.run-requires-clause-scripts
-run-requires-clause-scripts g c κs within =
-    let scripts = c.in_ok-clients.field-0.scripts in
-    let batches = c.into_vec-batches.result.items in
-    let so_many : length scripts.items ≡ c.in_ok-clients.field-0.clients =
-    sym (length-map scripts.items (λ s. s.items)) ∙ ap length c.in_ok-clients.ensures.scripts
-    ∙ length-shares_from 1 (client_count batches) (entries_of batches) ∙ sym c.in_ok-clients.ensures.clients in
-    omega (arith, scripts.ok.0, so_many)
-
-pub print_run-requires : goal.print_run-requires
-print_run-requires g c =
-    let batches = c.into_vec-batches.result.items in
-    let report = c.in-Ok.report in
-    subst (λ (order : List ℕ). IsOrderOf order (replies_of report))
-    (sym (c.as_slice.ensures.value ∙ c.in_ok-clients.ensures.order))
-    (order_of_shares batches (replies_of report)
-    (subst (λ (all : List ClientBatch). (k : ℕ) (b : ClientBatch) → slice_get all k ≡ Some b → IsClient b.client)
-    (sym c.into_vec-batches.ensures) c.requires.script.clients)
-    (c.in-Ok.ensures.report.scripts_are ∙ c.in_ok-clients.ensures.scripts))
-
--- a run that gives up met a fault of its ends, or lacked memory
-pub returns-in-Err-clause-fault : goal.returns-in-Err-clause-fault
-returns-in-Err-clause-fault g c =
-    subst MayFailRun (sym c.fault_of_run.ensures) (may_fail _ _ _ _ c.in-Err.fault c.in-Err.ensures.fault)
 
 pub returns-clause-text : goal.returns-clause-text
 returns-clause-text g c =
-    let report = c.in-Ok.report in
+    let report = c.in_ok-ran.ran.report in
     record {
       report = report;
-      comes = record {
-        run = subst (λ (scripts : List (List Batch)). HasRun scripts report)
-            (c.in_ok-clients.ensures.scripts
-            ∙ ap (λ (all : List ClientBatch). shares_from 1 (client_count all) (entries_of all))
-            c.into_vec-batches.ensures)
-            c.in-Ok.ensures.report;
-        subscribers = λ honest zero.
-            let come = c.in-Ok.ensures.subscribers honest zero in (
-              come.0,
-              (
-                come.1,
-                subscribed_same report.ledger _ come.0 report.subscribers.items _ _ c.into_vec-bindings.ensures come.2,
-              ),
-            );
-      };
+      comes = c.in_ok-ran.ensures.comes;
       prints = subst (λ (order : List ℕ). PrintsReport order report c.in_ok-print_run.field-0.items)
-          (c.as_slice.ensures.value ∙ c.in_ok-clients.ensures.order ∙ ap owners_of c.into_vec-batches.ensures)
-          c.in_ok-print_run.ensures;
+          c.in_ok-ran.ensures.order c.in_ok-print_run.ensures;
     }

@@ -1,38 +1,38 @@
-use Rattle.std.proofs.Common.{◌<◌, ◌≤◌, ◌∙◌, arith, length, map, sym}
-use Rattle.std.specs.Prelude.{string_bytes}
-use Rattle.std.proofs.lemmas.List.{length-map}
-use Rattle.std.proofs.lemmas.Option.{slice_get-get_or}
-use Rattle.cdc_run_command.proofs.ReplyLemmas.{has_next, merged_whole, printed_more, printed_none}
+use Rattle.std.proofs.Common.{◌≡◌, ◌+◌, ◌++◌, ◌∙◌, List, Some, ℕ, ap, append-nil, append_assoc, arith, drop, map, refl, sym}
+use Rattle.std.specs.Option.{option_map}
+use Rattle.std.specs.Prelude.{slice_get, string_bytes}
+use Rattle.std.proofs.lemmas.List.{drop_all, length-map}
+use Rattle.std.proofs.lemmas.Option.{slice_get-map, slice_get_read}
+use Rattle.cdc_traffic.specs.declared.requests.Reply.{Reply}
+use Rattle.cdc_commands.specs.Report.{batch_line}
+use Rattle.cdc_commands.proofs.Places.{drop_found}
+use Rattle.cdc_run_command.specs.Private.Merging.{numbered_lines}
 use Rattle.cdc_run_command.proofs.run_report.reply_text.Goals as goal
-
-pub loop-place-init : goal.loop-place-init
-loop-place-init c =
-    printed_none c.args.order.now (map (λ v. v.items) c.args.replies.now) c.in_ok-taken.taken.items
-    (string_bytes c.new-lines.result)
-    (c.in_ok-taken.ensures.0 ∙ sym (length-map c.args.replies.now (λ v. v.items))) c.in_ok-taken.ensures.1
-    c.new-lines.ensures.bytes
-
-pub take_next-reply-requires : goal.take_next-reply-requires
-take_next-reply-requires c =
-    has_next c.args.order.now (map (λ v. v.items) c.args.replies.now) c.loop-place.place c.loop-place.taken.items
-    c.loop-place.invariant.entries _ c.requires c.loop-place.invariant.merging
-    (slice_get-get_or c.args.order.now c.loop-place.place 0 c.loop-place-test.true)
 
 pub loop-place-preserved : goal.loop-place-preserved
 loop-place-preserved c =
-    printed_more c.args.order.now (map (λ v. v.items) c.args.replies.now) c.loop-place.place c.loop-place.taken.items
-    c.take_next-reply.new.taken.items (string_bytes c.loop-place.lines) (string_bytes c.push_batch.new.text) _
-    c.take_next-reply.result.now c.requires c.loop-place.invariant
-    (slice_get-get_or c.args.order.now c.loop-place.place 0 c.loop-place-test.true) c.take_next-reply.ensures
-    c.in_ok-push_batch.ensures
+    let all : List Reply = map (λ r. r.now) c.args.replies.now in
+    let place = c.loop-place.place in
+    let reply : Reply = c.index-replies-place.result.now in
+    let there : slice_get all place ≡ Some reply =
+    slice_get-map (λ r. r.now) c.args.replies.now place
+    ∙ ap (option_map (λ r. r.now))
+    (slice_get_read c.args.replies.now _ place c.index-replies-place.result refl c.loop-place-test.true
+    c.index-replies-place.is) in
+    let lines = string_bytes c.loop-place.lines in
+    let rest = numbered_lines (place + 1 + 1) (drop (place + 1) all) in
+    ap (λ (text : List ℕ). text ++ rest) c.in_ok-push_batch.ensures
+    ∙ append_assoc lines (batch_line (place + 1) reply.answer) rest
+    ∙ sym (ap (λ (left : List Reply). lines ++ numbered_lines (place + 1) left) (drop_found all place reply there))
+    ∙ c.loop-place.invariant
 
 pub returns : goal.returns
 returns c =
-    let has = c.loop-place.invariant in (
-      has.entries,
-      (
-        merged_whole c.args.order.now (map (λ v. v.items) c.args.replies.now) c.loop-place.place
-            c.loop-place.taken.items has.entries c.requires has.merging c.loop-place-test.false,
-        has.lines_are,
-      ),
-    )
+    let all : List Reply = map (λ r. r.now) c.args.replies.now in
+    let place = c.loop-place.place in
+    let lines = string_bytes c.loop-place.lines in
+    let none = drop_all place all
+    (omega (arith, length-map c.args.replies.now (λ r. r.now), c.loop-place-test.false)) in
+    sym (append-nil lines)
+    ∙ ap (λ (left : List Reply). lines ++ numbered_lines (place + 1) left) (sym none)
+    ∙ c.loop-place.invariant ∙ ap (λ (text : List ℕ). text ++ numbered_lines 1 all) c.new-lines.ensures.bytes

@@ -5,12 +5,12 @@ use Rattle.cdc_commands.specs.Private.Stages.{IsAt}
 use Rattle.cdc_commands.proofs.SimulationLemmas.{step_done, step_refused, whatever_answered}
 use Rattle.cdc_commands.proofs.simulations.Simulation.play_step.Goals as goal
 
-pub returns-in_ok-push_did-in-Ok-clause-answers : goal.returns-in_ok-push_did-in-Ok-clause-answers
-returns-in_ok-push_did-in-Ok-clause-answers c = λ stage at.
+pub returns-in_ok-push_answer-in-Ok-clause-answers : goal.returns-in_ok-push_answer-in-Ok-clause-answers
+returns-in_ok-push_answer-in-Ok-clause-answers c = λ stage at.
     let here = subst (λ x. IsAt x stage) (sym c.self.view_is) at in
     let moved = c.in-Ok.ensures.next (λ _. c.self.invariant.0) stage.world here.world in
     step_done _ _ stage c.args.step.now c.args.batches_done c.in-Ok.did here (moved.0, (moved.1.0, moved.1.1.0)) refl
-    c.in_ok-push_did-in-Ok.ensures
+    c.in_ok-push_answer-in-Ok.ensures
 
 pub returns-in-Err-clause-answers : goal.returns-in-Err-clause-answers
 returns-in-Err-clause-answers c = λ stage at.
@@ -22,8 +22,8 @@ returns-in-Err-clause-answers c = λ stage at.
     step_refused _ _ stage c.args.step.now c.args.batches_done c.in-Err.refusal here (moved.0, (moved.1.0, over))
     refl refl
 
-pub returns-in_err-push_did-in-Ok-clause-gives_up : goal.returns-in_err-push_did-in-Ok-clause-gives_up
-returns-in_err-push_did-in-Ok-clause-gives_up c = λ stage at.
+pub returns-in_err-push_answer-in-Ok-clause-gives_up : goal.returns-in_err-push_answer-in-Ok-clause-gives_up
+returns-in_err-push_answer-in-Ok-clause-gives_up c = λ stage at.
     let here = subst (λ x. IsAt x stage) (sym c.self.view_is) at in
     let moved = c.in-Ok.ensures.next (λ _. c.self.invariant.0) stage.world here.world in
     whatever_answered c.from_residual.result (c.in-Ok.did, moved.0, (moved.1.0, moved.1.1.0))

@@ -1,7 +1,7 @@
 use Rattle.std.proofs.Common.{true, false, subst, rules}
 use Rattle.std.proofs.lemmas.Result.{IfErr-weaker, IfOk-weaker}
 use Rattle.cdc_ends.specs.ConnectorMoves.{IsAdvanced}
-use Rattle.cdc_ends.proofs.ConnectorRounds.{rests_still, rests_then, turned, turned_still}
+use Rattle.cdc_ends.proofs.ConnectorRounds.{turned, turned_still}
 use Rattle.cdc_ends.proofs.ConnectorFailing.{failed_then}
 use Rattle.cdc_ends.proofs.publishing.Publishing.turn.Goals as goal
 

@@ -1,7 +1,7 @@
 use Rattle.std.proofs.Common.{◌≡◌, ℕ, ◌+◌, ◌-◌, ◌≤◌, min, zero, suc, List, [], ◌∷◌, length, length-drop, take, drop, refl, sym, ap, ◌∙◌, subst, arith}
 use Rattle.std.specs.Result.{IfOk}
 use Rattle.cdc_types.specs.declared.events.Event.{Event}
-use Rattle.cdc_log.specs.Log.{Log, events_after}
+use Rattle.cdc_log.specs.Log.{Log}
 use Rattle.cdc_log.proofs.Segments.{length-joined}
 use Rattle.cdc_log.proofs.log.EventLog.read_after.Goals as goal
 

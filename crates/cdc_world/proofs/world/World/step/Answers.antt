@@ -16,11 +16,13 @@ pub returns-in_default : goal.returns-in_default
 returns-in_default g c =
     let next = moves_entry c.args.step.now c.step.result c.self.view_is
     (Moves-actors _ c.step.new.self c.args.step.now c.step.result
-    (leaves_store c.args.step.now c.in_default.not-Start c.in_default.not-StartAt c.in_default.not-Save) c.step.ensures.next) in
+    (leaves_store c.args.step.now c.in_default.not-Start c.in_default.not-StartAt c.in_default.not-Save)
+    c.step.ensures.next) in
     record {
       next = next;
       fixed = StepFixesClosed-moves c.args.self.now c.args.step.now c.step.result _ next;
       counted = counted_entry c.step.result c.self.view_is c.step.ensures.next.0;
       honest = ap (λ (p : Parts). p.honest) c.self.view_is;
       risks = ap (λ (p : Parts). p.risks) c.self.view_is;
+      safe = λ is. absurd (c.in_default.not-Save is);
     }

@@ -1,9 +1,14 @@
-use Rattle.std.proofs.Common.{◌∙◌, sym, arith}
+use Rattle.std.proofs.Common.{◌∙◌, refl, sym, arith}
+use Rattle.cdc_world.proofs.Counting.{answer_rises}
 use Rattle.cdc_world.proofs.TriedSteps.{HasFailed-more, HasFailed-none, MovesPast-last, isnt_passing}
 use Rattle.cdc_world.proofs.world.World.step_past.Goals as goal
 
 pub loop-init : goal.loop-init
-loop-init g c = record { within = omega arith; failed = HasFailed-none c.args.self.now c.args.step.now }
+loop-init g c = record {
+  within = omega arith;
+  failed = HasFailed-none c.args.self.now c.args.step.now;
+  counts = (omega arith, λ none. refl);
+}
 
 pub returns-then-not-is_passing-clause-next : goal.returns-then-not-is_passing-clause-next
 returns-then-not-is_passing-clause-next g c =
@@ -22,7 +27,34 @@ loop-preserved g c = record {
       c.step-answer.result (sym c.is_passing.ensures ∙ c.if-not-is_passing.false) c.loop.invariant.failed
       c.step-answer.ensures.next
       c.step-answer.ensures.honest c.step-answer.ensures.risks;
+  counts = (
+    omega (
+      arith,
+      c.loop.invariant.counts.0,
+      answer_rises c.loop.self.failed c.step-answer.new.self.failed
+          c.step-answer.result c.step-answer.ensures.counted,
+    ),
+    λ none. absurd (omega (arith, none)),
+  );
 }
+
+pub returns-then-not-is_passing-clause-counted : goal.returns-then-not-is_passing-clause-counted
+returns-then-not-is_passing-clause-counted g c = (
+  c.loop.self.failed,
+  (
+    (c.loop.invariant.counts.0, λ none. absurd (omega (arith, none, c.loop-test.true))),
+    c.step-answer.ensures.counted,
+  ),
+)
+
+pub returns-clause-counted : goal.returns-clause-counted
+returns-clause-counted g c = (
+  c.loop.self.failed,
+  (
+    (c.loop.invariant.counts.0, λ none. c.loop.invariant.counts.1 (omega (arith, none, c.loop.invariant.within))),
+    c.step.ensures.counted,
+  ),
+)
 
 pub returns-clause-next : goal.returns-clause-next
 returns-clause-next g c =

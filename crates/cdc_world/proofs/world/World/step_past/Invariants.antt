@@ -1,4 +1,5 @@
 use Rattle.std.proofs.Common.{◌≤◌}
+use Rattle.cdc_world.specs.Tries.{HaveTriesCounted}
 use Rattle.cdc_world.proofs.TriedSteps.{HasFailed}
 use Rattle.cdc_world.proofs.world.World.step_past.Given as goal
 
@@ -6,4 +7,5 @@ abbrev pub invariant-loop : goal.invariant-loop
 invariant-loop g l = record {
   within : l.counter ≤ l.tries;
   failed : HasFailed l.fn.self l.self l.step l.counter;
+  counts : HaveTriesCounted l.counter l.fn.self.failed l.self.failed;
 }

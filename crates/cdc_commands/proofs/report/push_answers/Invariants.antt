@@ -1,0 +1,8 @@
+use Rattle.std.proofs.Common.{◌≡◌, ◌++◌, take}
+use Rattle.std.specs.Prelude.{string_bytes}
+use Rattle.cdc_commands.specs.Report.{answered_lines}
+use Rattle.cdc_commands.proofs.report.push_answers.Given as goal
+
+abbrev pub invariant-loop-answered : goal.invariant-loop-answered
+invariant-loop-answered l =
+    string_bytes l.text ≡ string_bytes l.initial.text ++ answered_lines (take l.answered-index l.answers)

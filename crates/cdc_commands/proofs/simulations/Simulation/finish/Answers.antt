@@ -1,0 +1,19 @@
+use Rattle.std.proofs.Common.{refl, subst, sym}
+use Rattle.cdc_world.specs.Parts.{Parts}
+use Rattle.cdc_world.specs.Stands.{Stands}
+use Rattle.cdc_commands.specs.Private.Stages.{IsAt}
+use Rattle.cdc_commands.proofs.SimulationLemmas.{stands_counted}
+use Rattle.cdc_commands.proofs.simulations.Simulation.finish.Goals as goal
+
+pub returns-clause-stage : goal.returns-clause-stage
+returns-clause-stage c = λ stage at done.
+    let here = subst (λ x. IsAt x stage) (sym c.self.view_is) at in (
+      refl,
+      record {
+        answers = here.answers;
+        done = done;
+        held = c.in_ok-held.ensures.held c.self.invariant.0 stage.world here.world;
+        world = subst (λ (p : Parts). Stands p stage.world) (sym (c.in_ok-held.ensures.kept c.self.invariant.0))
+            (stands_counted c.self.inside.world stage.world c.progress.new.self.failed here.world);
+      },
+    )

@@ -1,0 +1,4 @@
+pub mod LineLemmas
+pub mod ObjectLemmas
+pub mod SentLemmas
+pub mod TakenLemmas

@@ -1,0 +1,97 @@
+-- Lines that are added one after another.
+use Rattle.std.proofs.Common.{◌≡◌, ℕ, ◌+◌, ◌≤◌, List, [], ◌∷◌, ◌++◌, Some, None, refl, sym, ap, ◌∙◌, map, take, drop, length, append_assoc, append-nil}
+use Rattle.std.specs.Prelude.{Option}
+use Rattle.std.specs.List.{slice_get}
+use Rattle.std.specs.Option.{option_map}
+use Rattle.std.proofs.lemmas.List.{drop_all, map-append}
+use Rattle.std.proofs.lemmas.Grind.{flat_map-append}
+use Rattle.serde_json.specs.Data.{Data}
+use Rattle.cdc_commands.proofs.Places.{drop_found, take_found}
+use Rattle.cdc_json.specs.Lines.{batch_value, json_line, json_lines, kept_values, subscriber_values}
+use Rattle.cdc_json.specs.Private.Taking.{numbered_values}
+use Rattle.cdc_subscriber.specs.Kept.{Kept}
+use Rattle.cdc_traffic.specs.declared.requests.Reply.{Reply}
+use Rattle.cdc_subscriber.specs.Book.{entry_for, id_and_balances}
+use Rattle.cdc_subscriber.specs.declared.book.BookEntry.{BookEntry}
+use Rattle.cdc_types.specs.declared.accounts.Balances.{Balances}
+
+-- the lines of one value more
+pub json_lines-more : (values : List Data) (value : Data)
+    → json_lines (values ++ value ∷ []) ≡ json_lines values ++ json_line value
+json_lines-more values value =
+    flat_map-append json_line values (value ∷ []) ∙ ap (λ xs. json_lines values ++ xs) (append-nil (json_line value))
+
+-- the lines of the values of the first elements of a list, and that of the next one
+pub lines_more : {X : Type 0} (f : X → Data) (xs : List X) (i : ℕ) (x : X) (first now next : List ℕ)
+    → now ≡ first ++ json_lines (map f (take i xs)) → slice_get xs i ≡ Some x → next ≡ now ++ json_line (f x)
+    → next ≡ first ++ json_lines (map f (take (i + 1) xs))
+lines_more f xs i x first now next before found added =
+    added ∙ ap (λ (text : List ℕ). text ++ json_line (f x)) before
+    ∙ append_assoc first (json_lines (map f (take i xs))) (json_line (f x))
+    ∙ ap (λ (text : List ℕ). first ++ text)
+    (sym (json_lines-more (map f (take i xs)) (f x))
+    ∙ ap json_lines (sym (map-append f (take i xs) (x ∷ [])) ∙ ap (map f) (sym (take_found xs i x found))))
+
+-- an account that a book has at a place is the entry there
+pub entry_there : (entry : Option BookEntry) (id : ℕ) (balances : Balances)
+    → Some (id, balances) ≡ option_map id_and_balances entry
+    → entry ≡ Some (record { id = id; balances = balances })
+entry_there None id balances is = cc
+entry_there (Some entry) id balances is =
+    let same : (id, balances) ≡ id_and_balances entry = cc in
+    sym (ap (λ (account : ℕ × Balances). Some (entry_for account)) same)
+
+-- there is one where the book shows none only if there is no entry
+pub none_there : (entry : Option BookEntry) → None ≡ option_map id_and_balances entry → entry ≡ None
+none_there None is = refl
+none_there (Some entry) is = cc
+
+-- ---- lines of what is numbered
+
+-- the lines of some values, and of those that follow
+pub json_lines-append : (values rest : List Data) → json_lines (values ++ rest) ≡ json_lines values ++ json_lines rest
+json_lines-append values rest = flat_map-append json_line values rest
+
+-- one subscriber more is told
+pub kept_more : (all : List Kept) (place : ℕ) (kept : Kept) (now next whole : List ℕ) → slice_get all place ≡ Some kept
+    → next ≡ now ++ json_lines (subscriber_values (place + 1) kept)
+    → now ++ json_lines (kept_values (place + 1) (drop place all)) ≡ whole
+    → next ++ json_lines (kept_values (place + 1 + 1) (drop (place + 1) all)) ≡ whole
+kept_more all place kept now next whole found added before =
+    let own = subscriber_values (place + 1) kept in
+    let rest = kept_values (place + 1 + 1) (drop (place + 1) all) in
+    ap (λ (text : List ℕ). text ++ json_lines rest) added
+    ∙ append_assoc now (json_lines own) (json_lines rest)
+    ∙ ap (λ (text : List ℕ). now ++ text) (sym (json_lines-append own rest))
+    ∙ ap (λ (left : List Kept). now ++ json_lines (kept_values (place + 1) left))
+    (sym (drop_found all place kept found))
+    ∙ before
+
+-- no subscriber is left
+pub kept_whole : (all : List Kept) (place : ℕ) (now whole : List ℕ) → length all ≤ place
+    → now ++ json_lines (kept_values (place + 1) (drop place all)) ≡ whole → now ≡ whole
+kept_whole all place now whole past before =
+    sym (append-nil now)
+    ∙ ap (λ (left : List Kept). now ++ json_lines (kept_values (place + 1) left)) (sym (drop_all place all past))
+    ∙ before
+
+-- one reply more is told
+pub reply_more : (all : List Reply) (place : ℕ) (reply : Reply) (now next whole : List ℕ)
+    → slice_get all place ≡ Some reply → next ≡ now ++ json_line (batch_value (place + 1) reply.answer)
+    → now ++ json_lines (numbered_values (place + 1) (drop place all)) ≡ whole
+    → next ++ json_lines (numbered_values (place + 1 + 1) (drop (place + 1) all)) ≡ whole
+reply_more all place reply now next whole found added before =
+    let own = json_line (batch_value (place + 1) reply.answer) in
+    let rest = json_lines (numbered_values (place + 1 + 1) (drop (place + 1) all)) in
+    ap (λ (text : List ℕ). text ++ rest) added ∙ append_assoc now own rest
+    ∙ ap (λ (left : List Reply). now ++ json_lines (numbered_values (place + 1) left))
+    (sym (drop_found all place reply found))
+    ∙ before
+
+-- no reply is left
+pub reply_whole : (all : List Reply) (place : ℕ) (now whole : List ℕ) → length all ≤ place
+    → now ++ json_lines (numbered_values (place + 1) (drop place all)) ≡ whole → now ≡ whole
+reply_whole all place now whole past before =
+    sym (append-nil now)
+    ∙ ap (λ (left : List Reply). now ++ json_lines (numbered_values (place + 1) left)) (sym (drop_all place all past))
+    ∙ before
