@@ -82,7 +82,7 @@ impl Places {
 }
 
 /// Nothing at eight places.
-fn eight() -> [OnceLock<Met>; 8] {
+pub fn eight<T: Drop>() -> [OnceLock<T>; 8] {
     [
         OnceLock::new(),
         OnceLock::new(),

@@ -1,7 +1,7 @@
 //! What is known of a run beside its report: how many messages came to its broker and to its subscribers, what these
 //! saw go another way than straight through, and what its ends met.
 
-use crate::run_places::{Met, Places};
+use crate::run_places::{Met, Places, eight};
 use cdc_ends::{Repeats, RunFault, Story};
 use cdc_run::{Gate, Place};
 use std::sync::OnceLock;
@@ -38,16 +38,7 @@ impl Turns {
                 AtomicU64::new(0),
             ],
             story: OnceLock::new(),
-            repeats: [
-                OnceLock::new(),
-                OnceLock::new(),
-                OnceLock::new(),
-                OnceLock::new(),
-                OnceLock::new(),
-                OnceLock::new(),
-                OnceLock::new(),
-                OnceLock::new(),
-            ],
+            repeats: eight(),
             met: Places::new(),
         }
     }

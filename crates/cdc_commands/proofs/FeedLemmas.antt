@@ -20,7 +20,8 @@ use Rattle.cdc_types.specs.Widths.{max_64}
 use Rattle.cdc_subscriber.specs.Heard.{nothing, next, kept_of}
 use Rattle.cdc_subscriber.specs.Kept.{Kept}
 use Rattle.cdc_commands.specs.Feeds.{hearing}
-use Rattle.cdc_commands.specs.Private.Queues.{TakesDelivery, filled, filled_queues, hearing_delivery}
+use Rattle.cdc_commands.specs.Private.Takers.{TakesDelivery, hearing_delivery}
+use Rattle.cdc_commands.specs.Queues.{filled, filled_queues}
 use Rattle.cdc_commands.proofs.Places.{take_found}
 use Rattle.std.proofs.lemmas.List.Elements.{filter-append}
 

@@ -1,4 +1,3 @@
-pub mod AnswerLemmas
 mod Examples
 pub mod HeldLaws
 pub mod FeedLemmas

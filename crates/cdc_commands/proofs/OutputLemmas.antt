@@ -9,10 +9,9 @@ use Rattle.cdc_commands.specs.declared.endings.Ending.TheVariants.{Done, Failed,
 use Rattle.cdc_commands.specs.declared.faults.ProgramFault.{ProgramFault}
 use Rattle.cdc_commands.specs.declared.faults.ProgramFault.TheVariants as fault
 use Rattle.cdc_commands.specs.declared.output.Output.{Output}
-use Rattle.cdc_commands.specs.Outcomes.{IsPrinted, IsScriptEnding, MayFailScript, Outcome, PrintsOutcome, Writes, outcome_of, refusal_ending}
-use Rattle.cdc_commands.specs.Private.Stages.{IsSimulationFault}
+use Rattle.cdc_commands.specs.Outcomes.{IsPrinted, IsScriptEnding, IsSimulationFault, MayFailScript, Outcome, PrintsOutcome, Writes, outcome_of, refusal_ending}
 use Rattle.cdc_commands.specs.Report.{program_fault_line}
-use Rattle.cdc_commands.specs.Simulated.{RunPrints, SaysPlan, SimulationPrints}
+use Rattle.cdc_commands.specs.Simulated.{PrintsPlan, SaysPlan, SimulationInput, TellsPlan}
 use Rattle.cdc_commands.specs.Simulations.{Plan}
 
 -- the outcome of a line that says why a command gave up
@@ -93,73 +92,6 @@ same_steps window script steps bytes plan same says = record {
   steps_said = sym same ∙ says.steps_said;
 }
 
--- what is printed for a text of a script is printed for all its bytes
-pub of_script : (window : ℕ) (script : List ℕ) (bytes steps : Option (List ℕ)) (ending : Ending) (printed : List ℕ)
-    → IfSome bytes (λ all. script_of script ≡ script_of all)
-    → SimulationPrints (record { window = window; script = Some script; steps = steps }) ending printed
-    → SimulationPrints (record { window = window; script = bytes; steps = steps }) ending printed
-of_script window script None steps Done printed same prints = tt
-of_script window script (Some all) None Done printed same prints = tt
-of_script window script (Some all) (Some steps) Done printed same prints =
-    (prints.0, (same_script window script all steps prints.0 same prints.1.0, prints.1.1))
-of_script window script None steps (Refused why) printed same prints = tt
-of_script window script (Some all) None (Refused why) printed same prints = tt
-of_script window script (Some all) (Some steps) (Refused why) printed same prints =
-    (prints.0, (same_script window script all steps prints.0 same prints.1.0, prints.1.1))
-of_script window script None steps (BadScript at) printed same prints = (prints.0, tt)
-of_script window script (Some all) steps (BadScript at) printed same prints = (prints.0, sym same ∙ prints.1)
-of_script window script None steps (BadSteps at) printed same prints = (prints.0, (tt, prints.1.1))
-of_script window script (Some all) steps (BadSteps at) printed same prints =
-    (prints.0, ((prints.1.0.0, sym same ∙ prints.1.0.1), prints.1.1))
-of_script window script bytes steps (Failed why) printed same prints = prints
-of_script window script bytes steps BadWords printed same prints = absurd prints
-
--- what is printed for a text of steps is printed for all its bytes
-pub of_steps : (window : ℕ) (script : Option (List ℕ)) (steps : List ℕ) (bytes : Option (List ℕ)) (ending : Ending)
-    (printed : List ℕ) → IfSome bytes (λ all. acts_of steps ≡ acts_of all)
-    → SimulationPrints (record { window = window; script = script; steps = Some steps }) ending printed
-    → SimulationPrints (record { window = window; script = script; steps = bytes }) ending printed
-of_steps window None steps bytes Done printed same prints = tt
-of_steps window (Some script) steps None Done printed same prints = tt
-of_steps window (Some script) steps (Some all) Done printed same prints =
-    (prints.0, (same_steps window script steps all prints.0 same prints.1.0, prints.1.1))
-of_steps window None steps bytes (Refused why) printed same prints = tt
-of_steps window (Some script) steps None (Refused why) printed same prints = tt
-of_steps window (Some script) steps (Some all) (Refused why) printed same prints =
-    (prints.0, (same_steps window script steps all prints.0 same prints.1.0, prints.1.1))
-of_steps window script steps bytes (BadScript at) printed same prints = prints
-of_steps window script steps None (BadSteps at) printed same prints = (prints.0, (prints.1.0, tt))
-of_steps window script steps (Some all) (BadSteps at) printed same prints =
-    (prints.0, (prints.1.0, sym same ∙ prints.1.1))
-of_steps window script steps bytes (Failed why) printed same prints = prints
-of_steps window script steps bytes BadWords printed same prints = absurd prints
-
--- the same of what a command made of the text of a script, which may be none
-pub made_of_script : (window : ℕ) (text script : List ℕ) (bytes steps : Option (List ℕ))
-    (made : Result Output ProgramFault) → text ≡ script → IfSome bytes (λ all. script_of script ≡ script_of all)
-    → IfOk made (λ output. SimulationPrints (record { window = window; script = Some text; steps = steps })
-    output.ending output.text.items)
-    → IfOk made (λ output. SimulationPrints (record { window = window; script = bytes; steps = steps })
-    output.ending output.text.items)
-made_of_script window text script bytes steps (Ok output) is same prints =
-    of_script window script bytes steps output.ending output.text.items same
-    (subst (λ (xs : List ℕ). SimulationPrints (record { window = window; script = Some xs; steps = steps })
-    output.ending output.text.items) is prints)
-made_of_script window text script bytes steps (Err why) is same prints = tt
-
--- the same of what it made of the text of steps
-pub made_of_steps : (window : ℕ) (script : Option (List ℕ)) (text steps : List ℕ) (bytes : Option (List ℕ))
-    (made : Result Output ProgramFault) → text ≡ steps → IfSome bytes (λ all. acts_of steps ≡ acts_of all)
-    → IfOk made (λ output. SimulationPrints (record { window = window; script = script; steps = Some text })
-    output.ending output.text.items)
-    → IfOk made (λ output. SimulationPrints (record { window = window; script = script; steps = bytes })
-    output.ending output.text.items)
-made_of_steps window script text steps bytes (Ok output) is same prints =
-    of_steps window script steps bytes output.ending output.text.items same
-    (subst (λ (xs : List ℕ). SimulationPrints (record { window = window; script = script; steps = Some xs })
-    output.ending output.text.items) is prints)
-made_of_steps window script text steps bytes (Err why) is same prints = tt
-
 -- what gives up for want of memory gives up as a command that reads may
 pub may_fail : (why : ProgramFault) → IsSimulationFault why → MayFailScript why
 may_fail (fault.ReadFault why) is = absurd is
@@ -171,14 +103,86 @@ may_fail fault.SessionsExhausted is = absurd is
 may_fail fault.StartNotAllowed is = absurd is
 may_fail fault.NotOneSystem is = absurd is
 
--- what is printed of a simulation that ends so is printed by the command
-pub prints_after : (window : ℕ) (script steps : List ℕ) (refusal : Option StepError) (ending : Ending)
-    (printed : List ℕ) → ending ≡ refusal_ending refusal
-    → RunPrints (record { window = window; script = Some script; steps = Some steps }) refusal printed
-    → SimulationPrints (record { window = window; script = Some script; steps = Some steps }) ending printed
-prints_after window script steps None ending printed is prints =
-    subst (λ (e : Ending). SimulationPrints (record { window = window; script = Some script; steps = Some steps }) e
-    printed) (sym is) prints
-prints_after window script steps (Some why) ending printed is prints =
-    subst (λ (e : Ending). SimulationPrints (record { window = window; script = Some script; steps = Some steps }) e
-    printed) (sym is) prints
+-- of whatever is told of plans, and of faults
+module _ (Tells : Plan → Option StepError → List ℕ → Type 0) (TellsFault : Ending → List ℕ → Type 0) where
+  -- what is printed for a text of a script is printed for all its bytes
+  of_script : (window : ℕ) (script : List ℕ) (bytes steps : Option (List ℕ)) (ending : Ending) (printed : List ℕ)
+      → IfSome bytes (λ all. script_of script ≡ script_of all)
+      → PrintsPlan Tells TellsFault (record { window = window; script = Some script; steps = steps }) ending printed
+      → PrintsPlan Tells TellsFault (record { window = window; script = bytes; steps = steps }) ending printed
+  of_script window script None steps Done printed same prints = tt
+  of_script window script (Some all) None Done printed same prints = tt
+  of_script window script (Some all) (Some steps) Done printed same prints =
+      (prints.0, (same_script window script all steps prints.0 same prints.1.0, prints.1.1))
+  of_script window script None steps (Refused why) printed same prints = tt
+  of_script window script (Some all) None (Refused why) printed same prints = tt
+  of_script window script (Some all) (Some steps) (Refused why) printed same prints =
+      (prints.0, (same_script window script all steps prints.0 same prints.1.0, prints.1.1))
+  of_script window script None steps (BadScript at) printed same prints = (prints.0, tt)
+  of_script window script (Some all) steps (BadScript at) printed same prints = (prints.0, sym same ∙ prints.1)
+  of_script window script None steps (BadSteps at) printed same prints = (prints.0, (tt, prints.1.1))
+  of_script window script (Some all) steps (BadSteps at) printed same prints =
+      (prints.0, ((prints.1.0.0, sym same ∙ prints.1.0.1), prints.1.1))
+  of_script window script bytes steps (Failed why) printed same prints = prints
+  of_script window script bytes steps BadWords printed same prints = absurd prints
+
+  -- what is printed for a text of steps is printed for all its bytes
+  of_steps : (window : ℕ) (script : Option (List ℕ)) (steps : List ℕ) (bytes : Option (List ℕ)) (ending : Ending)
+      (printed : List ℕ) → IfSome bytes (λ all. acts_of steps ≡ acts_of all)
+      → PrintsPlan Tells TellsFault (record { window = window; script = script; steps = Some steps }) ending printed
+      → PrintsPlan Tells TellsFault (record { window = window; script = script; steps = bytes }) ending printed
+  of_steps window None steps bytes Done printed same prints = tt
+  of_steps window (Some script) steps None Done printed same prints = tt
+  of_steps window (Some script) steps (Some all) Done printed same prints =
+      (prints.0, (same_steps window script steps all prints.0 same prints.1.0, prints.1.1))
+  of_steps window None steps bytes (Refused why) printed same prints = tt
+  of_steps window (Some script) steps None (Refused why) printed same prints = tt
+  of_steps window (Some script) steps (Some all) (Refused why) printed same prints =
+      (prints.0, (same_steps window script steps all prints.0 same prints.1.0, prints.1.1))
+  of_steps window script steps bytes (BadScript at) printed same prints = prints
+  of_steps window script steps None (BadSteps at) printed same prints = (prints.0, (prints.1.0, tt))
+  of_steps window script steps (Some all) (BadSteps at) printed same prints =
+      (prints.0, (prints.1.0, sym same ∙ prints.1.1))
+  of_steps window script steps bytes (Failed why) printed same prints = prints
+  of_steps window script steps bytes BadWords printed same prints = absurd prints
+
+  -- the same of what a command made of the text of a script, which may be none
+  pub made_of_script : {X : Type 0} (ending_of : X → Ending) (text_of : X → List ℕ) (window : ℕ) (text script : List ℕ)
+      (bytes steps : Option (List ℕ)) (made : Result X ProgramFault) → text ≡ script
+      → IfSome bytes (λ all. script_of script ≡ script_of all)
+      → IfOk made (λ x. PrintsPlan Tells TellsFault (record { window = window; script = Some text; steps = steps })
+      (ending_of x) (text_of x))
+      → IfOk made (λ x. PrintsPlan Tells TellsFault (record { window = window; script = bytes; steps = steps })
+      (ending_of x) (text_of x))
+  made_of_script ending_of text_of window text script bytes steps (Ok x) is same prints =
+      of_script window script bytes steps (ending_of x) (text_of x) same
+      (subst (λ (xs : List ℕ). PrintsPlan Tells TellsFault
+      (record { window = window; script = Some xs; steps = steps }) (ending_of x) (text_of x)) is prints)
+  made_of_script ending_of text_of window text script bytes steps (Err why) is same prints = tt
+
+  -- the same of what it made of the text of steps
+  pub made_of_steps : {X : Type 0} (ending_of : X → Ending) (text_of : X → List ℕ) (window : ℕ)
+      (script : Option (List ℕ)) (text steps : List ℕ) (bytes : Option (List ℕ)) (made : Result X ProgramFault)
+      → text ≡ steps → IfSome bytes (λ all. acts_of steps ≡ acts_of all)
+      → IfOk made (λ x. PrintsPlan Tells TellsFault (record { window = window; script = script; steps = Some text })
+      (ending_of x) (text_of x))
+      → IfOk made (λ x. PrintsPlan Tells TellsFault (record { window = window; script = script; steps = bytes })
+      (ending_of x) (text_of x))
+  made_of_steps ending_of text_of window script text steps bytes (Ok x) is same prints =
+      of_steps window script steps bytes (ending_of x) (text_of x) same
+      (subst (λ (xs : List ℕ). PrintsPlan Tells TellsFault
+      (record { window = window; script = script; steps = Some xs }) (ending_of x) (text_of x)) is prints)
+  made_of_steps ending_of text_of window script text steps bytes (Err why) is same prints = tt
+
+  -- what is printed of a simulation that ends so is printed by the command
+  pub prints_after : (window : ℕ) (script steps : List ℕ) (refusal : Option StepError) (ending : Ending)
+      (printed : List ℕ) → ending ≡ refusal_ending refusal
+      → TellsPlan Tells (record { window = window; script = Some script; steps = Some steps }) refusal printed
+      → PrintsPlan Tells TellsFault (record { window = window; script = Some script; steps = Some steps }) ending
+      printed
+  prints_after window script steps None ending printed is prints =
+      let input : SimulationInput = record { window = window; script = Some script; steps = Some steps } in
+      subst (λ (e : Ending). PrintsPlan Tells TellsFault input e printed) (sym is) prints
+  prints_after window script steps (Some why) ending printed is prints =
+      let input : SimulationInput = record { window = window; script = Some script; steps = Some steps } in
+      subst (λ (e : Ending). PrintsPlan Tells TellsFault input e printed) (sym is) prints

@@ -22,7 +22,7 @@ use Rattle.cdc_script.specs.declared.scripts.ClientBatch.{ClientBatch}
 use Rattle.cdc_script.specs.declared.step_files.Act.{Act}
 use Rattle.cdc_script.specs.declared.step_files.Act.TheVariants as act
 use Rattle.cdc_commands.specs.declared.simulations.Simulated.{Simulated}
-use Rattle.cdc_commands.specs.Private.Simulated.{IsReportOf}
+use Rattle.cdc_commands.specs.SimulationReports.{IsReportOf}
 use Rattle.cdc_commands.specs.Private.Stages.{IsAt, SimulationParts}
 use Rattle.cdc_commands.specs.Report.{answered_lines}
 use Rattle.cdc_commands.specs.Simulations.{ActsTo, AnswersTo, PlaysActs, Stage, after_act, did_answer, step_for, progress_line, refusal_line, simulation_text, steps_line, subscriptions_text}

@@ -13,7 +13,7 @@ use Rattle.cdc_script.specs.declared.scripts.ClientBatch.{ClientBatch}
 use Rattle.cdc_script.specs.declared.scripts.Script.{Script}
 use Rattle.cdc_script.specs.declared.step_files.Act.{Act}
 use Rattle.cdc_commands.specs.declared.simulations.Simulated.{Simulated}
-use Rattle.cdc_commands.specs.Private.Simulated.{ComesTo, IsReportOf}
+use Rattle.cdc_commands.specs.SimulationReports.{ComesTo, IsReportOf}
 use Rattle.cdc_commands.specs.Simulations.{AnswersTo, Plan, PlaysActs, Simulates, Stage, at_start, step_for, simulation_text}
 use Rattle.cdc_commands.proofs.SimulationLemmas.{numbered_found}
 

@@ -12,7 +12,8 @@ use Rattle.cdc_match.specs.Arguments.{Arguments}
 use Rattle.cdc_match.specs.Queue.{queue}
 use Rattle.cdc_message.specs.declared.items.Item.{Item}
 use Rattle.cdc_commands.specs.Feeds.{hearing, subscribers_text}
-use Rattle.cdc_commands.specs.Private.Queues.{ChangesQueue, IsUntaken, filled, filled_queues, takers_text}
+use Rattle.cdc_commands.specs.Queues.{ChangesQueue, IsUntaken, filled, filled_queues}
+use Rattle.cdc_commands.specs.Private.Takers.{takers_text}
 use Rattle.std.proofs.lemmas.List.Elements.{All-map}
 
 -- one more queue

@@ -7,7 +7,7 @@ use Rattle.cdc_script.specs.Scripts.{script_of}
 use Rattle.cdc_script.specs.StepFiles.{acts_of}
 use Rattle.cdc_commands.specs.Outcomes.{MayFailScript, Outcome}
 use Rattle.cdc_commands.specs.Printed.{outcome}
-use Rattle.cdc_commands.specs.Report.{script_fault_line, steps_fault_line, program_fault_line}
+use Rattle.cdc_commands.specs.Report.{IsFaultLine}
 use Rattle.cdc_commands.specs.Simulated.{IsGoodScript}
 
 -- what a check makes of the bytes of a script: the line of its first fault, or nothing
@@ -18,16 +18,19 @@ check_outcome bytes = outcome (λ script. []) (script_of bytes)
 abbrev pub IsGoodStepFile : List ℕ → Type 0
 IsGoodStepFile steps = (acts : List Act) × (acts_of steps ≡ Ok acts)
 
--- this is printed by a check of a script and a step file that ends so, as far as their bytes are known; the steps are
--- judged after the script
-abbrev pub CheckPrints : Option (List ℕ) → Option (List ℕ) → Ending → List ℕ → Type 0
-CheckPrints script steps Done printed =
+-- this is printed by a check of a script and a step file that ends so, as far as their bytes are known, where this is told
+-- of faults; the steps are judged after the script
+abbrev pub JudgesFiles : (Ending → List ℕ → Type 0) → Option (List ℕ) → Option (List ℕ) → Ending → List ℕ → Type 0
+JudgesFiles TellsFault script steps Done printed =
     (printed ≡ []) × (IfSome script IsGoodScript × IfSome steps IsGoodStepFile)
-CheckPrints script steps (BadScript at) printed =
-    (printed ≡ script_fault_line at) × IfSome script (λ bytes. script_of bytes ≡ Err at)
-CheckPrints script steps (BadSteps at) printed =
-    (printed ≡ steps_fault_line at)
-    × (IfSome script IsGoodScript × IfSome steps (λ bytes. acts_of bytes ≡ Err at))
-CheckPrints script steps (Failed why) printed = MayFailScript why × (printed ≡ program_fault_line why)
-CheckPrints script steps (Refused why) printed = ⊥
-CheckPrints script steps BadWords printed = ⊥
+JudgesFiles TellsFault script steps (BadScript at) printed =
+    TellsFault (BadScript at) printed × IfSome script (λ bytes. script_of bytes ≡ Err at)
+JudgesFiles TellsFault script steps (BadSteps at) printed =
+    TellsFault (BadSteps at) printed × (IfSome script IsGoodScript × IfSome steps (λ bytes. acts_of bytes ≡ Err at))
+JudgesFiles TellsFault script steps (Failed why) printed = MayFailScript why × TellsFault (Failed why) printed
+JudgesFiles TellsFault script steps (Refused why) printed = ⊥
+JudgesFiles TellsFault script steps BadWords printed = ⊥
+
+-- this is printed by a check that ends so
+abbrev pub CheckPrints : Option (List ℕ) → Option (List ℕ) → Ending → List ℕ → Type 0
+CheckPrints script steps ending printed = JudgesFiles IsFaultLine script steps ending printed

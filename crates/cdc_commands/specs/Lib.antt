@@ -1,10 +1,13 @@
 pub mod Checked
+pub mod Faults
 pub mod Feeds
 pub mod Held
 pub mod Messages
 pub mod Outcomes
 pub mod Printed
 pub mod Private
+pub mod Queues
 pub mod Report
 pub mod Simulated
+pub mod SimulationReports
 pub mod Simulations

@@ -66,6 +66,17 @@ MayFailScript fault.SessionsExhausted = ⊥
 MayFailScript fault.StartNotAllowed = ⊥
 MayFailScript fault.NotOneSystem = ⊥
 
+-- a simulation gives up for want of memory alone
+abbrev pub IsSimulationFault : ProgramFault → Type 0
+IsSimulationFault (fault.ReadFault why) = ⊥
+IsSimulationFault (fault.WriteFault why) = ⊥
+IsSimulationFault (fault.Store why) = ⊥
+IsSimulationFault fault.OutOfMemory = Unit {0}
+IsSimulationFault fault.PeerGone = ⊥
+IsSimulationFault fault.SessionsExhausted = ⊥
+IsSimulationFault fault.StartNotAllowed = ⊥
+IsSimulationFault fault.NotOneSystem = ⊥
+
 -- this is printed by a command that ends so, and makes such an outcome of the bytes of its script, which are known or
 -- not
 abbrev pub PrintsOutcome : (List ℕ → Outcome) → Option (List ℕ) → Ending → List ℕ → Type 0

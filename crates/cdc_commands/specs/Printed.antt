@@ -16,7 +16,7 @@ use Rattle.cdc_laws.specs.Line.{line}
 use Rattle.cdc_commands.specs.Feeds.{subscribers_text}
 use Rattle.cdc_commands.specs.Messages.{message_lines}
 use Rattle.cdc_commands.specs.Outcomes.{Outcome}
-use Rattle.cdc_commands.specs.Report.{batch_line, script_fault_line}
+use Rattle.cdc_commands.specs.Report.{answered_lines, script_fault_line}
 use Rattle.cdc_script.specs.Scripts.{script_of}
 
 -- the ledger's answer, without the history after it
@@ -31,12 +31,6 @@ answers_to n h (b ∷ rest) =
     record { number = n; answer = answer (submit h b.batch) }
     ∷ answers_to (n + 1) (history_or h (submit h b.batch)) rest
 
--- the lines of batches that are handed in one after another, the first having this number
-abbrev pub batch_lines : ℕ → History → List ClientBatch → List ℕ
-batch_lines n h [] = []
-batch_lines n h (b ∷ rest) =
-    batch_line n (answer (submit h b.batch)) ++ batch_lines (n + 1) (history_or h (submit h b.batch)) rest
-
 -- the history after batches
 abbrev pub history_after : History → List ClientBatch → History
 history_after h batches = after_batches features h (map (λ b. b.batch) batches)
@@ -49,7 +43,7 @@ history_of script = record (history_after empty_history script.batches) { closed
 -- of the closed ledger's events and the end mark
 abbrev pub printed_books : Script → List ℕ
 printed_books script =
-    batch_lines 1 empty_history script.batches
+    answered_lines (answers_to 1 empty_history script.batches)
     ++ subscribers_text 1 (line (history_of script)) script.bindings
 
 -- what `messages` prints: the lines of each event

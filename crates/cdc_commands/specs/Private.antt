@@ -1,5 +1,3 @@
 -- What the contracts of private functions alone cite: a reader has to believe none of it.
-pub mod Outcomes
-pub mod Queues
-pub mod Simulated
 pub mod Stages
+pub mod Takers

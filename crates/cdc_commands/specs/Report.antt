@@ -1,5 +1,5 @@
 -- What is printed: lines of text, each with its line feed.
-use Rattle.std.specs.Prelude.{ℕ, List, [], ◌++◌, codes, decimal, Result, Ok, Err}
+use Rattle.std.specs.Prelude.{◌≡◌, ℕ, List, [], ◌++◌, codes, decimal, Result, Ok, Err}
 use Rattle.std.specs.List.{flat_map}
 use Rattle.cdc_types.specs.declared.batches.BatchResults.{BatchResults}
 use Rattle.cdc_types.specs.declared.batches.BatchResults.TheVariants as results
@@ -8,7 +8,7 @@ use Rattle.cdc_ledger.specs.declared.errors.BatchError.{BatchError}
 use Rattle.cdc_ledger.specs.BatchErrors.{batch_error_number, batch_error_name}
 use Rattle.cdc_commands.specs.declared.batches.Answered.{Answered}
 use Rattle.cdc_commands.specs.declared.endings.Ending.{Ending}
-use Rattle.cdc_commands.specs.declared.endings.Ending.TheVariants.{BadScript, BadSteps}
+use Rattle.cdc_commands.specs.declared.endings.Ending.TheVariants.{Failed, BadScript, BadSteps}
 use Rattle.cdc_commands.specs.declared.faults.ProgramFault.{ProgramFault}
 use Rattle.cdc_commands.specs.declared.faults.ProgramFault.TheVariants as fault
 use Rattle.cdc_script.specs.declared.faults.ScriptFault.{ScriptFault}
@@ -56,3 +56,12 @@ program_fault_line fault.PeerGone = codes "fault: peer_gone\n"
 program_fault_line fault.SessionsExhausted = codes "fault: sessions_exhausted\n"
 program_fault_line fault.StartNotAllowed = codes "fault: start_not_allowed\n"
 program_fault_line fault.NotOneSystem = codes "fault: not_one_system\n"
+
+-- the line of the fault that a command ends with: it gave up, or doesn't take a file
+abbrev pub ending_line : Ending → List ℕ
+ending_line (Failed why) = program_fault_line why
+ending_line ending = file_fault_line ending
+
+-- this is that line
+abbrev pub IsFaultLine : Ending → List ℕ → Type 0
+IsFaultLine ending printed = printed ≡ ending_line ending

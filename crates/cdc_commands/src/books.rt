@@ -3,24 +3,20 @@
 
 ghost use Rattle.std.specs.Prelude.{◌≡◌, ◌+◌, IfErr, IfOk, IfSome};
 ghost use Rattle.cdc_match.specs.Arguments.{Arguments};
-ghost use Rattle.cdc_laws.specs.Line.{line};
-ghost use Rattle.cdc_ledger.specs.History.{empty_history};
 ghost use Rattle.cdc_script.specs.Reading.{ConsumesAtMost};
 ghost use Rattle.cdc_script.specs.Scripts.{max_bytes};
 ghost use Rattle.cdc_script.specs.declared.scripts.Script.{Script as Said};
 ghost use Rattle.cdc_commands.specs.Held.{HasWholeFeed, ListsBalances};
 ghost use Rattle.cdc_commands.specs.Outcomes.{IsScriptEnding, MayFailScript, PrintsOutcome, Writes};
 ghost use Rattle.cdc_commands.specs.Outcomes.{outcome_of};
-ghost use Rattle.cdc_commands.specs.Printed.{answers_to, books_outcome, history_of, printed_books};
-ghost use Rattle.cdc_commands.specs.Private.Queues.{filled_queues};
+ghost use Rattle.cdc_commands.specs.Printed.{books_outcome, history_of, printed_books};
 
-use crate::batches::{Answered, Taken, take_batches};
+use crate::book_reports::{BooksReport, books_report};
 use crate::endings::Ending;
 use crate::faults::ProgramFault;
-use crate::feeding::{publish_log, push_subscribers};
+use crate::feeding::push_subscribers;
 use crate::output::{Output, file_fault, print_output};
 use crate::report::push_answers;
-use cdc_broker::Broker;
 use cdc_script::{Script, ScriptError, parse_script, read_text};
 use std::alloc::{AllocError, Global};
 use std::io::{Read, Write};
@@ -83,29 +79,4 @@ fn print_books(alloc: Global, script: Script) -> Result<Vec<u8>, AllocError>
     let mut text = lines.into_bytes();
     push_subscribers(alloc, &mut text, &mut broker)?;
     Ok(text)
-}
-
-/// What `books` tells of a script.
-#[derive(Drop)]
-pub struct BooksReport {
-    /// What the ledger answered to each batch, in the order of the script.
-    pub answers: Vec<Answered>,
-    /// A broker with a queue for each subscriber, in which all is that the subscriber is to take.
-    pub broker: Broker,
-}
-
-/// What `books` tells of a script, for whoever prints it.
-pub fn books_report(alloc: Global, script: Script) -> Result<BooksReport, AllocError>
-    ensures answers { IfOk result (λ report. report.answers.items
-        ≡ answers_to 1 empty_history script.batches) }
-    ensures queues { IfOk result (λ report. report.broker.queues
-        ≡ filled_queues (line (history_of script)) script.bindings) }
-{
-    let Taken { ledger, answers } = take_batches(alloc, &script)?;
-    let Script {
-        bindings,
-        batches: _,
-    } = script;
-    let broker = publish_log(alloc, bindings.into_vec(), ledger.log())?;
-    Ok(BooksReport { answers, broker })
 }

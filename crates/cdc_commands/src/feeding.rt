@@ -3,12 +3,12 @@
 ghost use Rattle.std.specs.Prelude.{◌≡◌, ◌^◌, ◌<◌, ◌≤◌, ◌++◌, true, All, IfOk, OnOk, Some, length};
 ghost use Rattle.cdc_broker.specs.Broker.{published as with_published, queue_of};
 ghost use Rattle.cdc_subscriber.specs.Heard.{kept_of};
-ghost use Rattle.cdc_subscriber.specs.Lines.{subscriber_text};
 ghost use Rattle.cdc_laws.specs.Line.{told};
 ghost use Rattle.cdc_commands.specs.Feeds.{hearing};
-ghost use Rattle.cdc_commands.specs.Private.Queues.{ChangesQueue, IsUntaken, TakesDelivery};
-ghost use Rattle.cdc_commands.specs.Private.Queues.{filled_queues, takers_text};
+ghost use Rattle.cdc_commands.specs.Queues.{ChangesQueue, IsUntaken, filled_queues};
+ghost use Rattle.cdc_commands.specs.Private.Takers.{TakesDelivery, takers_text};
 
+use crate::report::print_subscriber;
 use cdc_broker::Broker;
 use cdc_log::EventLog;
 use cdc_match::Binding;
@@ -104,16 +104,4 @@ fn take_next(
 /// The one error that taking a delivery has.
 fn want_of_memory(_error: TakeError) -> AllocError {
     AllocError
-}
-
-/// Adds the lines of a subscriber.
-pub fn print_subscriber(
-    text: &mut Vec<u8>,
-    subscriber: &Subscriber,
-    number: u64,
-) -> Result<(), AllocError>
-    ensures { OnOk result (text.new.items ≡
-        text.old.items ++ subscriber_text number subscriber.now) }
-{
-    subscriber.print(text, number).map_err(|_| AllocError)
 }

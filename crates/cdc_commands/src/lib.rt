@@ -3,6 +3,7 @@
 #![tactic(auto)]
 
 mod batches;
+mod book_reports;
 pub mod books;
 pub mod check;
 pub mod endings;
@@ -16,11 +17,11 @@ mod simulation_report;
 mod simulations;
 
 pub use batches::{Answered, Taken, take_batches};
-pub use books::{BooksReport, books_report};
+pub use book_reports::{BooksReport, books_report};
 pub use endings::Ending;
 pub use faults::ProgramFault;
-pub use feeding::{print_subscriber, take_queue};
+pub use feeding::take_queue;
 pub use output::{Output, file_fault, print_fault, print_output, print_text};
-pub use report::push_batch;
+pub use report::{print_subscriber, push_batch};
 pub use simulate::simulate_command;
 pub use simulations::{Simulated, play_script};

@@ -1,16 +1,17 @@
-//! What `books` prints: a line for each batch, and then what the subscriber holds.
+//! Lines of text: of a batch, of a subscriber and its book, and of the fault of a file.
 
 ghost use Rattle.std.specs.Prelude.{◌≡◌, ◌++◌, codes, Err, OnOk, string_bytes};
 ghost use Rattle.std.specs.List.{flat_map};
 ghost use Rattle.cdc_types.specs.Results.{account_number, transfer_number};
 ghost use Rattle.cdc_script.specs.Faults.{kind_name};
-ghost use Rattle.cdc_subscriber.specs.Lines.{spaced};
+ghost use Rattle.cdc_subscriber.specs.Lines.{spaced, subscriber_text};
 ghost use Rattle.cdc_commands.specs.Report.{answer_text, answered_lines, batch_line, file_fault_line};
 
 use crate::batches::Answered;
 use crate::endings::Ending;
 use cdc_ledger::BatchError;
 use cdc_script::ScriptFault;
+use cdc_subscriber::Subscriber;
 use cdc_types::{AccountResult, BatchResults, TransferResult};
 use itoa::{Buffer, Integer};
 use std::alloc::AllocError;
@@ -112,6 +113,18 @@ fn push_refusal(text: &mut String, refusal: BatchError) -> Result<(), AllocError
     push_spaced(text, refusal.number())?;
     text.push_str(" ")?;
     text.push_str(refusal.name())
+}
+
+/// Adds the lines of a subscriber.
+pub fn print_subscriber(
+    text: &mut Vec<u8>,
+    subscriber: &Subscriber,
+    number: u64,
+) -> Result<(), AllocError>
+    ensures { OnOk result (text.new.items ≡
+        text.old.items ++ subscriber_text number subscriber.now) }
+{
+    subscriber.print(text, number).map_err(|_| AllocError)
 }
 
 /// The line of the file that a command doesn't take; nothing where it ends otherwise.

@@ -4,8 +4,7 @@ ghost use Rattle.std.specs.Prelude.{◌≡◌, ◌+◌, ℕ, List, Option, IfErr
 ghost use Rattle.cdc_script.specs.Reading.{ConsumesAtMost};
 ghost use Rattle.cdc_script.specs.Scripts.{max_bytes, script_of};
 ghost use Rattle.cdc_types.specs.Windows.{IsWindow};
-ghost use Rattle.cdc_commands.specs.Outcomes.{MayFailScript, Writes};
-ghost use Rattle.cdc_commands.specs.Private.Stages.{IsSimulationFault};
+ghost use Rattle.cdc_commands.specs.Outcomes.{IsSimulationFault, MayFailScript, Writes};
 ghost use Rattle.cdc_commands.specs.Simulated.{SimulationPrints};
 
 use crate::endings::Ending;

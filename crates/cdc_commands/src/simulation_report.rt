@@ -1,14 +1,13 @@
 //! What `simulate` prints: the lines of batches, of the steps, of the saved progress and of the subscribers.
 
 ghost use Rattle.std.specs.Prelude.{◌≡◌, ◌++◌, ◌^◌, ◌<◌, IfOk, OnOk, string_bytes};
-ghost use Rattle.cdc_commands.specs.Private.Simulated.{IsReportOf};
+ghost use Rattle.cdc_commands.specs.SimulationReports.{IsReportOf};
 ghost use Rattle.cdc_commands.specs.Simulations.{Stage, progress_line, refusal_line, simulation_text, steps_line};
 ghost use Rattle.cdc_commands.specs.Simulations.{subscriptions_text};
 ghost use Rattle.cdc_world.specs.Stands.{Stands};
 ghost use Rattle.cdc_world.specs.Worlds.{WorldState};
 
-use crate::feeding::print_subscriber;
-use crate::report::{push_answers, push_line_end, push_spaced};
+use crate::report::{print_subscriber, push_answers, push_line_end, push_spaced};
 use crate::simulations::Simulated;
 use cdc_progress::{MemoryStore, Progress};
 use cdc_world::{Played, World};

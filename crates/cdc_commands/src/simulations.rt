@@ -5,8 +5,9 @@ ghost use Rattle.std.specs.Prelude.{OnErr, OnOk, Some, drop, if◌then◌else◌
 ghost use Rattle.std.specs.Vec.Iter.{into_iter_items};
 ghost use Rattle.cdc_script.specs.declared.scripts.ClientBatch.{ClientBatch as Said};
 ghost use Rattle.cdc_types.specs.Windows.{IsWindow};
-ghost use Rattle.cdc_commands.specs.Private.Stages.{GivesUpAt, HasDoneAt, IsAt, IsSimulationFault};
-ghost use Rattle.cdc_commands.specs.Private.Simulated.{ComesTo, IsReportOf};
+ghost use Rattle.cdc_commands.specs.Private.Stages.{GivesUpAt, HasDoneAt, IsAt};
+ghost use Rattle.cdc_commands.specs.Outcomes.{IsSimulationFault};
+ghost use Rattle.cdc_commands.specs.SimulationReports.{ComesTo, IsReportOf};
 ghost use Rattle.cdc_commands.specs.Simulations.{ActsTo, AnswersTo, PlaysActs, Stage};
 ghost use Rattle.cdc_commands.specs.Simulations.{at_start, did_answer};
 

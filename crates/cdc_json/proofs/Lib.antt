@@ -1,4 +1,3 @@
 pub mod LineLemmas
-pub mod ObjectLemmas
 pub mod SentLemmas
 pub mod TakenLemmas

@@ -6,7 +6,7 @@ use Rattle.cdc_message.specs.declared.items.Item.{Item}
 use Rattle.cdc_subscriber.specs.Kept.{Kept}
 use Rattle.cdc_traffic.specs.declared.requests.Reply.{Reply}
 use Rattle.cdc_commands.specs.Feeds.{kept_by}
-use Rattle.cdc_commands.specs.Private.Queues.{filled_queues}
+use Rattle.cdc_commands.specs.Queues.{filled_queues}
 use Rattle.cdc_json.specs.Lines.{batch_value}
 use Rattle.cdc_json.specs.Private.Taking.{kept_of_queue, numbered_values}
 use Rattle.cdc_json.specs.RunObjects.{reply_values}

@@ -1,21 +1,20 @@
 -- All that a command prints with `--json`, and how it ends then.
-use Rattle.std.specs.Prelude.{◌≡◌, ℕ, List, [], ◌∷◌, ◌++◌, codes, length, map, Option, Some, None, IfSome, Ok, Err}
+use Rattle.std.specs.Prelude.{◌≡◌, ℕ, List, [], ◌∷◌, ◌++◌, codes, length, map, Option, IfSome, Ok, Err}
 use Rattle.serde_json.specs.Data.{Data}
 use Rattle.cdc_ledger.specs.History.{empty_history}
 use Rattle.cdc_laws.specs.Line.{line}
 use Rattle.cdc_script.specs.Scripts.{script_of}
-use Rattle.cdc_script.specs.StepFiles.{acts_of}
 use Rattle.cdc_script.specs.declared.faults.ScriptFault.{ScriptFault}
 use Rattle.cdc_script.specs.declared.scripts.Script.{Script}
 use Rattle.cdc_subscriber.specs.Heard.{kept_of}
 use Rattle.cdc_world.specs.declared.steps.StepError.{StepError}
 use Rattle.cdc_commands.specs.declared.endings.Ending.{Ending}
 use Rattle.cdc_commands.specs.declared.endings.Ending.TheVariants.{Done, Failed, Refused, BadScript, BadSteps, BadWords}
-use Rattle.cdc_commands.specs.Checked.{IsGoodStepFile}
+use Rattle.cdc_commands.specs.Checked.{JudgesFiles}
 use Rattle.cdc_commands.specs.Feeds.{kept_by}
 use Rattle.cdc_commands.specs.Outcomes.{MayFailScript}
 use Rattle.cdc_commands.specs.Printed.{answers_to, history_of}
-use Rattle.cdc_commands.specs.Simulated.{IsGoodScript, SaysPlan, SimulationInput}
+use Rattle.cdc_commands.specs.Simulated.{PrintsPlan, SimulationInput}
 use Rattle.cdc_commands.specs.Simulations.{Plan, PlaysActs, Stage, at_start}
 use Rattle.cdc_json.specs.Lines.{answered_values, fault_value, file_fault_value, json_line, json_lines, kept_values, progress_value, refusal_values, steps_value}
 
@@ -54,19 +53,16 @@ TellsMessages script printed = Unit {0}
 abbrev pub TellsNothing : Script → List ℕ → Type 0
 TellsNothing script printed = printed ≡ []
 
--- this is printed by a check of a script and a step file that ends so, as far as their bytes are known; the steps are
--- judged after the script
+-- the line of the fault that a command ends with
+abbrev pub TellsEnding : Ending → List ℕ → Type 0
+TellsEnding (BadScript at) printed = TellsFault (codes "script") at printed
+TellsEnding (BadSteps at) printed = TellsFault (codes "steps") at printed
+TellsEnding (Failed why) printed = printed ≡ json_line (fault_value why)
+TellsEnding _ printed = ⊥
+
+-- this is printed by a check of a script and a step file that ends so
 abbrev pub CheckObjects : Option (List ℕ) → Option (List ℕ) → Ending → List ℕ → Type 0
-CheckObjects script steps Done printed =
-    (printed ≡ []) × (IfSome script IsGoodScript × IfSome steps IsGoodStepFile)
-CheckObjects script steps (BadScript at) printed =
-    TellsFault (codes "script") at printed × IfSome script (λ bytes. script_of bytes ≡ Err at)
-CheckObjects script steps (BadSteps at) printed =
-    TellsFault (codes "steps") at printed
-    × (IfSome script IsGoodScript × IfSome steps (λ bytes. acts_of bytes ≡ Err at))
-CheckObjects script steps (Failed why) printed = MayFailScript why × (printed ≡ json_line (fault_value why))
-CheckObjects script steps (Refused why) printed = ⊥
-CheckObjects script steps BadWords printed = ⊥
+CheckObjects script steps ending printed = JudgesFiles TellsEnding script steps ending printed
 
 -- the values of a simulation that came to this stage, of so many acts
 abbrev pub simulation_values : ℕ → Option StepError → Stage → List Data
@@ -80,19 +76,6 @@ pub record TellsSimulation (plan : Plan) (refusal : Option StepError) (printed :
   pub plays : PlaysActs plan.script.batches (at_start plan.script.bindings plan.window) plan.acts refusal end
   pub prints : printed ≡ json_lines (simulation_values (length plan.acts) refusal end)
 
--- what is read says a plan, whose simulation tells this
-abbrev pub PlanTells : SimulationInput → Option StepError → List ℕ → Type 0
-PlanTells input refusal printed = IfSome input.script (λ script. IfSome input.steps (λ steps.
-    (plan : Plan) × (SaysPlan input.window script steps plan × TellsSimulation plan refusal printed)))
-
--- this is printed by a command that reads such an input and ends so; the steps are judged after the script
+-- this is printed by `simulate` where it ends so: of a plan what its simulation tells, and the lines of faults
 abbrev pub SimulationObjects : SimulationInput → Ending → List ℕ → Type 0
-SimulationObjects input Done printed = PlanTells input None printed
-SimulationObjects input (Refused why) printed = PlanTells input (Some why) printed
-SimulationObjects input (BadScript at) printed =
-    TellsFault (codes "script") at printed × IfSome input.script (λ script. script_of script ≡ Err at)
-SimulationObjects input (BadSteps at) printed =
-    TellsFault (codes "steps") at printed
-    × (IfSome input.script IsGoodScript × IfSome input.steps (λ steps. acts_of steps ≡ Err at))
-SimulationObjects input (Failed why) printed = MayFailScript why × (printed ≡ json_line (fault_value why))
-SimulationObjects input BadWords printed = ⊥
+SimulationObjects input ending printed = PrintsPlan TellsSimulation TellsEnding input ending printed

@@ -1,7 +1,7 @@
 //! What `books --json` prints.
 
 ghost use Rattle.std.specs.Prelude.{◌≡◌, ◌++◌, All, IfOk, OnOk, Some, map};
-ghost use Rattle.cdc_commands.specs.Private.Queues.{IsUntaken};
+ghost use Rattle.cdc_commands.specs.Queues.{IsUntaken};
 ghost use Rattle.cdc_json.specs.Lines.{json_lines, kept_values};
 ghost use Rattle.cdc_json.specs.Objects.{PrintsObjects, TellsBooks, books_values};
 ghost use Rattle.cdc_json.specs.Private.Taking.{kept_of_queue};

@@ -3,8 +3,8 @@
 ghost use Rattle.std.specs.Prelude.{◌≡◌, ◌++◌, ℕ, List, IfErr, IfOk, Ok, OnOk, Some, map};
 ghost use Rattle.cdc_run.specs.Reports.{replies_of};
 ghost use Rattle.cdc_run_command.specs.Plans.{IsPlan};
-ghost use Rattle.cdc_run_command.specs.Private.Merging.{IsOrderOf};
-ghost use Rattle.cdc_run_command.specs.Private.Runnable.{IsRunnable};
+ghost use Rattle.cdc_run_command.specs.ClientOrders.{IsOrderOf};
+ghost use Rattle.cdc_run_command.specs.Runnable.{IsRunnable};
 ghost use Rattle.cdc_run_command.specs.RunPrinted.{MayFailRun};
 ghost use Rattle.cdc_script.specs.Scripts.{script_of};
 ghost use Rattle.cdc_json.specs.Lines.{json_lines, kept_values};

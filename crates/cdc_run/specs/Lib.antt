@@ -13,7 +13,6 @@ pub mod Plans
 pub mod Reports
 pub mod Scripted
 pub mod Settling
-pub mod Shares
 pub mod Streams
 pub mod SubscriberMail
 pub mod Subscribing

@@ -22,7 +22,7 @@ use Rattle.cdc_script.specs.declared.scripts.Script.{Script}
 use Rattle.cdc_script.specs.declared.statements.Context.{Context}
 use Rattle.cdc_script.specs.declared.statements.Statement.{Statement}
 use Rattle.cdc_script.specs.declared.statements.Statement.TheVariants as says
-use Rattle.cdc_run_command.specs.Private.Runnable.{IsClient, IsRunnable}
+use Rattle.cdc_run_command.specs.Runnable.{IsClient, IsRunnable}
 
 -- a statement names no client but those that there may be, and no subscriber where there are as many as there may be
 abbrev IsLawful : Context → Statement → Type 0

@@ -30,8 +30,8 @@ use Rattle.cdc_types.specs.declared.batches.BatchResults.{BatchResults}
 use Rattle.cdc_types.specs.Features.{features}
 use Rattle.cdc_commands.specs.Feeds.{subscribers_text}
 use Rattle.cdc_run_command.specs.LoneRuns.{LoneRunsPrintBooks}
-use Rattle.cdc_commands.specs.Printed.{answer, batch_lines, printed_books}
-use Rattle.cdc_commands.specs.Report.{batch_line}
+use Rattle.cdc_commands.specs.Printed.{answer, answers_to, printed_books}
+use Rattle.cdc_commands.specs.Report.{answered_lines, batch_line}
 use Rattle.cdc_run_command.specs.Runs.{AreMerged, client_count, entries_of, kept_text, own_of, owners_of, reply_lines, scripts_of, shares_from}
 
 -- ---- one client's own
@@ -193,7 +193,7 @@ lines_of-replies n (e ∷ entries) =
     ap (λ (l : List ℕ). batch_line n e.1.answer ++ l) (lines_of-replies (n + 1) entries)
 
 lines_of-batches : (n : ℕ) (h : History) (batches : List ClientBatch)
-    → lines n (answers_from h (map (λ (b : ClientBatch). b.batch) batches)) ≡ batch_lines n h batches
+    → lines n (answers_from h (map (λ (b : ClientBatch). b.batch) batches)) ≡ answered_lines (answers_to n h batches)
 lines_of-batches n h [] = refl
 lines_of-batches n h (b ∷ batches) =
     ap (λ (l : List ℕ). batch_line n (answer (submit h b.batch)) ++ l)

@@ -5,7 +5,8 @@ use Rattle.std.specs.Option.{option_map}
 use Rattle.std.proofs.lemmas.List.{length-map, length-set, map-append, take_all}
 use Rattle.std.proofs.lemmas.Option.{get_or_from_slice_get, slice_get-map, slice_get_read, slice_get_within}
 use Rattle.cdc_traffic.specs.declared.requests.Reply.{Reply}
-use Rattle.cdc_run_command.specs.Private.Merging.{HasNext, IsOrderOf, TakesNext, numbered_lines, times_in}
+use Rattle.cdc_run_command.specs.Private.Merging.{HasNext, TakesNext, numbered_lines}
+use Rattle.cdc_run_command.specs.ClientOrders.{IsOrderOf, times_in}
 use Rattle.cdc_commands.specs.Report.{batch_line}
 use Rattle.cdc_run_command.specs.Runs.{AreMerged, own_of, reply_lines}
 use Rattle.cdc_commands.proofs.Places.{found_at, take_found}

@@ -18,8 +18,8 @@ use Rattle.cdc_commands.specs.declared.endings.Ending.{Ending}
 use Rattle.cdc_commands.specs.declared.endings.Ending.TheVariants.{Done, Failed, Refused, BadScript, BadSteps, BadWords}
 use Rattle.cdc_commands.specs.declared.faults.ProgramFault.{ProgramFault}
 use Rattle.cdc_commands.specs.declared.output.Output.{Output}
-use Rattle.cdc_run_command.specs.Private.Merging.{IsOrderOf, times_in}
-use Rattle.cdc_run_command.specs.Private.Runnable.{IsClient, IsRunnable}
+use Rattle.cdc_run_command.specs.ClientOrders.{IsOrderOf, times_in}
+use Rattle.cdc_run_command.specs.Runnable.{IsClient, IsRunnable}
 use Rattle.cdc_run_command.specs.RunPrinted.{RunCommandPrints}
 use Rattle.cdc_run_command.specs.Runs.{Setting, client_count, entries_of, own_of, owners_of, shares_from}
 use Rattle.cdc_commands.proofs.Places.{found_at}

@@ -4,7 +4,7 @@ use Rattle.std.specs.Prelude.{◌==◌, filter, not, if◌then◌else◌, slice_
 use Rattle.std.proofs.lemmas.Bool.Decides.{eqb_tells}
 use Rattle.std.proofs.lemmas.List.{map-append}
 use Rattle.std.proofs.lemmas.List.Elements.{filter-append}
-use Rattle.cdc_run_command.specs.Private.Merging.{times_in}
+use Rattle.cdc_run_command.specs.ClientOrders.{times_in}
 use Rattle.cdc_run_command.specs.Runs.{own_of, shares_from}
 
 -- a number is itself

@@ -1,5 +1,7 @@
+pub mod ClientOrders
 pub mod LoneRuns
 pub mod Plans
 pub mod Private
 pub mod RunPrinted
+pub mod Runnable
 pub mod Runs

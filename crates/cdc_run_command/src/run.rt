@@ -7,28 +7,22 @@ ghost use Rattle.cdc_script.specs.Scripts.{max_bytes, script_of};
 ghost use Rattle.cdc_run_command.specs.LoneRuns.{LoneRunsPrintBooks};
 ghost use Rattle.cdc_run_command.specs.Plans.{IsPlan};
 ghost use Rattle.cdc_commands.specs.Outcomes.{Writes};
-ghost use Rattle.cdc_run_command.specs.Private.Runnable.{IsRunnable};
+ghost use Rattle.cdc_run_command.specs.Runnable.{IsRunnable};
 ghost use Rattle.cdc_run_command.specs.RunPrinted.{MayFailRun, RunCommandPrints};
-ghost use Rattle.cdc_run.specs.Reports.{replies_of};
-ghost use Rattle.cdc_run_command.specs.Private.Merging.{IsOrderOf};
-ghost use Rattle.cdc_run_command.specs.Runs.{MayComeTo, RunsTo, owners_of};
+ghost use Rattle.cdc_run_command.specs.Runs.{RunsTo};
 
-use crate::faults::fault_of_run;
 use crate::lone_runs::lone_run_laws;
 use crate::plans::RunPlan;
+use crate::reports::report_of_run;
 use crate::run_report::print_run;
-use crate::shares::{Parted, part_batches};
 use cdc_commands::{Ending, Output, ProgramFault, file_fault, print_output};
 use cdc_progress::ProgressStore;
-use cdc_run::{Config, Gate, Report, run};
+use cdc_run::Gate;
 use cdc_script::{Script, ScriptError, parse_script, read_text};
 use std::alloc::Global;
 use std::io::{Read, Write};
 use std::sync::Wait;
 use std::thread::Threads;
-
-/// The number of the one system that is run.
-const SYSTEM: u64 = 1;
 
 /// What `run` prints for the bytes of a script, and how it ends: what the ledger answered to each batch, in the order
 /// of the script, and what each subscriber holds at the end of the run; of a bad script its fault. There is none where
@@ -104,64 +98,6 @@ fn run_clients<T: Threads + Wait + Sync, S: ProgressStore + Send + Drop, G: Gate
 {
     let ran = report_of_run(rt, alloc, script, plan, store, gate)?;
     Ok(print_run(alloc, &ran)?)
-}
-
-/// What a run of a script came to.
-#[derive(Drop)]
-pub struct Ran {
-    /// The client that has handed in each batch, in the order of the script.
-    pub order: Vec<u64>,
-    /// What the run reports.
-    pub report: Report,
-}
-
-/// What a run of a script comes to, for whoever prints it. There is nothing where the run met a fault.
-pub fn report_of_run<T: Threads + Wait + Sync, S: ProgressStore + Send + Drop, G: Gate + Sync>(
-    rt: &T,
-    alloc: Global,
-    script: Script,
-    plan: RunPlan,
-    store: S,
-    gate: &G,
-) -> Result<Ran, ProgramFault>
-    requires plan { IsPlan plan }
-    requires script { IsRunnable script }
-    ensures comes { IfOk result (λ ran. MayComeTo (record {
-      closes = plan.faults.close.items;
-      start = plan.start;
-      held = S.held store;
-      honest = S.is_honest store;
-    }) script ran.report) }
-    ensures order { IfOk result (λ ran. ran.order.items ≡ owners_of script.batches) }
-    ensures replies { IfOk result (λ ran. IsOrderOf ran.order.items (replies_of ran.report)) }
-    ensures fault { IfErr result MayFailRun }
-{
-    let Script { bindings, batches } = script;
-    let bindings = bindings.into_vec();
-    let batches = batches.into_vec();
-    let Parted {
-        clients,
-        order,
-        scripts,
-    } = part_batches(alloc, batches)?;
-    let RunPlan {
-        window,
-        prefetch,
-        faults,
-        start,
-    } = plan;
-    let config = Config {
-        system: SYSTEM,
-        bindings,
-        clients,
-        window,
-        prefetch,
-        start,
-    };
-    match run(rt, alloc, config, scripts, faults, store, gate) {
-        Ok(report) => Ok(Ran { order, report }),
-        Err(fault) => Err(fault_of_run(fault)),
-    }
 }
 
 /// Reads a script, runs it on threads, and prints what `run_of` says of its bytes. A command that gives up prints why,

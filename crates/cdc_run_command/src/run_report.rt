@@ -3,10 +3,11 @@
 ghost use Rattle.std.specs.Prelude.{◌≡◌, ◌++◌, ℕ, All, IfOk, List, OnOk, length, map, string_bytes};
 ghost use Rattle.cdc_run.specs.Reports.{replies_of};
 ghost use Rattle.cdc_traffic.specs.declared.requests.Reply.{Reply as Replied};
-ghost use Rattle.cdc_run_command.specs.Private.Merging.{HasNext, IsOrderOf, TakesNext, numbered_lines};
+ghost use Rattle.cdc_run_command.specs.Private.Merging.{HasNext, TakesNext, numbered_lines};
+ghost use Rattle.cdc_run_command.specs.ClientOrders.{IsOrderOf};
 ghost use Rattle.cdc_run_command.specs.Runs.{AreMerged, PrintsReport, kept_text};
 
-use crate::run::Ran;
+use crate::reports::Ran;
 use cdc_commands::{print_subscriber, push_batch};
 use cdc_subscriber::Subscriber;
 use cdc_traffic::Reply;

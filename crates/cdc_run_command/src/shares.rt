@@ -1,9 +1,8 @@
 //! The batches of a script, parted by the clients that hand them in.
 
-ghost use Rattle.std.specs.Prelude.{◌≡◌, IfOk, map};
-ghost use Rattle.cdc_run_command.specs.Runs.{client_count, entries_of as client_entries, owners_of, shares_from};
+ghost use Rattle.std.specs.Prelude.{◌≡◌, ◌==◌, IfOk, filter, map, not};
+ghost use Rattle.cdc_run_command.specs.Runs.{client_count, entries_of as client_entries, own_of, owners_of, shares_from};
 
-use cdc_run::{Share, part_share};
 use cdc_script::ClientBatch;
 use cdc_types::Batch;
 use std::alloc::{AllocError, Global};
@@ -87,4 +86,31 @@ fn part_entries(
         left = others;
     }
     Ok(scripts)
+}
+
+/// A client's own batches, and the others' with their clients' numbers, each in the order given.
+#[derive(Drop)]
+struct Share {
+    /// The client's own.
+    own: Vec<Batch>,
+    /// What is the others'.
+    others: Vec<(u64, Batch)>,
+}
+
+/// Parts a client's own from what is the others'.
+fn part_share(alloc: Global, client: u64, entries: Vec<(u64, Batch)>) -> Result<Share, AllocError>
+    ensures own { IfOk result (λ share. share.own.items ≡ own_of client entries.items) }
+    ensures others { IfOk result (λ share. share.others.items
+        ≡ filter (λ e. not (e.0 == client)) entries.items) }
+{
+    let mut own = Vec::new(alloc);
+    let mut others = Vec::new(alloc);
+    for (number, batch) in entries {
+        if number == client {
+            own.push(batch)?;
+        } else {
+            others.push((number, batch))?;
+        }
+    }
+    Ok(Share { own, others })
 }

@@ -1,7 +1,7 @@
 //! Each public function once.
 
 use cdc_match::Binding;
-use cdc_run::{Config, Faults, Gate, OpenGate, Place, part_share};
+use cdc_run::{Config, Faults, Gate, OpenGate, Place};
 
 #[test]
 fn a_run_of_one_client_and_one_subscriber_fits(rt: HostRuntime) {
@@ -28,15 +28,4 @@ fn a_subscriber_closes_after_the_least_number_that_is_given(rt: HostRuntime) {
     assert_eq!(rt; faults.close_after(1), Some(2));
     assert_eq!(rt; faults.close_after(3), None);
     OpenGate.pass(Place::Subscriber(1), 1);
-}
-
-#[test]
-fn a_client_has_its_own_in_order(rt: HostRuntime) {
-    let mut entries: Vec<(u64, u64)> = Vec::new(rt.alloc());
-    for entry in [(1, 10), (2, 20), (1, 30)] {
-        entries.push(entry).expect(&rt, "memory");
-    }
-    let share = part_share(rt.alloc(), 1, entries).expect(&rt, "memory");
-    assert_eq!(rt; share.own.get(1).copied(), Some(30));
-    assert_eq!(rt; share.others.len(), 1);
 }

@@ -1,5 +1,5 @@
 -- What is kept of the actors after a step that leaves the store alone, and the state that it stands for.
-use Rattle.std.proofs.Common.{◌≡◌, ℕ, true, false, IsTrue, List, [], ◌∷◌, Option, Result, Ok, Err, refl, sym, ap, ◌∙◌, subst, map, length, replicate, arith}
+use Rattle.std.proofs.Common.{◌≡◌, ℕ, true, IsTrue, List, [], ◌∷◌, Option, Result, Ok, Err, refl, sym, ap, ◌∙◌, subst, map, length, replicate, arith}
 use Rattle.std.specs.Result.{IsErrAnd}
 use Rattle.std.proofs.lemmas.List.{length-map, length-replicate}
 use Rattle.cdc_broker.specs.Broker.{BrokerState, empty_broker}
@@ -12,14 +12,14 @@ use Rattle.cdc_progress.specs.Stores.{Risks}
 use Rattle.cdc_types.specs.declared.batches.Batch.{Batch}
 use Rattle.cdc_types.specs.declared.batches.BatchResults.{BatchResults}
 use Rattle.cdc_types.specs.declared.steps.Step.{Step}
-use Rattle.cdc_types.specs.declared.steps.Step.TheVariants.{Submit, CloseLedger, Start, StartAt, Crash, Poll as PollStep, Publish as PublishStep, Arrive, Answer, Save, Send, Rewind, Break, Take, Ack, Close}
+use Rattle.cdc_types.specs.declared.steps.Step.TheVariants.{Submit, CloseLedger}
 use Rattle.cdc_laws.proofs.Places.{none_there}
 use Rattle.cdc_world.specs.declared.steps.Did.{Did}
 use Rattle.cdc_world.specs.declared.steps.Did.TheVariants.{Submitted, Done}
 use Rattle.cdc_world.specs.declared.steps.StepError.{StepError}
 use Rattle.cdc_world.specs.declared.steps.StepError.TheVariants.{NotEnabled, Refused, Store, SessionsExhausted, OutOfMemory, StartNotAllowed}
 use Rattle.cdc_world.specs.Moves.{IsStoreCounted, Moves, MovesBy}
-use Rattle.cdc_world.specs.Next.{IsStepRisked, IsTried, Next, next, takes_memory, uses_store, with_batch, with_ledger_closed}
+use Rattle.cdc_world.specs.Next.{IsStepRisked, IsTried, Next, next, takes_memory, with_batch, with_ledger_closed}
 use Rattle.cdc_world.specs.declared.subscriptions.Subscription.{Subscription as Kept_subscription}
 use Rattle.cdc_world.specs.Parts.{ActorParts, Parts, subscription_parts}
 use Rattle.cdc_world.specs.Stands.{ActorsStand, HaveHandedOut, Stands, parts_of, queue_for, view_of}
@@ -82,52 +82,29 @@ moves_entry_err {q} {p} {new} step answer why is same moves =
 
 -- a step that is answered as it may be over the risks that are kept
 pub Moves-risked : (p : Parts) (step : Step) (answer : Result Did StepError) (p' : Parts)
-    → MovesBy Next p step answer p'
-    → ((w : WorldState) → Stands p w → IsStepRisked p.risks (next w step) answer) → Moves p step answer p'
+    → MovesBy Next p step answer p' → IsStepRisked p.risks answer → Moves p step answer p'
 Moves-risked p step answer p' moves risked honest w st =
-    let after = moves honest w st in (after.0, (after.1.0, (after.1.1, risked w st)))
+    let after = moves honest w st in (after.0, (after.1.0, (after.1.1, risked)))
 
--- each step but those leaves the store alone
-pub leaves_store : (step : Step) → (step ≡ Start → ⊥) → ((moment : ℕ) → step ≡ StartAt moment → ⊥) → (step ≡ Save → ⊥)
-    → uses_store step ≡ false
-leaves_store (Submit batch) not-start not-start_at not-save = refl
-leaves_store CloseLedger not-start not-start_at not-save = refl
-leaves_store Start not-start not-start_at not-save = absurd (not-start refl)
-leaves_store (StartAt moment) not-start not-start_at not-save = absurd (not-start_at moment refl)
-leaves_store Crash not-start not-start_at not-save = refl
-leaves_store PollStep not-start not-start_at not-save = refl
-leaves_store PublishStep not-start not-start_at not-save = refl
-leaves_store (Arrive k) not-start not-start_at not-save = refl
-leaves_store (Answer k) not-start not-start_at not-save = refl
-leaves_store Save not-start not-start_at not-save = absurd (not-save refl)
-leaves_store (Send i) not-start not-start_at not-save = refl
-leaves_store (Rewind i) not-start not-start_at not-save = refl
-leaves_store (Break i) not-start not-start_at not-save = refl
-leaves_store (Take i) not-start not-start_at not-save = refl
-leaves_store (Ack i k) not-start not-start_at not-save = refl
-leaves_store (Close i) not-start not-start_at not-save = refl
-
--- so whatever such a step answers is a risk of it
-own_risked : (risks : Risks) (w w' : WorldState) (step : Step) (answer : Result Did StepError)
-    → uses_store step ≡ false → IsOfActors answer → Next w step answer w' → IsStepRisked risks (next w step) answer
-own_risked risks w w' step (Ok did) own of next = tt
-own_risked risks w w' step (Err NotEnabled) own of next = tt
-own_risked risks w w' step (Err (Refused why)) own of next = tt
-own_risked risks w w' step (Err (Store why)) own of next = absurd of
-own_risked risks w w' step (Err SessionsExhausted) own of next = tt
-own_risked risks w w' step (Err OutOfMemory) own of next = tt
-own_risked risks w w' step (Err StartNotAllowed) own of next = tt
+-- whatever the actors answer is a risk of each store
+own_risked : (risks : Risks) (answer : Result Did StepError) → IsOfActors answer → IsStepRisked risks answer
+own_risked risks (Ok did) of = tt
+own_risked risks (Err NotEnabled) of = tt
+own_risked risks (Err (Refused why)) of = tt
+own_risked risks (Err (Store why)) of = absurd of
+own_risked risks (Err SessionsExhausted) of = tt
+own_risked risks (Err OutOfMemory) of = tt
+own_risked risks (Err StartNotAllowed) of = tt
 
 -- a step of the actors is one of the world
 pub Moves-actors : (p : Parts) (actors' : ActorParts) (step : Step) (answer : Result Did StepError)
-    → uses_store step ≡ false → ActorsMove p.actors step answer actors'
-    → Moves p step answer (record p { actors = actors' })
-Moves-actors p actors' step answer own moves honest w st =
+    → ActorsMove p.actors step answer actors' → Moves p step answer (record p { actors = actors' })
+Moves-actors p actors' step answer moves honest w st =
     let after = moves.1 w st.actors in (
       after.0,
       (
         record { actors = after.1.0; held = st.held ∙ sym after.1.1.1 },
-        (after.1.1.0, own_risked p.risks w after.0 step answer own moves.0 after.1.1.0),
+        (after.1.1.0, own_risked p.risks answer moves.0),
       ),
     )
 

@@ -474,31 +474,29 @@ start_failed p at held honest' risks' start.OutOfMemory failed failed' down may 
 -- ---- at which risk
 
 -- a save is refused as its store may be
-save_risked : (risks : Risks) (outcome : Outcome) (why : StoreError) → IsRisked risks why
-    → IsStepRisked risks outcome (Err (store_refusal why))
-save_risked risks outcome store.ReadFault may = may
-save_risked risks outcome store.WriteFault may = may
-save_risked risks outcome store.BadRecord may = may
-save_risked risks outcome store.OutOfMemory may = tt
+save_risked : (risks : Risks) (why : StoreError) → IsRisked risks why → IsStepRisked risks (Err (store_refusal why))
+save_risked risks store.ReadFault may = may
+save_risked risks store.WriteFault may = may
+save_risked risks store.BadRecord may = may
+save_risked risks store.OutOfMemory may = tt
 
 -- and so is a start
-start_risked : (risks : Risks) (outcome : Outcome) (why : StartError) → IsStartRisked risks why
-    → IsStepRisked risks outcome (Err (start_refusal why))
-start_risked risks outcome (start.Store why) may = may
-start_risked risks outcome start.SessionsExhausted may = tt
-start_risked risks outcome start.OutOfMemory may = tt
-start_risked risks outcome start.StartNotAllowed may = tt
+start_risked : (risks : Risks) (why : StartError) → IsStartRisked risks why
+    → IsStepRisked risks (Err (start_refusal why))
+start_risked risks (start.Store why) may = may
+start_risked risks start.SessionsExhausted may = tt
+start_risked risks start.OutOfMemory may = tt
+start_risked risks start.StartNotAllowed may = tt
 
 -- so a save that fails
 pub save_refused : (p : Parts) (why : StoreError) (p' : Parts) → IsRisked p.risks why
     → MovesBy Next p Save (Err (store_refusal why)) p' → Moves p Save (Err (store_refusal why)) p'
 save_refused p why p' may moves =
-    Moves-risked p Save (Err (store_refusal why)) p' moves (λ w st. save_risked p.risks (next w Save) why may)
+    Moves-risked p Save (Err (store_refusal why)) p' moves (save_risked p.risks why may)
 
 -- and a session that doesn't start
 pub start_refused : (p : Parts) (at : Option ℕ) (why : StartError) (p' : Parts) → IsStartRisked p.risks why
     → MovesBy Next p (start_after at) (Err (start_refusal why)) p'
     → Moves p (start_after at) (Err (start_refusal why)) p'
 start_refused p at why p' may moves =
-    Moves-risked p (start_after at) (Err (start_refusal why)) p' moves
-    (λ w st. start_risked p.risks (next w (start_after at)) why may)
+    Moves-risked p (start_after at) (Err (start_refusal why)) p' moves (start_risked p.risks why may)

@@ -1,5 +1,5 @@
 -- The store's count of failures over steps that are tried again.
-use Rattle.std.proofs.Common.{◌≡◌, ◌≤◌, ◌∙◌, ℕ, Result, Ok, Err, inl, inr, arith}
+use Rattle.std.proofs.Common.{◌≤◌, ◌∙◌, ℕ, Result, Ok, Err, inl, inr, arith}
 use Rattle.cdc_progress.specs.Stores.{IsCounted}
 use Rattle.cdc_progress.specs.declared.errors.StoreError.TheVariants as store
 use Rattle.cdc_world.specs.Moves.{IsStoreCounted}

@@ -274,20 +274,20 @@ Next w step (Err OutOfMemory) w' = IsTrue (takes_memory step) × (IsTried (next 
 Next w step (Err (Store why)) w' =
     IsTrue (uses_store step) × (IsTried (next w step) × AfterFailure w step why w')
 
--- a step of this outcome may be answered so over a store of these risks: the store fails where it may. Memory may run
--- out wherever the step is tried: a start makes its room before it turns to the store
-abbrev pub IsStepRisked : Risks → Outcome → Result Did StepError → Type 0
-IsStepRisked risks outcome (Ok did) = Unit {0}
-IsStepRisked risks outcome (Err NotEnabled) = Unit {0}
-IsStepRisked risks outcome (Err (Refused why)) = Unit {0}
-IsStepRisked risks outcome (Err (Store why)) = IsRisked risks why
-IsStepRisked risks outcome (Err SessionsExhausted) = Unit {0}
-IsStepRisked risks outcome (Err OutOfMemory) = Unit {0}
-IsStepRisked risks outcome (Err StartNotAllowed) = Unit {0}
+-- a step may be answered so over a store of these risks: the store fails where it may. Memory may run out wherever the
+-- step is tried: a start makes its room before it turns to the store
+abbrev pub IsStepRisked : Risks → Result Did StepError → Type 0
+IsStepRisked risks (Ok did) = Unit {0}
+IsStepRisked risks (Err NotEnabled) = Unit {0}
+IsStepRisked risks (Err (Refused why)) = Unit {0}
+IsStepRisked risks (Err (Store why)) = IsRisked risks why
+IsStepRisked risks (Err SessionsExhausted) = Unit {0}
+IsStepRisked risks (Err OutOfMemory) = Unit {0}
+IsStepRisked risks (Err StartNotAllowed) = Unit {0}
 
 -- so a step may be answered over a store of these risks, and leave this world
 abbrev pub NextOver : Risks → WorldState → Step → Result Did StepError → WorldState → Type 0
-NextOver risks w step answer w' = Next w step answer w' × IsStepRisked risks (next w step) answer
+NextOver risks w step answer w' = Next w step answer w' × IsStepRisked risks answer
 
 -- steps, with whatever answers, lead from one world to another
 abbrev pub Leads : WorldState → List Step → WorldState → Type 0

@@ -11,8 +11,6 @@ use Rattle.cdc_script.specs.declared.scripts.ClientBatch.{ClientBatch}
 use Rattle.cdc_script.specs.declared.step_files.Act.{Act}
 use Rattle.cdc_script.specs.declared.step_files.Act.TheVariants as act
 use Rattle.cdc_commands.specs.declared.batches.Answered.{Answered}
-use Rattle.cdc_commands.specs.declared.faults.ProgramFault.{ProgramFault}
-use Rattle.cdc_commands.specs.declared.faults.ProgramFault.TheVariants as fault
 use Rattle.cdc_commands.specs.Simulations.{Stage}
 
 -- what contracts see of a simulation: its world, how many batches are done, and what the ledger answered
@@ -26,17 +24,6 @@ pub record IsAt (simulation : SimulationParts) (stage : Stage) : Type 0 where
   pub world : Stands simulation.world stage.world
   pub batches : simulation.batches ≡ stage.batches
   pub answers : simulation.answers ≡ stage.answers
-
--- a simulation gives up for want of memory alone
-abbrev pub IsSimulationFault : ProgramFault → Type 0
-IsSimulationFault (fault.ReadFault why) = ⊥
-IsSimulationFault (fault.WriteFault why) = ⊥
-IsSimulationFault (fault.Store why) = ⊥
-IsSimulationFault fault.OutOfMemory = Unit {0}
-IsSimulationFault fault.PeerGone = ⊥
-IsSimulationFault fault.SessionsExhausted = ⊥
-IsSimulationFault fault.StartNotAllowed = ⊥
-IsSimulationFault fault.NotOneSystem = ⊥
 
 -- a step was done at a stage, and the simulation's world stands for the one after it
 abbrev pub HasDoneAt : Stage → Step → SimulationParts → Type 0

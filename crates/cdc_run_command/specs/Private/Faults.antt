@@ -3,7 +3,7 @@ use Rattle.cdc_ends.specs.declared.faults.RunFault.{RunFault}
 use Rattle.cdc_ends.specs.declared.faults.RunFault.TheVariants as run
 use Rattle.cdc_commands.specs.declared.faults.ProgramFault.{ProgramFault}
 use Rattle.cdc_commands.specs.declared.faults.ProgramFault.TheVariants as program
-use Rattle.cdc_commands.specs.Private.Outcomes.{store_fault}
+use Rattle.cdc_commands.specs.Faults.{store_fault}
 
 -- why a run gave up, as the fault of the program
 abbrev pub run_fault : RunFault → ProgramFault

@@ -1,19 +1,9 @@
 -- The replies to clients, while they are put into the order of the script.
-use Rattle.std.specs.Prelude.{◌≡◌, ◌==◌, ℕ, ◌+◌, ◌-◌, ◌<◌, ◌≤◌, List, [], ◌∷◌, ◌++◌, Some, All, filter, length, slice_get, slice_set}
+use Rattle.std.specs.Prelude.{◌≡◌, ℕ, ◌+◌, ◌-◌, ◌<◌, ◌≤◌, List, [], ◌∷◌, ◌++◌, Some, length, slice_get, slice_set}
 use Rattle.cdc_traffic.specs.declared.requests.Reply.{Reply}
 use Rattle.cdc_commands.specs.Report.{batch_line}
 
--- so often does this client stand in an order
-abbrev pub times_in : ℕ → List ℕ → ℕ
-times_in client order = length (filter (λ c. c == client) order)
-
 module _ {X : Type 0} where
-  -- an order of clients, of which each has as many of its own as it stands in the order
-  pub record IsOrderOf (order : List ℕ) (shares : List (List X)) : Type 0 where
-    pub known : All (λ client. (1 ≤ client) × (client ≤ length shares)) order
-    pub each : (place : ℕ) (share : List X) → slice_get shares place ≡ Some share
-        → length share ≡ times_in (place + 1) order
-
   -- a client has one of its own left, of which so many of each client are taken
   pub record HasNext (shares : List (List X)) (taken : List ℕ) (client : ℕ) : Type 0 where
     pub share : List X

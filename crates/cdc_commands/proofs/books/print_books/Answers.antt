@@ -3,10 +3,9 @@ use Rattle.cdc_ledger.specs.History.{empty_history}
 use Rattle.cdc_laws.specs.Line.{line}
 use Rattle.cdc_commands.specs.declared.batches.Answered.{Answered}
 use Rattle.cdc_commands.specs.Feeds.{subscribers_text}
-use Rattle.cdc_commands.specs.Printed.{batch_lines, history_of}
-use Rattle.cdc_commands.specs.Private.Queues.{takers_text}
+use Rattle.cdc_commands.specs.Printed.{answers_to, history_of}
+use Rattle.cdc_commands.specs.Private.Takers.{takers_text}
 use Rattle.cdc_commands.specs.Report.{answered_lines}
-use Rattle.cdc_commands.proofs.AnswerLemmas.{lines_answered}
 use Rattle.cdc_commands.proofs.TakerLemmas.{IsUntaken-filled, takers_text-filled}
 use Rattle.cdc_commands.proofs.books.print_books.Goals as goal
 
@@ -18,11 +17,10 @@ push_subscribers-requires c =
 pub returns : goal.returns
 returns c =
     let script = c.args.script in
-    let lines : c.into_bytes-text.result.items ≡ batch_lines 1 empty_history script.batches =
+    let lines : c.into_bytes-text.result.items ≡ answered_lines (answers_to 1 empty_history script.batches) =
     ap (λ v. v.items) c.into_bytes-text.ensures.value ∙ c.in_ok-push_answers.ensures
     ∙ ap₂ (λ (text : List ℕ) (answers : List Answered). text ++ answered_lines answers) c.new-lines.ensures.bytes
-    (c.as_slice.ensures.value ∙ c.in_ok-answers.ensures.answers)
-    ∙ lines_answered 1 empty_history script.batches in
+    (c.as_slice.ensures.value ∙ c.in_ok-answers.ensures.answers) in
     let takers : takers_text 1 c.in_ok-answers.field-0.broker.queues
     ≡ subscribers_text 1 (line (history_of script)) script.bindings =
     ap (takers_text 1) c.in_ok-answers.ensures.queues

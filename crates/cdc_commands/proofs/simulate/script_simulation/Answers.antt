@@ -1,6 +1,7 @@
 use Rattle.std.proofs.Common.{◌≡◌, ◌∙◌, List, Ok, ap, arith, length, refl, sym}
 use Rattle.cdc_script.specs.declared.step_files.Act.{Act}
-use Rattle.cdc_commands.specs.Simulations.{Plan, simulation_text}
+use Rattle.cdc_commands.specs.Report.{IsFaultLine}
+use Rattle.cdc_commands.specs.Simulations.{Plan, Simulates, simulation_text}
 use Rattle.cdc_commands.proofs.OutputLemmas.{prints_after}
 use Rattle.cdc_commands.proofs.SimulationReached.{simulates}
 use Rattle.cdc_commands.proofs.simulate.script_simulation.Goals as goal
@@ -14,7 +15,7 @@ returns-clause-output c = λ bytes said.
     let so_many : c.len.result ≡ length acts = omega (arith, c.len.ensures, c.as_slice.ensures.len) in
     let printed = c.in_ok-print_simulated.ensures come.end come.report
     ∙ ap (λ n. simulation_text n simulated.played.refusal come.end) so_many in
-    prints_after c.args.window bytes c.args.steps.now simulated.played.refusal c.of_refusal.result _
+    prints_after Simulates IsFaultLine c.args.window bytes c.args.steps.now simulated.played.refusal c.of_refusal.result _
     c.of_refusal.ensures (
       plan,
       (

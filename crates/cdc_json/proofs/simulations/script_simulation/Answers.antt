@@ -3,8 +3,8 @@ use Rattle.cdc_script.specs.declared.step_files.Act.{Act}
 use Rattle.cdc_commands.specs.Outcomes.{Outcome}
 use Rattle.cdc_commands.specs.Simulations.{Plan}
 use Rattle.cdc_json.specs.Lines.{json_lines}
-use Rattle.cdc_json.specs.Objects.{SimulationObjects, simulation_values}
-use Rattle.cdc_json.proofs.ObjectLemmas.{objects_after}
+use Rattle.cdc_commands.proofs.OutputLemmas.{prints_after}
+use Rattle.cdc_json.specs.Objects.{SimulationObjects, TellsEnding, TellsSimulation, simulation_values}
 use Rattle.cdc_json.proofs.simulations.script_simulation.Goals as goal
 
 pub returns-clause-output : goal.returns-clause-output
@@ -22,8 +22,8 @@ returns-clause-output c = λ bytes said.
       script = Some bytes;
       steps = Some c.args.steps.now;
     }) o.ending o.text) (sym c.ended.ensures)
-    (objects_after c.args.window bytes c.args.steps.now refusal c.of_refusal.result c.in_ok-lines.lines.text.items
-    c.of_refusal.ensures (
+    (prints_after TellsSimulation TellsEnding c.args.window bytes c.args.steps.now refusal c.of_refusal.result
+    c.in_ok-lines.lines.text.items c.of_refusal.ensures (
       plan,
       (
         record {

@@ -22,4 +22,4 @@ returns-clause-next g c =
     (Moves-risked _ Save (Ok Done) _
     (save_done _ c.in-Some.session.now _ _ _ _ (sym c.session.ensures ∙ ap option_copied c.in-Some.is)
     c.in_ok-save.ensures.saved)
-    (λ w st. tt))
+    tt)

@@ -23,4 +23,4 @@ returns-clause-next g c =
     (start_done _ c.args.at c.begin.new.self c.in_ok-session.session _ _ _ _ c.window.result
     (sym c.session.ensures ∙ ap option_copied (none_of _ (sym c.is_some.ensures ∙ c.if-is_some.false)))
     c.begin.ensures c.window.ensures.value c.in_ok-session.ensures.ok)
-    (λ w st. tt))
+    tt)

@@ -4,7 +4,7 @@ use Rattle.cdc_types.specs.declared.steps.Step.TheVariants.{Save}
 use Rattle.cdc_world.specs.Moves.{StepFixesClosed}
 use Rattle.cdc_world.specs.Parts.{Parts}
 use Rattle.cdc_world.proofs.ClosedSubscribers.{StepFixesClosed-moves}
-use Rattle.cdc_world.proofs.ActorMoves.{Moves-actors, counted_entry, leaves_store, moves_entry}
+use Rattle.cdc_world.proofs.ActorMoves.{Moves-actors, counted_entry, moves_entry}
 use Rattle.cdc_world.proofs.world.World.step.Goals as goal
 
 pub returns-in-Save-clause-fixed : goal.returns-in-Save-clause-fixed
@@ -15,9 +15,7 @@ returns-in-Save-clause-fixed g c =
 pub returns-in_default : goal.returns-in_default
 returns-in_default g c =
     let next = moves_entry c.args.step.now c.step.result c.self.view_is
-    (Moves-actors _ c.step.new.self c.args.step.now c.step.result
-    (leaves_store c.args.step.now c.in_default.not-Start c.in_default.not-StartAt c.in_default.not-Save)
-    c.step.ensures.next) in
+    (Moves-actors _ c.step.new.self c.args.step.now c.step.result c.step.ensures.next) in
     record {
       next = next;
       fixed = StepFixesClosed-moves c.args.self.now c.args.step.now c.step.result _ next;

@@ -4,9 +4,9 @@ use Rattle.cdc_ledger.specs.Events.{events}
 use Rattle.cdc_match.specs.Arguments.{Arguments}
 use Rattle.cdc_laws.specs.Line.{told}
 use Rattle.cdc_commands.specs.Printed.{history_of}
-use Rattle.cdc_commands.specs.Private.Queues.{filled_queues}
+use Rattle.cdc_commands.specs.Queues.{filled_queues}
 use Rattle.cdc_commands.proofs.HeldLaws.{few_of_script}
-use Rattle.cdc_commands.proofs.books.books_report.Goals as goal
+use Rattle.cdc_commands.proofs.book_reports.books_report.Goals as goal
 
 pub publish_log-requires : goal.publish_log-requires
 publish_log-requires c =

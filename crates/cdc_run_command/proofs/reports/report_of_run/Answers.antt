@@ -4,14 +4,14 @@ use Rattle.std.proofs.lemmas.List.{length-map}
 use Rattle.cdc_run.specs.Reports.{HasRun, replies_of}
 use Rattle.cdc_script.specs.declared.scripts.ClientBatch.{ClientBatch}
 use Rattle.cdc_types.specs.declared.batches.Batch.{Batch}
-use Rattle.cdc_run_command.specs.Private.Merging.{IsOrderOf}
-use Rattle.cdc_run_command.specs.Private.Runnable.{IsClient}
+use Rattle.cdc_run_command.specs.ClientOrders.{IsOrderOf}
+use Rattle.cdc_run_command.specs.Runnable.{IsClient}
 use Rattle.cdc_run_command.specs.RunPrinted.{MayFailRun}
 use Rattle.cdc_run_command.specs.Runs.{client_count, entries_of, owners_of, shares_from}
 use Rattle.cdc_run_command.proofs.RunFaults.{may_fail}
 use Rattle.cdc_run_command.proofs.RunLemmas.{clients_fit, order_of_shares, subscribed_same}
 use Rattle.cdc_run_command.proofs.ShareLemmas.{length-shares_from}
-use Rattle.cdc_run_command.proofs.run.report_of_run.Goals as goal
+use Rattle.cdc_run_command.proofs.reports.report_of_run.Goals as goal
 
 pub run-requires-clause-fits : goal.run-requires-clause-fits
 run-requires-clause-fits g c κs within =

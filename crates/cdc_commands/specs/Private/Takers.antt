@@ -1,32 +1,12 @@
--- The queues of a broker while they are filled and taken.
-use Rattle.std.specs.Prelude.{◌≡◌, ℕ, ◌+◌, List, [], ◌∷◌, ◌++◌, map, Option, Some, None}
+-- What subscribers make of a broker's queues while they take them.
+use Rattle.std.specs.Prelude.{◌≡◌, ℕ, ◌+◌, List, [], ◌∷◌, ◌++◌, Option, Some, None}
 use Rattle.cdc_broker.specs.Broker.{BrokerState, queue_of, with_queue}
-use Rattle.cdc_broker.specs.Cursors.{first_cursor}
-use Rattle.cdc_broker.specs.Queues.{QueueState, empty_queue, next_delivery, with_delivery}
-use Rattle.cdc_match.specs.Arguments.{Arguments}
-use Rattle.cdc_match.specs.Queue.{queue}
-use Rattle.cdc_message.specs.declared.items.Item.{Item}
+use Rattle.cdc_broker.specs.Queues.{QueueState, next_delivery, with_delivery}
 use Rattle.cdc_message.specs.declared.items.Delivery.{Delivery}
 use Rattle.cdc_subscriber.specs.Heard.{Heard, next, kept_of}
 use Rattle.cdc_subscriber.specs.Kept.{Kept}
 use Rattle.cdc_subscriber.specs.Lines.{subscriber_text}
 use Rattle.cdc_commands.specs.Feeds.{hearing}
-
--- a queue to which these items were published, and from which nothing was taken
-abbrev pub filled : List Item → Arguments → QueueState
-filled items binding = record (empty_queue binding) { items = queue items binding }
-
--- the queues of these bindings
-abbrev pub filled_queues : List Item → List Arguments → List QueueState
-filled_queues items bindings = map (filled items) bindings
-
--- nothing was taken from the queue
-abbrev pub IsUntaken : QueueState → Type 0
-IsUntaken q = q.cursor ≡ first_cursor
-
--- only the queue of this number changes
-abbrev pub ChangesQueue : ℕ → BrokerState → BrokerState → Type 0
-ChangesQueue i old new = (q : QueueState) × (new ≡ with_queue i q old)
 
 -- the lines of subscribers that take these queues, of which the first has this number
 abbrev pub takers_text : ℕ → List QueueState → List ℕ

@@ -1,0 +1,12 @@
+-- An order of clients, beside what each of them has.
+use Rattle.std.specs.Prelude.{◌≡◌, ◌==◌, ℕ, ◌+◌, ◌≤◌, List, Some, All, filter, length, slice_get}
+
+-- so often does this client stand in an order
+abbrev pub times_in : ℕ → List ℕ → ℕ
+times_in client order = length (filter (λ c. c == client) order)
+
+-- an order of clients, of which each has as many of its own as it stands in the order
+pub record IsOrderOf {X : Type 0} (order : List ℕ) (shares : List (List X)) : Type 0 where
+  pub known : All (λ client. (1 ≤ client) × (client ≤ length shares)) order
+  pub each : (place : ℕ) (share : List X) → slice_get shares place ≡ Some share
+      → length share ≡ times_in (place + 1) order
