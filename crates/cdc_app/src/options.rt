@@ -85,7 +85,7 @@ fn read_words<'a>(alloc: Global, words: &'a [&'a str]) -> Result<ArgMatches<'a>,
     let program = Command::new(alloc, "relayplum")
         .no_binary_name(true)
         .bin_name("relayplum")?
-        .version("0.1.0")
+        .version("1.0.0")
         .about(ABOUT)
         .after_help(MORE)
         .subcommand_required(true)

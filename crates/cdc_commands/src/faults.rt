@@ -57,7 +57,7 @@ impl ProgramFault {
 }
 
 impl From<StoreError> for ProgramFault {
-    ghost use Rattle.cdc_commands.specs.Faults.{read_fault, store_fault};
+    ghost use Rattle.cdc_commands.specs.Faults.{store_fault};
 
     ghost from_gives = { λ why e. e ≡ store_fault why };
 
@@ -80,6 +80,8 @@ impl From<AllocError> for ProgramFault {
 }
 
 impl From<ReadError> for ProgramFault {
+    ghost use Rattle.cdc_commands.specs.Faults.{read_fault};
+
     ghost from_gives = { λ why e. e ≡ read_fault why };
 
     fn from(error: ReadError) -> ProgramFault {
