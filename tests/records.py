@@ -13,11 +13,14 @@ nothing or something else, fails. The last line is 'N passed, M failed'. Needs P
 """
 import argparse
 import filecmp
+import hashlib
 import importlib.machinery
 import importlib.util
 import io
+import json
 import lzma
 import os
+import re
 import shutil
 import subprocess
 import sys
@@ -39,10 +42,47 @@ def load_script():
 
 
 relayplum = load_script()
+# How the parts of a record's file of checked modules are named that are of the toolchain's libraries.
+OF_TOOLCHAIN = re.compile("part/Rattle-(?!cdc_)")
+
+
+def cut_out(record, shared):
+    """Cuts out of a record what it has of the toolchain's libraries, which many records have, and puts what is new of it among
+    the parts that are shared."""
+    with open(f"{record}/toolchain/checked.json", encoding="utf-8") as it:
+        rows = sorted((at, size) for name, at, size in map(json.loads, it) if OF_TOOLCHAIN.match(name))
+    with open(f"{record}/{relayplum.CHECKED}", "rb") as it:
+        whole = it.read()
+    own, cut, end, parts = [], [], 0, {}
+    for at, size in rows:
+        sum = hashlib.sha256(whole[at : at + size]).hexdigest()[:16]
+        parts[sum] = whole[at : at + size]
+        own.append(whole[end:at])
+        cut.append(f"{at} {sum}\n")
+        end = at + size
+    own.append(whole[end:])
+    known = shared.load()
+    with shared.alone:
+        if not known.keys() >= parts.keys():
+            known.update(parts)
+            write_shared(shared)
+    for name, text in ((relayplum.OWN, b"".join(own)), (relayplum.CUT, "".join(cut).encode())):
+        with open(f"{record}/{name}", "wb") as out:
+            out.write(text)
+    os.remove(f"{record}/{relayplum.CHECKED}")
+
+
+def write_shared(shared):
+    """Writes the parts that records share."""
+    head = "".join(f"{sum} {len(part)}\n" for sum, part in shared.parts.items())
+    with open(f"{shared.file}.new", "wb") as out:
+        out.write(lzma.compress(f"{head}\n".encode() + b"".join(shared.parts.values()), preset=9 | lzma.PRESET_EXTREME))
+    os.replace(f"{shared.file}.new", shared.file)
 
 
 def packed(record, file):
     """Packs a record, so that the same record is the same file."""
+    cut_out(record, relayplum.shared_in(os.path.dirname(file)))
     made = io.BytesIO()
     with tarfile.open(fileobj=made, mode="w", format=tarfile.USTAR_FORMAT) as tar:
         for at, folders, names in os.walk(record):

@@ -71,6 +71,7 @@ done
 if [ -n "$record" ]; then
     echo "$name: record" >>"$CALLS"
     grep -q proved "$record/verdict" || { echo 'error: a record is not as it was written'; exit 1; }
+    if [ -e "$record/toolchain" ]; then echo "$name: has $(cd "$record/toolchain" && head -c 99 -- *)" >>"$CALLS"; fi
 else
     echo "$name: proved, jobs $jobs" >>"$CALLS"
     # one that is named in SLOW waits for the other that is named there, and at most so many seconds
@@ -324,6 +325,31 @@ echo 'not xz' >"$room/top/proved/low.tar.xz"
 anew
 call ./link books x
 check 'records: one that is no archive is not taken' "$built" "$calls"
+record_of low src/lib.rt
+# (what many records have stands in proved/shared.xz once)
+shared() { # shared PART..: writes the parts that records share
+    (for part in "$@"; do printf '%s %d\n' "$(sha256sum <<<"$part" | cut -c 1-16)" "$((${#part} + 1))"; done && echo && printf '%s\n' "$@") |
+        xz >"$room/top/proved/shared.xz"
+}
+mkdir "$room/record/toolchain"
+echo 'its own' >"$room/record/toolchain/checked.own"
+{ echo "4 $(sha256sum <<<one | cut -c 1-16)" && echo "12 $(sha256sum <<<two | cut -c 1-16)"; } >"$room/record/toolchain/checked.cut"
+tar -C "$room/record" -c verdict inputs toolchain/checked.own toolchain/checked.cut | xz >"$room/top/proved/low.tar.xz"
+shared two three one
+anew
+call ./link books x
+check 'records: shared parts are put into their places' \
+    "$(printf '%s\n' 'low: record' 'low: has its one' 'own' 'two' 'high: record' 'cdc_app: record')" "$calls"
+shared two three
+anew
+call ./link books x
+check 'records: one of which a part is missing is not taken' "$built" "$calls"
+has 'records: it says that a part is missing' 'of low was not taken: a part of it isn.t among those' "$err"
+echo 'not xz' >"$room/top/proved/shared.xz"
+anew
+call ./link books x
+check 'records: nor where the parts are no archive' "$built" "$calls"
+rm -r "$room/record/toolchain"
 record_of low src/lib.rt
 echo 'a toolchain 2' >"$room/kit/KIT-ID"
 anew
