@@ -76,7 +76,7 @@ def write_shared(shared):
     """Writes the parts that records share."""
     head = "".join(f"{sum} {len(part)}\n" for sum, part in shared.parts.items())
     with open(f"{shared.file}.new", "wb") as out:
-        out.write(lzma.compress(f"{head}\n".encode() + b"".join(shared.parts.values()), preset=9 | lzma.PRESET_EXTREME))
+        out.write(lzma.compress(f"{head}\n".encode() + b"".join(shared.parts.values()), preset=6))
     os.replace(f"{shared.file}.new", shared.file)
 
 
@@ -93,7 +93,7 @@ def packed(record, file):
                 with open(f"{at}/{name}", "rb") as it:
                     tar.addfile(info, it)
     with open(f"{file}.new", "wb") as out:
-        out.write(lzma.compress(made.getvalue(), preset=9 | lzma.PRESET_EXTREME))
+        out.write(lzma.compress(made.getvalue(), preset=6))
     os.replace(f"{file}.new", file)
 
 
