@@ -48,7 +48,9 @@ OF_TOOLCHAIN = re.compile("part/Rattle-(?!cdc_)")
 
 def cut_out(record, shared):
     """Cuts out of a record what it has of the toolchain's libraries, which many records have, and puts what is new of it among
-    the parts that are shared."""
+    the parts that are shared. That of a program has no checked modules."""
+    if not os.path.isfile(f"{record}/{relayplum.CHECKED}"):
+        return
     with open(f"{record}/toolchain/checked.json", encoding="utf-8") as it:
         rows = sorted((at, size) for name, at, size in map(json.loads, it) if OF_TOOLCHAIN.match(name))
     with open(f"{record}/{relayplum.CHECKED}", "rb") as it:
