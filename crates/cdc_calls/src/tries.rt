@@ -22,7 +22,7 @@ pub struct Tried<T> {
 
 /// What the last call of `take_body` gave, and how many were refused for want of memory: two at most.
 #[derive(Clone, Copy)]
-pub struct Taken {
+pub struct TakenBody {
     /// What the last call gave.
     pub last: Result<Taking, TakeError>,
     /// How many calls were refused.
@@ -98,7 +98,7 @@ pub fn copied_binding(alloc: Global, binding: &Binding) -> Tried<Binding>
 }
 
 /// Hands a body to a subscriber. A call that is refused leaves the subscriber as it was.
-pub fn taken_body(alloc: Global, subscriber: &mut Subscriber, body: &[u8]) -> Taken
+pub fn taken_body(alloc: Global, subscriber: &mut Subscriber, body: &[u8]) -> TakenBody
     ensures answer { TakesBody subscriber.old (read body.now) result.last }
     ensures stands { (heard : Heard) → subscriber.old ≡ kept_of heard
         → OnOk result.last (subscriber.new ≡ kept_of (next_read heard (read body.now))) }
@@ -116,13 +116,13 @@ pub fn taken_body(alloc: Global, subscriber: &mut Subscriber, body: &[u8]) -> Ta
             } else {
                 1
             };
-            Taken {
+            TakenBody {
                 last: again,
                 refused,
                 kept,
             }
         }
-        answer => Taken {
+        answer => TakenBody {
             last: answer,
             refused: 0,
             kept: true,

@@ -18,11 +18,11 @@ use Rattle.cdc_message.specs.declared.packets.Packet.TheVariants.{Connect}
 use Rattle.cdc_types.specs.declared.events.Event.{Event}
 use Rattle.cdc_types.specs.Widths.{max_64}
 use Rattle.cdc_subscriber.specs.Heard.{nothing, next, kept_of}
-use Rattle.cdc_subscriber.specs.Kept.{Kept}
+use Rattle.cdc_subscriber.specs.SubscriberState.{SubscriberState}
 use Rattle.cdc_commands.specs.Feeds.{hearing}
 use Rattle.cdc_commands.specs.Private.Takers.{TakesDelivery, hearing_delivery}
 use Rattle.cdc_commands.specs.Queues.{filled, filled_queues}
-use Rattle.cdc_commands.proofs.Places.{take_found}
+use Rattle.cdc_commands.proofs.FoundElements.{take_found}
 use Rattle.std.proofs.lemmas.List.Elements.{filter-append}
 
 -- a tag that isn't near the greatest number has one after it
@@ -115,7 +115,7 @@ pub with_queue_twice : (s : BrokerState) (i : ℕ) (p q : QueueState)
 with_queue_twice s i p q = ap (λ (qs : List QueueState). record s { queues = qs }) (set-set s.queues (i - 1) p q)
 
 -- a subscriber that has taken the first items of a queue
-pub record IsTaking (i counter : ℕ) (old now : BrokerState) (subscriber : Kept) : Type 0 where
+pub record IsTaking (i counter : ℕ) (old now : BrokerState) (subscriber : SubscriberState) : Type 0 where
   pub queue : QueueState
   pub now_is : now ≡ with_queue i queue old
   pub items : queue.items ≡ (queue_of old i).items
@@ -123,7 +123,7 @@ pub record IsTaking (i counter : ℕ) (old now : BrokerState) (subscriber : Kept
   pub heard : subscriber ≡ kept_of (hearing (take counter (queue_of old i).items))
 
 -- nothing was taken yet, and nothing heard
-pub IsTaking-none : (i : ℕ) (old : BrokerState) (subscriber : Kept) → (queue_of old i).cursor ≡ first_cursor
+pub IsTaking-none : (i : ℕ) (old : BrokerState) (subscriber : SubscriberState) → (queue_of old i).cursor ≡ first_cursor
     → subscriber ≡ kept_of nothing
     → IsTaking i 0 old old subscriber
 IsTaking-none i old subscriber untaken new = record {
@@ -148,7 +148,7 @@ hearing-push : (items : List Item) (item : Item) → hearing (items ++ item ∷ 
 hearing-push items item = fold-append next nothing items (item ∷ [])
 
 -- one more item is taken off the queue, and its subscriber has heard one more
-pub IsTaking-more : (i counter : ℕ) (old now new : BrokerState) (before after : Kept) (item : Item)
+pub IsTaking-more : (i counter : ℕ) (old now new : BrokerState) (before after : SubscriberState) (item : Item)
     → i - 1 < length old.queues
     → IsTaking i counter old now before → slice_get (queue_of old i).items counter ≡ Some item
     → TakesDelivery i now new before after → IsTaking i (counter + 1) old new after

@@ -18,7 +18,7 @@ use Rattle.cdc_message.specs.declared.items.Item.{Item}
 use Rattle.cdc_message.specs.Replays.{IsPrefix, IsReplay}
 use Rattle.cdc_subscriber.specs.Book.{accounts_of, book_of}
 use Rattle.cdc_subscriber.specs.Heard.{Heard, has_ended}
-use Rattle.cdc_subscriber.specs.Kept.{Kept}
+use Rattle.cdc_subscriber.specs.SubscriberState.{SubscriberState}
 use Rattle.cdc_laws.specs.Faithful.{IsFaithful, applied}
 use Rattle.cdc_laws.specs.Line.{feed_of, line, line_after, told}
 use Rattle.cdc_laws.proofs.Books.{book_of-prefix}
@@ -107,7 +107,7 @@ module _ (h : History) (binding : Arguments) (is : sound.IsSound h) (shut : h.cl
       (hears.1.whole hears.0).1 ∙ ap (λ es. feed es binding) (all_after_zero h is) in
       let count : min (length (feed_of h binding)) (2 ^ 64 - 1) ≡ length (feed_of h binding) =
       omega (arith, few_of_feed) in
-      let kept : List Event → ℕ → Bool → Bool → Kept = λ es n ended closed.
+      let kept : List Event → ℕ → Bool → Bool → SubscriberState = λ es n ended closed.
       record { book = book_of es; last = last_timestamp es; applied = n; ended = ended; closed = closed } in
       kept_of-line h 0 binding heard is after_zero
       ∙ ap (λ es. kept es (min (length es) (2 ^ 64 - 1)) (has_ended heard) heard.closed) whole
@@ -119,9 +119,9 @@ module _ (h : History) (binding : Arguments) (is : sound.IsSound h) (shut : h.cl
   lists_balances : ListsBalances h binding
   lists_balances every =
       let last : (kept_by (line h) binding).last ≡ last_timestamp (events h) =
-      ap (λ (k : Kept). k.last) keeps_feed ∙ ap last_timestamp every in
+      ap (λ (k : SubscriberState). k.last) keeps_feed ∙ ap last_timestamp every in
       let all : IsPrefix (events h) (events h) = record { rest = []; whole = append-nil (events h) } in
-      ap (λ (k : Kept). k.book) keeps_feed ∙ ap book_of every ∙ book_of-prefix h (events h) is all
+      ap (λ (k : SubscriberState). k.book) keeps_feed ∙ ap book_of every ∙ book_of-prefix h (events h) is all
       ∙ ap (λ t. map (entry_as_of h t) (accounts_of (events h))) (sym last)
 
 -- ---- the histories of scripts

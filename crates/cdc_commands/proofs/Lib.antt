@@ -2,7 +2,7 @@ mod Examples
 pub mod HeldLaws
 pub mod FeedLemmas
 pub mod OutputLemmas
-pub mod Places
+pub mod FoundElements
 pub mod SimulationLemmas
 pub mod SimulationReached
 pub mod TakerLemmas

@@ -8,7 +8,7 @@ use Rattle.std.proofs.lemmas.List.{drop_all, drop_more}
 use Rattle.std.proofs.lemmas.Option.{get_or_from_slice_get, slice_get_cases, slice_get_within}
 use Rattle.cdc_progress.specs.Stores.{no_risks}
 use Rattle.cdc_subscriber.specs.Heard.{kept_of}
-use Rattle.cdc_subscriber.specs.Kept.{Kept}
+use Rattle.cdc_subscriber.specs.SubscriberState.{SubscriberState}
 use Rattle.cdc_subscriber.specs.Lines.{subscriber_text}
 use Rattle.cdc_world.specs.declared.steps.Did.{Did}
 use Rattle.cdc_types.specs.declared.steps.Step.{Step}
@@ -41,7 +41,7 @@ numbered_found xs i x h =
     rw (other, same) h
 
 -- one more subscriber is printed
-pub printed_more : (place : ℕ) (subscriptions : List Subscription) (s : Subscription) (kept : Kept)
+pub printed_more : (place : ℕ) (subscriptions : List Subscription) (s : Subscription) (kept : SubscriberState)
     (old new whole : List ℕ)
     → slice_get subscriptions place ≡ Some s → kept ≡ kept_of s.heard → new ≡ old ++ subscriber_text (place + 1) kept
     → old ++ subscriptions_text (place + 1) (drop place subscriptions) ≡ whole

@@ -6,7 +6,7 @@ use Rattle.std.proofs.lemmas.Option.{unwrap_or-slice_get}
 use Rattle.cdc_broker.specs.Broker.{BrokerState, queue_of, nobody}
 use Rattle.cdc_broker.specs.Queues.{QueueState, empty_queue}
 use Rattle.cdc_subscriber.specs.Heard.{kept_of}
-use Rattle.cdc_subscriber.specs.Kept.{Kept}
+use Rattle.cdc_subscriber.specs.SubscriberState.{SubscriberState}
 use Rattle.cdc_subscriber.specs.Lines.{subscriber_text}
 use Rattle.cdc_match.specs.Arguments.{Arguments}
 use Rattle.cdc_match.specs.Queue.{queue}
@@ -61,7 +61,8 @@ IsUntaken_next place all s old new inside untaken printed =
     subst IsUntaken (sym (queue_of_next place all s old new inside printed)) (untaken place (empty_queue nobody) inside)
 
 -- one more queue is taken, and its subscriber printed
-pub ArePrinted-more : (place : ℕ) (all : List QueueState) (s s' : BrokerState) (old new text : List ℕ) (kept : Kept)
+pub ArePrinted-more : (place : ℕ) (all : List QueueState) (s s' : BrokerState) (old new text : List ℕ)
+    (kept : SubscriberState)
     → place < length all
     → ArePrinted place all s.queues old new → ChangesQueue (place + 1) s s'
     → kept ≡ kept_of (hearing (queue_of s (place + 1)).items) → text ≡ new ++ subscriber_text (place + 1) kept

@@ -2,7 +2,7 @@
 use Rattle.std.proofs.Common.{◌≡◌, ℕ, ◌+◌, List, ◌++◌, Some, take, append_assoc, append-nil, refl}
 use Rattle.std.proofs.lemmas.Grind.{flat_map-append}
 use Rattle.std.specs.List.{flat_map, slice_get}
-use Rattle.cdc_commands.proofs.Places.{take_found}
+use Rattle.cdc_commands.proofs.FoundElements.{take_found}
 
 -- a piece, and what follows it
 pub pieces : (old mid new piece rest : List ℕ) → mid ≡ old ++ piece → new ≡ mid ++ rest → new ≡ old ++ (piece ++ rest)

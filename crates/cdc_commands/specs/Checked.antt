@@ -18,8 +18,8 @@ check_outcome bytes = outcome (λ script. []) (script_of bytes)
 abbrev pub IsGoodStepFile : List ℕ → Type 0
 IsGoodStepFile steps = (acts : List Act) × (acts_of steps ≡ Ok acts)
 
--- this is printed by a check of a script and a step file that ends so, as far as their bytes are known, where this is told
--- of faults; the steps are judged after the script
+-- this is printed by a check of a script and a step file that ends so, as far as their bytes are known, where this is
+-- told of faults; the steps are judged after the script
 abbrev pub JudgesFiles : (Ending → List ℕ → Type 0) → Option (List ℕ) → Option (List ℕ) → Ending → List ℕ → Type 0
 JudgesFiles TellsFault script steps Done printed =
     (printed ≡ []) × (IfSome script IsGoodScript × IfSome steps IsGoodStepFile)

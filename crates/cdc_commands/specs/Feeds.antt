@@ -4,7 +4,7 @@ use Rattle.cdc_match.specs.Arguments.{Arguments}
 use Rattle.cdc_match.specs.Queue.{queue}
 use Rattle.cdc_message.specs.declared.items.Item.{Item}
 use Rattle.cdc_subscriber.specs.Heard.{Heard, nothing, next, kept_of}
-use Rattle.cdc_subscriber.specs.Kept.{Kept}
+use Rattle.cdc_subscriber.specs.SubscriberState.{SubscriberState}
 use Rattle.cdc_subscriber.specs.Lines.{subscriber_text}
 
 -- what a subscriber has heard that was handed these items, in order
@@ -16,7 +16,7 @@ abbrev pub heard_of : List Item → Arguments → Heard
 heard_of items binding = hearing (queue items binding)
 
 -- what it keeps of that
-abbrev pub kept_by : List Item → Arguments → Kept
+abbrev pub kept_by : List Item → Arguments → SubscriberState
 kept_by items binding = kept_of (heard_of items binding)
 
 -- the lines of the subscribers of these bindings, of which the first has this number

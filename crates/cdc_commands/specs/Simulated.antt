@@ -32,8 +32,8 @@ TellsPlan Tells input refusal printed = IfSome input.script (λ script. IfSome i
 abbrev pub IsGoodScript : List ℕ → Type 0
 IsGoodScript script = (said : Script) × (script_of script ≡ Ok said)
 
--- this is printed by a command that reads such an input and ends so, where this is told of plans, and that of faults; the
--- steps are judged after the script
+-- this is printed by a command that reads such an input and ends so, where this is told of plans, and that of faults;
+-- the steps are judged after the script
 abbrev pub PrintsPlan : (Plan → Option StepError → List ℕ → Type 0) → (Ending → List ℕ → Type 0) → SimulationInput
     → Ending → List ℕ → Type 0
 PrintsPlan Tells TellsFault input Done printed = TellsPlan Tells input None printed

@@ -21,7 +21,7 @@ pub struct Answered {
 
 /// A ledger that has taken the batches of a script, and is closed after them.
 #[derive(Drop)]
-pub struct Taken {
+pub struct TakenBatches {
     /// The ledger.
     pub ledger: Ledger,
     /// What it answered to each batch.
@@ -30,7 +30,7 @@ pub struct Taken {
 
 /// Hands the batches of a script to a ledger, in the order of their lines, and closes it. Without a batch that takes no
 /// memory.
-pub fn take_batches(alloc: Global, script: &Script) -> Result<Taken, AllocError>
+pub fn take_batches(alloc: Global, script: &Script) -> Result<TakenBatches, AllocError>
     ensures ledger { IfOk result (λ taken. taken.ledger ≡ history_of script.now) }
     ensures answers { IfOk result (λ taken. taken.answers.items
         ≡ answers_to 1 empty_history script.now.batches) }
@@ -40,7 +40,7 @@ pub fn take_batches(alloc: Global, script: &Script) -> Result<Taken, AllocError>
     let mut answers = Vec::new(alloc);
     push_batches(alloc, &mut ledger, &mut answers, script.batches.as_slice())?;
     ledger.close();
-    Ok(Taken { ledger, answers })
+    Ok(TakenBatches { ledger, answers })
 }
 
 /// Hands batches to a ledger, in order, and adds what it answers to each.

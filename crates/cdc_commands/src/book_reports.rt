@@ -6,7 +6,7 @@ ghost use Rattle.cdc_ledger.specs.History.{empty_history};
 ghost use Rattle.cdc_commands.specs.Printed.{answers_to, history_of};
 ghost use Rattle.cdc_commands.specs.Queues.{filled_queues};
 
-use crate::batches::{Answered, Taken, take_batches};
+use crate::batches::{Answered, TakenBatches, take_batches};
 use crate::feeding::publish_log;
 use cdc_broker::Broker;
 use cdc_script::Script;
@@ -28,7 +28,7 @@ pub fn books_report(alloc: Global, script: Script) -> Result<BooksReport, AllocE
     ensures queues { IfOk result (λ report. report.broker.queues
         ≡ filled_queues (line (history_of script)) script.bindings) }
 {
-    let Taken { ledger, answers } = take_batches(alloc, &script)?;
+    let TakenBatches { ledger, answers } = take_batches(alloc, &script)?;
     let Script {
         bindings,
         batches: _,

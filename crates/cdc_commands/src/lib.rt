@@ -16,7 +16,7 @@ pub mod simulate;
 mod simulation_report;
 mod simulations;
 
-pub use batches::{Answered, Taken, take_batches};
+pub use batches::{Answered, TakenBatches, take_batches};
 pub use book_reports::{BooksReport, books_report};
 pub use endings::Ending;
 pub use faults::ProgramFault;

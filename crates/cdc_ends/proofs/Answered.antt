@@ -7,7 +7,7 @@ use Rattle.cdc_ends.specs.BrokerEnds.{ArrivedWasReceived, Dealings, EachPacketIs
 use Rattle.cdc_ends.specs.declared.broker_plans.BrokerPlan.{BrokerPlan}
 use Rattle.cdc_laws.specs.Arrivals.{taken_of}
 use Rattle.cdc_laws.specs.Takings.{session_of}
-use Rattle.cdc_laws.proofs.Places.{none_there}
+use Rattle.cdc_laws.proofs.ListElements.{none_there}
 use Rattle.cdc_message.specs.declared.packets.Answer.{Answer}
 use Rattle.cdc_message.specs.declared.packets.Answer.TheVariants.{Broken}
 use Rattle.cdc_message.specs.declared.packets.Confirm.{Confirm}

@@ -6,7 +6,7 @@ use Rattle.std.proofs.lemmas.Option.{same_Some, slice_get_within}
 use Rattle.cdc_broker.specs.Broker.{BrokerState, queue_of, takes_packet, with_queue}
 use Rattle.cdc_broker.specs.Queues.{QueueState, next_delivery, with_delivery}
 use Rattle.cdc_ends.specs.BrokerDesks.{HasBecome, HasHeard}
-use Rattle.cdc_ends.specs.BrokerEnds.{Dealings, Desk, IsDesk, IsServed, acks_at, confirm_of, dealings, dealings_of, answer_after, counted, deliveries_in, is_lost, packets_in, with_packet}
+use Rattle.cdc_ends.specs.BrokerEnds.{Dealings, BrokerDesk, IsBrokerDesk, IsConsumerServed, acks_at, confirm_of, dealings, dealings_of, answer_after, counted, deliveries_in, is_lost, packets_in, with_packet}
 use Rattle.cdc_ends.specs.BrokerFails.{AreStopping, HandsSoFar, IsCutOff, IsStuck, IsUnanswered}
 use Rattle.cdc_ends.specs.BrokerSoFar.{BrokersComeSoFar, HasFailed, IsBrokerSoFar, IsServedSoFar, ReceivesAtMostOne}
 use Rattle.cdc_ends.specs.Faults.{IsTurnFault}
@@ -16,11 +16,11 @@ use Rattle.cdc_ends.specs.declared.consumers.Consumer.{Consumer}
 use Rattle.cdc_ends.specs.declared.faults.RunFault.{RunFault}
 use Rattle.cdc_ends.specs.declared.faults.RunFault.TheVariants.{PeerGone, OutOfMemory, Store, SessionsExhausted, NotOneSystem, StartNotAllowed}
 use Rattle.cdc_ends.proofs.Dealing.{packets_in-push}
-use Rattle.cdc_ends.proofs.Hearing.{IsDesk-packet, made_packet, served_one}
-use Rattle.cdc_ends.proofs.Lanes.{HandsOn, queue_of-with, with_queue-twice}
+use Rattle.cdc_ends.proofs.Hearing.{IsBrokerDesk-packet, made_packet, served_one}
+use Rattle.cdc_ends.proofs.BrokerLanes.{HandsOn, queue_of-with, with_queue-twice}
 use Rattle.cdc_ends.proofs.Linked.{all_same, coming_same, heard_same, lane_same, same_links, then_same}
-use Rattle.cdc_ends.proofs.Places.{HoldsOfAll-set}
-use Rattle.cdc_ends.proofs.Serving.{HasArrived-queue, HasSameItems, IsServed-stop, next_served, same_next}
+use Rattle.cdc_ends.proofs.ConsumerPlaces.{HoldsOfAll-set}
+use Rattle.cdc_ends.proofs.Serving.{HasArrived-queue, HasSameItems, IsConsumerServed-stop, next_served, same_next}
 use Rattle.cdc_ends.proofs.Subscribers.{stopped_up_to}
 use Rattle.cdc_laws.specs.Arrivals.{taken_of}
 use Rattle.cdc_laws.specs.Brokers.{HasHandedOut}
@@ -42,7 +42,7 @@ use Rattle.cdc_traffic.specs.declared.messages.ToSubscriber.{ToSubscriber}
 -- ---- what was sent to a subscriber
 
 served_so_far : (finished : Bool) (prefetch acks : ℕ) (q : QueueState) (c : Consumer)
-    → IsServed finished prefetch acks q c → IsServedSoFar q c
+    → IsConsumerServed finished prefetch acks q c → IsServedSoFar q c
 served_so_far finished prefetch acks q c is =
     record { broker = is.broker; stopped = finished; sent = is.sent; replay = is.handed.replay }
 
@@ -59,14 +59,14 @@ moved_so_far q q' c c' items link is =
     })
 
 -- with its last message
-stopped_so_far : (prefetch acks : ℕ) (q : QueueState) (c : Consumer) → IsServed false prefetch acks q c
+stopped_so_far : (prefetch acks : ℕ) (q : QueueState) (c : Consumer) → IsConsumerServed false prefetch acks q c
     → IsServedSoFar q (with_stop c)
 stopped_so_far prefetch acks q c is =
-    served_so_far true prefetch acks q (with_stop c) (IsServed-stop prefetch acks q c is)
+    served_so_far true prefetch acks q (with_stop c) (IsConsumerServed-stop prefetch acks q c is)
 
 -- ---- at any time
 
-desk_so_far : (d : Desk) → IsDesk d → IsBrokerSoFar d
+desk_so_far : (d : BrokerDesk) → IsBrokerDesk d → IsBrokerSoFar d
 desk_so_far d is = record {
   senders = is.senders;
   own = is.own;
@@ -94,8 +94,8 @@ pub record StillServed (number prefetch : ℕ) (first : BrokerState) (one : Cons
     : Type 0 where
   pub same : HasSameItems (queue_of first number) (queue_of b number)
   pub link : c.link.link ≡ one.link.link
-  pub served : (acks : ℕ) → IsServed false prefetch acks (queue_of first number) one
-      → IsServed false prefetch acks (queue_of b number) c
+  pub served : (acks : ℕ) → IsConsumerServed false prefetch acks (queue_of first number) one
+      → IsConsumerServed false prefetch acks (queue_of b number) c
 
 pub still_first : (number prefetch : ℕ) (first : BrokerState) (one : Consumer)
     → StillServed number prefetch first one first one
@@ -125,8 +125,8 @@ module _ (repeats : List (ℕ × ℕ)) (number prefetch : ℕ) (first : BrokerSt
             ∙ next_linked repeats number (next_delivery (queue_of b number)) (lane_of b number c)
             ∙ still.link;
         served = λ acks is.
-            subst (λ (q : QueueState). IsServed false prefetch acks q after) (sym queue)
-            (subst (λ (x : Consumer). IsServed false prefetch acks next.queue x) (sym became.consumer)
+            subst (λ (q : QueueState). IsConsumerServed false prefetch acks q after) (sym queue)
+            (subst (λ (x : Consumer). IsConsumerServed false prefetch acks next.queue x) (sym became.consumer)
             (next_served prefetch acks repeats number (next_delivery (queue_of b number)) (lane_of b number c) refl few
             (still.served acks is)));
       }
@@ -176,7 +176,7 @@ module _ (repeats : List (ℕ × ℕ)) (number prefetch : ℕ) (first : BrokerSt
   stuck_so StartNotAllowed new after hands = absurd hands
 
 -- so the end is cut off there
-module _ (d : Desk) (is : IsDesk d) (goes : d.finished ≡ false) (place : ℕ) (c : Consumer)
+module _ (d : BrokerDesk) (is : IsBrokerDesk d) (goes : d.finished ≡ false) (place : ℕ) (c : Consumer)
     (found : slice_get d.consumers place ≡ Some c) where
   stuck_desk : (fault : RunFault) (lane : Lane) → lane.queue.binding ≡ (queue_of d.broker (place + 1)).binding
       → lane.queue.items ≡ (queue_of d.broker (place + 1)).items → lane.consumer.link.link ≡ c.link.link
@@ -187,7 +187,7 @@ module _ (d : Desk) (is : IsDesk d) (goes : d.finished ≡ false) (place : ℕ) 
       let inside : place < length d.consumers = slice_get_within d.consumers place c found in
       let queued : place < length d.broker.queues = omega (arith, is.queues, inside) in
       let queued' : place + 1 - 1 < length d.broker.queues = omega (arith, queued) in
-      let P : ℕ → QueueState → Consumer → Type 0 = λ k q x. IsServed d.finished d.prefetch (acks_at d k) q x in
+      let P : ℕ → QueueState → Consumer → Type 0 = λ k q x. IsConsumerServed d.finished d.prefetch (acks_at d k) q x in
       let Q : ℕ → QueueState → Consumer → Type 0 = λ k q x. IsServedSoFar q x in
       let H : ℕ → QueueState → Consumer → Type 0 = λ k q x. HasHandedOut q (deliveries_in x.link.sent) in
       let many : length (slice_set d.consumers place lane.consumer) ≡ length d.consumers =
@@ -233,16 +233,16 @@ module _ (d : Desk) (is : IsDesk d) (goes : d.finished ≡ false) (place : ℕ) 
       (λ short. stuck.memory short (acks_at d place) (served_one d is goes place c found)))
 
 -- after queues that were handed out whole
-record KeepsRest (old new : Desk) : Type 0 where
+record KeepsRest (old new : BrokerDesk) : Type 0 where
   plan : new.plan ≡ old.plan
   finished : new.finished ≡ old.finished
   inbox : new.inbox ≡ old.inbox
 
-keeps_served : (d : Desk) (place : ℕ) (found : Option Consumer) → KeepsRest d (served_if place found d)
+keeps_served : (d : BrokerDesk) (place : ℕ) (found : Option Consumer) → KeepsRest d (served_if place found d)
 keeps_served d place None = record { plan = refl; finished = refl; inbox = refl }
 keeps_served d place (Some c) = record { plan = refl; finished = refl; inbox = refl }
 
-all_keep : (n : ℕ) (d : Desk) → KeepsRest d (all_served n d)
+all_keep : (n : ℕ) (d : BrokerDesk) → KeepsRest d (all_served n d)
 all_keep zero d = record { plan = refl; finished = refl; inbox = refl }
 all_keep (suc n) d =
     let one = keeps_served (all_served n d) n (slice_get (all_served n d).consumers n) in
@@ -253,15 +253,15 @@ all_keep (suc n) d =
       inbox = one.inbox ∙ rest.inbox;
     }
 
-pub cut_served : (n : ℕ) (old mid new : Desk) (fault : RunFault) → mid ≡ all_served n old → IsCutOff mid fault new
+pub cut_served : (n : ℕ) (old mid new : BrokerDesk) (fault : RunFault) → mid ≡ all_served n old → IsCutOff mid fault new
     → IsCutOff old fault new
 cut_served n old mid new fault is cut =
     let keep = all_keep n old in
     record {
       links = then_same old mid new (subst (HasSameLinks old) (sym is) (all_same n old)) cut.links;
-      plan = cut.plan ∙ ap (λ (d : Desk). d.plan) is ∙ keep.plan;
-      finished = cut.finished ∙ ap (λ (d : Desk). d.finished) is ∙ keep.finished;
-      inbox = cut.inbox ∙ ap (λ (d : Desk). d.inbox) is ∙ keep.inbox;
+      plan = cut.plan ∙ ap (λ (d : BrokerDesk). d.plan) is ∙ keep.plan;
+      finished = cut.finished ∙ ap (λ (d : BrokerDesk). d.finished) is ∙ keep.finished;
+      inbox = cut.inbox ∙ ap (λ (d : BrokerDesk). d.inbox) is ∙ keep.inbox;
       so_far = cut.so_far;
       memory = cut.memory;
     }
@@ -295,13 +295,13 @@ stopping (suc n) (c ∷ old) =
 pub stopping_so : (n : ℕ) (old new : List Consumer) → new ≡ stopped_up_to n old → AreStopping old new
 stopping_so n old new is = subst (AreStopping old) (sym is) (stopping n old)
 
-module _ (d : Desk) (is : IsDesk d) (goes : d.finished ≡ false) (new : List Consumer)
+module _ (d : BrokerDesk) (is : IsBrokerDesk d) (goes : d.finished ≡ false) (new : List Consumer)
     (stopping : AreStopping d.consumers new) where
   stop_served : (place : ℕ) (c : Consumer) → slice_get new place ≡ Some c
       → IsServedSoFar (queue_of d.broker (place + 1)) c
   stop_served place c found =
       let from = stopping.each place c found in
-      let one : IsServed false d.prefetch (acks_at d place) (queue_of d.broker (place + 1)) from.0 =
+      let one : IsConsumerServed false d.prefetch (acks_at d place) (queue_of d.broker (place + 1)) from.0 =
       served_one d is goes place from.0 from.1.0 in
       elim from.1.1 [
         | inl same ↦
@@ -339,7 +339,7 @@ module _ (d : Desk) (is : IsDesk d) (goes : d.finished ≡ false) (new : List Co
 -- ---- a message couldn't be taken
 
 -- it is received
-abbrev pub with_entry : Desk → ℕ × (ToBroker × Unit {0}) → Desk
+abbrev pub with_entry : BrokerDesk → ℕ × (ToBroker × Unit {0}) → BrokerDesk
 with_entry d entry = record d { inbox = with_received d.inbox entry }
 
 -- the confirm of one packet more
@@ -366,11 +366,11 @@ one_confirm : (plan : BrokerPlan) (made : Dealings) (packet : Packet)
     → (confirm : Confirm) × ((with_packet plan made packet).confirms ≡ made.confirms ++ confirm ∷ [])
 one_confirm plan made packet = one_confirm_if plan made packet (is_lost plan made.publishes packet)
 
-module _ (d : Desk) (is : IsDesk d) (packet : Packet) where
+module _ (d : BrokerDesk) (is : IsBrokerDesk d) (packet : Packet) where
   abbrev entry : ℕ × (ToBroker × Unit {0})
   entry = (0, (to_broker.Packet packet, tt))
 
-  abbrev came : Desk
+  abbrev came : BrokerDesk
   came = with_entry d entry
 
   packets_more : packets_in (of_sender 0 came.inbox.received) ≡ packets_in (of_sender 0 d.inbox.received) ++ packet ∷ []
@@ -403,7 +403,7 @@ module _ (d : Desk) (is : IsDesk d) (packet : Packet) where
   none_unsent publishes = refl
 
   -- it has, and wasn't answered
-  unconfirmed : (lost takes : Bool) → IsDesk (coming_if lost takes packet (with_counted packet came))
+  unconfirmed : (lost takes : Bool) → IsBrokerDesk (coming_if lost takes packet (with_counted packet came))
       → IsBrokerSoFar (record (coming_if lost takes packet (with_counted packet came)) { confirms = d.confirms })
   unconfirmed lost takes after = go lost takes after
     where
@@ -412,7 +412,7 @@ module _ (d : Desk) (is : IsDesk d) (packet : Packet) where
           let last = one_confirm d.plan (dealings_of d) packet in
           (last.0, ap (λ (x : Dealings). x.confirms) (made_packet d is tt packet) ∙ last.1)
 
-      with_desk : (m : Desk) → m.inbox ≡ came.inbox → m.plan ≡ d.plan → IsDesk m
+      with_desk : (m : BrokerDesk) → m.inbox ≡ came.inbox → m.plan ≡ d.plan → IsBrokerDesk m
           → IsBrokerSoFar (record m { confirms = d.confirms })
       with_desk m inbox plan it =
           let same : dealings_of m ≡ dealings_of came =
@@ -436,7 +436,7 @@ module _ (d : Desk) (is : IsDesk d) (packet : Packet) where
                 (it.served place c found);
           }
 
-      go : (lost takes : Bool) → IsDesk (coming_if lost takes packet (with_counted packet came))
+      go : (lost takes : Bool) → IsBrokerDesk (coming_if lost takes packet (with_counted packet came))
           → IsBrokerSoFar (record (coming_if lost takes packet (with_counted packet came)) { confirms = d.confirms })
       go true takes it = with_desk (coming_if true takes packet (with_counted packet came)) refl refl it
       go false true it = with_desk (coming_if false true packet (with_counted packet came)) refl refl it
@@ -444,7 +444,8 @@ module _ (d : Desk) (is : IsDesk d) (packet : Packet) where
 
   unconfirmed_so_far : IsBrokerSoFar (record (with_coming packet came) { confirms = d.confirms })
   unconfirmed_so_far =
-      unconfirmed (is_lost d.plan d.publishes packet) (takes_packet d.broker packet) (IsDesk-packet d is tt packet)
+      unconfirmed (is_lost d.plan d.publishes packet) (takes_packet d.broker packet)
+      (IsBrokerDesk-packet d is tt packet)
 
   unconfirmed_same : (lost takes : Bool)
       → HasSameLinks came (record (coming_if lost takes packet (with_counted packet came)) { confirms = d.confirms })
@@ -463,7 +464,7 @@ module _ (d : Desk) (is : IsDesk d) (packet : Packet) where
     record { plan = refl; finished = refl; inbox = refl },
   )
 
-  pub cut_packet : (fault : RunFault) (new : Desk) → IsUnanswered packet came fault new → IsCutOff came fault new
+  pub cut_packet : (fault : RunFault) (new : BrokerDesk) → IsUnanswered packet came fault new → IsCutOff came fault new
   cut_packet PeerGone new (inl (full, after)) =
       subst (IsCutOff came PeerGone) (sym after)
       (record {
@@ -504,7 +505,8 @@ module _ (d : Desk) (is : IsDesk d) (packet : Packet) where
   cut_packet StartNotAllowed new un = absurd un
 
 -- an acknowledgement isn't due
-pub cut_ack : (d : Desk) → IsDesk d → (j : ℕ) (ack : Ack) (fault : RunFault) (new : Desk) → fault ≡ PeerGone → 0 < j
+pub cut_ack : (d : BrokerDesk) → IsBrokerDesk d → (j : ℕ) (ack : Ack) (fault : RunFault) (new : BrokerDesk)
+    → fault ≡ PeerGone → 0 < j
     → new ≡ with_entry d (j, (to_broker.Ack ack, tt)) → IsCutOff (with_entry d (j, (to_broker.Ack ack, tt))) fault new
 cut_ack d is j ack fault new gone first same =
     let entry : ℕ × (ToBroker × Unit {0}) = (j, (to_broker.Ack ack, tt)) in
@@ -540,7 +542,7 @@ cut_ack d is j ack fault new gone first same =
 -- ---- a turn has failed
 
 -- where all that it received went well before
-pub failed_of : (old mid new : Desk) (fault : RunFault) → HasSameLinks old mid → mid.plan ≡ old.plan
+pub failed_of : (old mid new : BrokerDesk) (fault : RunFault) → HasSameLinks old mid → mid.plan ≡ old.plan
     → mid.finished ≡ old.finished → ReceivesAtMostOne old.inbox mid.inbox → IsTurnFault fault → IsCutOff mid fault new
     → HasFailed old fault new
 failed_of old mid new fault links plan finished receives kind cut = record {
@@ -554,7 +556,7 @@ failed_of old mid new fault links plan finished receives kind cut = record {
 }
 
 -- nothing came
-pub failed_unheard : (old new : Desk) (fault : RunFault) → IsDesk old → (fault ≡ PeerGone) × (new ≡ old)
+pub failed_unheard : (old new : BrokerDesk) (fault : RunFault) → IsBrokerDesk old → (fault ≡ PeerGone) × (new ≡ old)
     → HasFailed old fault new
 failed_unheard old new fault is (gone, same) =
     subst (HasFailed old fault) (sym same)
@@ -569,7 +571,8 @@ failed_unheard old new fault is (gone, same) =
     })
 
 -- a message couldn't be taken
-pub failed_message : (old new : Desk) (fault : RunFault) (inbox : Incoming ToBroker (Unit {0})) (message : ToBroker)
+pub failed_message : (old new : BrokerDesk) (fault : RunFault) (inbox : Incoming ToBroker (Unit {0}))
+    (message : ToBroker)
     → Takes FollowsToBroker old.inbox message inbox → IsTurnFault fault
     → IsCutOff (record old { inbox = inbox }) fault new
     → HasFailed old fault new
@@ -583,17 +586,17 @@ failed_message old new fault inbox message takes kind cut =
     }) refl refl (inr (message, takes)) kind cut
 
 -- a message was heard, and what follows couldn't be done
-record HeardKeeps (old : Desk) (entry : ℕ × (ToBroker × Unit {0})) (new : Desk) : Type 0 where
+record HeardKeeps (old : BrokerDesk) (entry : ℕ × (ToBroker × Unit {0})) (new : BrokerDesk) : Type 0 where
   plan : new.plan ≡ old.plan
   finished : new.finished ≡ old.finished
   inbox : new.inbox ≡ with_received old.inbox entry
 
-heard_keeps : (d : Desk) (j : ℕ) (message : ToBroker) (name : Unit {0})
+heard_keeps : (d : BrokerDesk) (j : ℕ) (message : ToBroker) (name : Unit {0})
     → HeardKeeps d (j, (message, name)) (heard (j, (message, name)) d)
 heard_keeps d j (to_broker.Packet packet) name =
     go (is_lost d.plan d.publishes packet) (takes_packet d.broker packet)
   where
-    here : Desk
+    here : BrokerDesk
     here = with_entry d (j, (to_broker.Packet packet, name))
 
     go : (lost takes : Bool)
@@ -604,7 +607,7 @@ heard_keeps d j (to_broker.Packet packet) name =
 heard_keeps d j to_broker.Finish name = record { plan = refl; finished = refl; inbox = refl }
 heard_keeps d j (to_broker.Ack ack) name = go (slice_get d.consumers (ack.subscriber - 1))
   where
-    here : Desk
+    here : BrokerDesk
     here = with_entry d (j, (to_broker.Ack ack, name))
 
     go : (found : Option Consumer)
@@ -612,14 +615,15 @@ heard_keeps d j (to_broker.Ack ack) name = go (slice_get d.consumers (ack.subscr
     go None = record { plan = refl; finished = refl; inbox = refl }
     go (Some c) = record { plan = refl; finished = refl; inbox = refl }
 
-pub failed_then : (old mid new : Desk) (fault : RunFault) → HasHeard old mid → IsTurnFault fault
+pub failed_then : (old mid new : BrokerDesk) (fault : RunFault) → HasHeard old mid → IsTurnFault fault
     → IsCutOff mid fault new
     → HasFailed old fault new
 failed_then old mid new fault came kind cut =
     let keeps = heard_keeps old came.entry.0 came.entry.1.0 came.entry.1.1 in
     failed_of old mid new fault
     (subst (HasSameLinks old) (sym came.after) (heard_same old came.entry.0 came.entry.1.0 came.entry.1.1))
-    (ap (λ (d : Desk). d.plan) came.after ∙ keeps.plan) (ap (λ (d : Desk). d.finished) came.after ∙ keeps.finished)
+    (ap (λ (d : BrokerDesk). d.plan) came.after ∙ keeps.plan)
+    (ap (λ (d : BrokerDesk). d.finished) came.after ∙ keeps.finished)
     (inr (
       came.entry.1.0,
       (
@@ -627,14 +631,15 @@ failed_then old mid new fault came kind cut =
         came.entry.1.1,
         came.sender,
         came.follows,
-        ap (λ (d : Desk). d.inbox) came.after ∙ keeps.inbox,
+        ap (λ (d : BrokerDesk). d.inbox) came.after ∙ keeps.inbox,
       ),
     )) kind cut
 
 -- ---- what a call that fails leaves
 
 -- the kind of the fault
-unanswered_kind : (packet : Packet) (old : Desk) (fault : RunFault) (new : Desk) → IsUnanswered packet old fault new
+unanswered_kind : (packet : Packet) (old : BrokerDesk) (fault : RunFault) (new : BrokerDesk)
+    → IsUnanswered packet old fault new
     → IsTurnFault fault
 unanswered_kind packet old PeerGone new un = inl refl
 unanswered_kind packet old OutOfMemory new un = inr refl
@@ -643,7 +648,8 @@ unanswered_kind packet old SessionsExhausted new un = absurd un
 unanswered_kind packet old NotOneSystem new un = absurd un
 unanswered_kind packet old StartNotAllowed new un = absurd un
 
-pub packet_failed : {A : Type 0} (old new : Desk) (inbox : Incoming ToBroker (Unit {0})) (packet : Packet) → IsDesk old
+pub packet_failed : {A : Type 0} (old new : BrokerDesk) (inbox : Incoming ToBroker (Unit {0})) (packet : Packet)
+    → IsBrokerDesk old
     → Takes FollowsToBroker old.inbox (to_broker.Packet packet) inbox → (result : Result A RunFault)
     → IfErr result (λ fault. IsUnanswered packet (record old { inbox = inbox }) fault new)
     → IfErr result (λ fault. HasFailed old fault new)
@@ -657,7 +663,8 @@ packet_failed old new inbox packet is (j, name, below, follows, after) (Err faul
     (cut_packet old is packet fault new
     (subst (λ (i : Incoming ToBroker (Unit {0})). IsUnanswered packet (record old { inbox = i }) fault new) here un)))
 
-pub ack_failed : {A : Type 0} (old new : Desk) (inbox : Incoming ToBroker (Unit {0})) (ack : Ack) → IsDesk old
+pub ack_failed : {A : Type 0} (old new : BrokerDesk) (inbox : Incoming ToBroker (Unit {0})) (ack : Ack)
+    → IsBrokerDesk old
     → Takes FollowsToBroker old.inbox (to_broker.Ack ack) inbox → (result : Result A RunFault)
     → IfErr result (λ fault. (fault ≡ PeerGone) × (new ≡ record old { inbox = inbox }))
     → IfErr result (λ fault. HasFailed old fault new)

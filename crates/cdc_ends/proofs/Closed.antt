@@ -4,7 +4,7 @@ use Rattle.std.specs.Prelude.{◌&&◌, not, slice_get}
 use Rattle.std.proofs.lemmas.Bool.{eqb-true}
 use Rattle.cdc_ends.specs.LedgerEnds.{AreTold, ClientsAreTold, FinishedDesksAreClosed, Waits, clients_left, is_done, order_of, past_of_inbox}
 use Rattle.cdc_ends.specs.Orders.{said_to}
-use Rattle.cdc_ends.proofs.Booked.{past_with}
+use Rattle.cdc_ends.proofs.LedgerDesks.{past_with}
 use Rattle.cdc_ends.proofs.Receipts.{Received, left_some}
 use Rattle.cdc_ledger.specs.History.{History}
 use Rattle.cdc_links.specs.Links.{Outgoing}

@@ -25,7 +25,7 @@ use Rattle.cdc_progress.specs.Stores.{IsRisked, MayRefuseSave, Risks}
 use Rattle.cdc_progress.specs.declared.errors.StoreError.{StoreError}
 use Rattle.cdc_progress.specs.declared.errors.StoreError.TheVariants as store
 use Rattle.cdc_publisher.specs.Courses.{Course, begun, has_event, next_packet, progress_of, with_confirm}
-use Rattle.cdc_publisher.specs.Kept.{Kept}
+use Rattle.cdc_publisher.specs.SessionState.{SessionState}
 use Rattle.cdc_publisher.specs.Starts.{IsStartRisked, MayRefuseStart}
 use Rattle.cdc_publisher.specs.declared.errors.StartError.{StartError}
 use Rattle.cdc_publisher.specs.declared.errors.StartError.TheVariants as start
@@ -54,7 +54,7 @@ publishing_so_far c course is = record {
 }
 
 -- whatever its session has done besides
-moved_so_far : (c : Publishing) (session : Option Kept) → IsConnectorSoFar c
+moved_so_far : (c : Publishing) (session : Option SessionState) → IsConnectorSoFar c
     → IsConnectorSoFar (record c { session = session })
 moved_so_far c session is =
     record { wired = is.wired; said = is.said; answers = is.answers; keeps = is.keeps }
@@ -317,7 +317,8 @@ without_memory store.WriteFault is = cc
 without_memory store.BadRecord is = cc
 without_memory store.OutOfMemory is = refl
 
-pub not_saved : (old : Publishing) (course : Course) (session : Option Kept) (held : Option Saved) (honest : Bool)
+pub not_saved : (old : Publishing) (course : Course) (session : Option SessionState) (held : Option Saved)
+    (honest : Bool)
     (risks : Risks) (failed failed' : ℕ) (error : StoreError) → SessionStands session (Some course)
     → (held ≡ old.held) ⊎ (held ≡ Some (progress_of course)) → (error ≡ store.OutOfMemory → held ≡ old.held)
     → MayRefuseSave failed failed' error → IsRisked old.risks error → honest ≡ old.honest → risks ≡ old.risks
@@ -363,7 +364,7 @@ module _ (old : Publishing) (course : Course) (is : IsPublishing old (Some cours
       Takes FollowsToConnector old.inbox (to_connector.Confirm (record { session = session; answer = answer })) inbox
 
   -- a turn that has received this confirm
-  after_it : (answer : Answer) → WasReceived answer → (unanswered : ℕ) (s : Option Kept) (new : Publishing)
+  after_it : (answer : Answer) → WasReceived answer → (unanswered : ℕ) (s : Option SessionState) (new : Publishing)
       (fault : RunFault)
       → IsCutShort (record old { inbox = inbox; unanswered = unanswered; session = s }) fault new
       → HasFailed old fault new
@@ -452,7 +453,7 @@ pub failed_then : (old mid new : Publishing) (moved : Bool) (fault : RunFault) �
     → IsAdvanced old moved mid → IsCutShort mid fault new → HasFailed old fault new
 failed_then old mid new moved fault working is cut = go old.session is.moves
   where
-    go : (s : Option Kept) → IsBegunOrReceived s old moved mid → HasFailed old fault new
+    go : (s : Option SessionState) → IsBegunOrReceived s old moved mid → HasFailed old fault new
     go None first = failed_of old mid new fault working (inl first.inbox) first.same cut
     go (Some kept) later = failed_of old mid new fault working (inr (later.message, later.takes)) later.same cut
 
@@ -463,7 +464,7 @@ pub same_inbox : (inside now : Publishing) (inbox : Incoming ToConnector (Option
 same_inbox inside now inbox same is = (λ i. record inside { inbox = is i }) ∙ same
 
 -- its next packet wasn't made
-pub unsent_memory : (inside now : Publishing) (kept : Kept) (course : Course) (fault : RunFault) → inside ≡ now
+pub unsent_memory : (inside now : Publishing) (kept : SessionState) (course : Course) (fault : RunFault) → inside ≡ now
     → Some kept ≡ inside.session → IsTrue (has_event (next_packet course)) → fault ≡ OutOfMemory
     → IsUnsent now course fault (record inside { session = Some kept })
 unsent_memory inside now kept course fault same is event memory =

@@ -25,7 +25,7 @@ use Rattle.cdc_message.specs.declared.packets.Answer.{Answer}
 use Rattle.cdc_message.specs.declared.packets.Answer.TheVariants.{Connected, Confirmed, Ignored, Broken}
 use Rattle.cdc_message.specs.declared.packets.Confirm.{Confirm}
 use Rattle.cdc_publisher.specs.Courses.{Course, after_answer, confirmed_timestamp, next_poll, progress_of, takes_confirm, unconfirmed, with_offer}
-use Rattle.cdc_publisher.specs.Kept.{Kept}
+use Rattle.cdc_publisher.specs.SessionState.{SessionState}
 use Rattle.cdc_publisher.specs.Offers.{IsOffered, IsReply}
 use Rattle.cdc_publisher.specs.declared.session.Poll.{Poll as Wanted}
 use Rattle.cdc_publisher.proofs.Standing.{poll_of_is}
@@ -191,7 +191,7 @@ module _ (c : Publishing) (course : Course) (is : IsPublishing c (Some course))
         (IsReply-read h (record { after = reply.poll.after; limit = reply.poll.limit }) came.read.legal)))
 
     -- and is offered
-    pub IsPublishing-offered : (session : Option Kept)
+    pub IsPublishing-offered : (session : Option SessionState)
         → SessionStands session (Some (with_offer reply.events reply.complete course))
         → IsPublishing (record c { inbox = inbox; session = session; poll = None })
         (Some (with_offer reply.events reply.complete course))
@@ -287,7 +287,7 @@ module _ (c : Publishing) (course : Course) (is : IsPublishing c (Some course))
   answered = after_answer course confirm.session confirm.answer
 
   -- the session takes it
-  pub IsPublishing-answered : (session : Option Kept) → SessionStands session (Some answered)
+  pub IsPublishing-answered : (session : Option SessionState) → SessionStands session (Some answered)
       → IsPublishing (record c { inbox = inbox; unanswered = unanswered; session = session }) (Some answered)
   IsPublishing-answered session stands =
       let count : length (confirms_in (of_sender 1 inbox.received))

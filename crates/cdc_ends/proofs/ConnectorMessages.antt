@@ -8,7 +8,7 @@ use Rattle.std.proofs.lemmas.List.Elements.{filter-append, filter_map-append}
 use Rattle.std.proofs.lemmas.Option.{cond_some, same_Some}
 use Rattle.cdc_ends.specs.ConnectorEnds.{HasSent, IsRunning, confirm_in, confirms_in, is_publish, packet_in, packets_in, poll_in, polls_in}
 use Rattle.cdc_ends.specs.ConnectorMoves.{publish_count}
-use Rattle.cdc_laws.proofs.Places.{Contains_slice_get}
+use Rattle.cdc_laws.proofs.ListElements.{Contains_slice_get}
 use Rattle.cdc_message.specs.declared.items.Item.TheVariants.{Event as OfEvent, EndMark}
 use Rattle.cdc_message.specs.declared.packets.Confirm.{Confirm}
 use Rattle.cdc_message.specs.declared.packets.Packet.{Packet}

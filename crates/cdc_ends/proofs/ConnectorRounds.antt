@@ -19,7 +19,7 @@ use Rattle.cdc_message.specs.declared.packets.Packet.{Packet}
 use Rattle.cdc_progress.specs.Records.{Saved}
 use Rattle.cdc_progress.specs.Stores.{Risks}
 use Rattle.cdc_publisher.specs.Courses.{Course, after_answer, confirmed_timestamp, is_done, new_course, progress_of, with_confirm, with_offer}
-use Rattle.cdc_publisher.specs.Kept.{Kept}
+use Rattle.cdc_publisher.specs.SessionState.{SessionState}
 use Rattle.cdc_traffic.specs.Following.{FollowsToConnector}
 use Rattle.cdc_traffic.specs.declared.messages.ToBroker.{ToBroker}
 use Rattle.cdc_traffic.specs.declared.messages.ToBroker.TheVariants as to_broker
@@ -145,7 +145,7 @@ module _ (old : Publishing) (course : Course) (is : IsPublishing old (Some cours
     }
 
     -- its session takes it
-    answered_as : (s : Option Kept) → SessionStands s (Some (after_answer course session answer))
+    answered_as : (s : Option SessionState) → SessionStands s (Some (after_answer course session answer))
         → IsPublishing (record counted { session = s }) (Some (after_answer course session answer))
     answered_as s stands =
         IsPublishing-answered old course is inbox confirm (confirm_came old.inbox inbox confirm takes) unanswered less
@@ -183,13 +183,14 @@ module _ (old : Publishing) (course : Course) (is : IsPublishing old (Some cours
       Takes FollowsToConnector old.inbox (to_connector.Confirm (record { session = session; answer = answer })) inbox
 
   -- a tag was confirmed, and progress is saved where it has moved
-  saved_if : (next : Course) (s : Option Kept) → IsPublishing (record answered { session = s }) (Some next) → (b : Bool)
+  saved_if : (next : Course) (s : Option SessionState) → IsPublishing (record answered { session = s }) (Some next)
+      → (b : Bool)
       → IsPublishing (record answered { held = if b then old.held else Some (progress_of next); session = s })
       (Some next)
   saved_if next s publishing true = publishing
   saved_if next s publishing false = IsPublishing-saved (record answered { session = s }) next publishing
 
-  origin_if : (next : Course) (s : Option Kept) → IsPublishing (record answered { session = s }) (Some next)
+  origin_if : (next : Course) (s : Option SessionState) → IsPublishing (record answered { session = s }) (Some next)
       → (b : Bool)
       → origin_of (record answered { held = if b then old.held else Some (progress_of next); session = s })
       ≡ origin_of old
@@ -281,16 +282,16 @@ heard_confirm old course is inbox confirm takes new taken =
 -- ---- a session begins, or a message is received
 
 -- what stands between two turns
-not_none : (o : Option Kept) → o ≡ None → is_some o ≡ true → ⊥
+not_none : (o : Option SessionState) → o ≡ None → is_some o ≡ true → ⊥
 not_none None is up = cc
 not_none (Some kept) is up = cc
 
-none_of : (o : Option Kept) → is_some o ≡ false → o ≡ None
+none_of : (o : Option SessionState) → is_some o ≡ false → o ≡ None
 none_of None is = refl
 none_of (Some kept) is = cc
 
 -- where a session runs, it stands for the course
-course_of : (s : Option Kept) (course : Option Course) → SessionStands s course → is_some s ≡ true
+course_of : (s : Option SessionState) (course : Option Course) → SessionStands s course → is_some s ≡ true
     → (c : Course) × (course ≡ Some c)
 course_of None course stands up = absurd (not_none None refl up)
 course_of (Some kept) None stands up = absurd stands
@@ -313,7 +314,8 @@ module _ (old : Publishing) (end : IsConnectorEnd old) (working : old.finished �
     followed = subst (IsAtRest old) runs.1 end.rest
 
     -- a message was received
-    received_moves : (moved : Bool) (new : Publishing) → IsHeard old running.course moved new → (s : Option Kept)
+    received_moves : (moved : Bool) (new : Publishing) → IsHeard old running.course moved new
+        → (s : Option SessionState)
         → old.session ≡ s → IsBegunOrReceived s old moved new
     received_moves moved new is None down = absurd (not_none old.session down up)
     received_moves moved new is (Some kept) there = record {
@@ -358,7 +360,7 @@ module _ (old : Publishing) (end : IsConnectorEnd old) (working : old.finished �
     }
 
   -- the first session has begun
-  first_moves : (new : Publishing) → IsBegun old new → (s : Option Kept) → old.session ≡ s → s ≡ None
+  first_moves : (new : Publishing) → IsBegun old new → (s : Option SessionState) → old.session ≡ s → s ≡ None
       → IsBegunOrReceived s old true new
   first_moves new begun None is down =
       let goes = GoesOn-begun old new begun in
@@ -378,7 +380,7 @@ module _ (old : Publishing) (end : IsConnectorEnd old) (working : old.finished �
 
 module _ (old mid new : Publishing) where
   -- all that follows was sent
-  followed_turn : (s : Option Kept) → 0 < held_number mid.held → IsBegunOrReceived s old true mid
+  followed_turn : (s : Option SessionState) → 0 < held_number mid.held → IsBegunOrReceived s old true mid
       → IsFollowed mid new → IsWorkingTurn s old new
   followed_turn None some is on = record {
     inbox = on.goes_on.inbox ∙ is.inbox;
@@ -407,7 +409,7 @@ module _ (old mid new : Publishing) where
 
 -- nothing followed
 module _ (old new : Publishing) where
-  still_turn : (s : Option Kept) → IsBegunOrReceived s old false new → IsWorkingTurn s old new
+  still_turn : (s : Option SessionState) → IsBegunOrReceived s old false new → IsWorkingTurn s old new
   still_turn None is = is
   still_turn (Some kept) is = record {
     message = is.message;

@@ -6,7 +6,7 @@ use Rattle.cdc_ends.specs.ConnectorMoves.{IsBegun}
 use Rattle.cdc_progress.specs.Records.{Saved}
 use Rattle.cdc_progress.specs.Stores.{Risks}
 use Rattle.cdc_publisher.specs.Courses.{Course, new_course}
-use Rattle.cdc_publisher.specs.Kept.{Kept}
+use Rattle.cdc_publisher.specs.SessionState.{SessionState}
 use Rattle.cdc_publisher.specs.Starts.{HasStarted}
 
 -- what is told of what stands within a connector is told of the connector
@@ -14,7 +14,7 @@ pub begun_entry : (inside now new : Publishing) → inside ≡ now → IsBegun i
 begun_entry inside now new same begun = subst (λ (c : Publishing). IsBegun c new) same begun
 
 -- a session has started: the number after the one that was loaded is held, and no later session is told where to start
-pub begun_so : (old : Publishing) (kept : Kept) (held : Option Saved) (honest : Bool) (risks : Risks)
+pub begun_so : (old : Publishing) (kept : SessionState) (held : Option Saved) (honest : Bool) (risks : Risks)
     (base failed failed' : ℕ)
     → HasStarted (record {
       honest = old.honest;

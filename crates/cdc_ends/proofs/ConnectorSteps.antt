@@ -9,14 +9,14 @@ use Rattle.cdc_ends.specs.ConnectorMoves.{GoesOn, IsBegun, finished_if, publish_
 use Rattle.cdc_ends.proofs.ConnectorMessages.{HasSent-finished, HasSent-packet, HasSent-poll, IsPacket-next, packets-finished, packets-more, to_broker_goes_on, to_ledger_goes_on}
 use Rattle.cdc_laws.specs.Connectors.{ConnectorState, KeepsTo, held_number, held_start}
 use Rattle.cdc_laws.proofs.Connectors.{KeepsTo-sent, KeepsTo-start}
-use Rattle.cdc_laws.proofs.Places.{none_there}
+use Rattle.cdc_laws.proofs.ListElements.{none_there}
 use Rattle.cdc_links.specs.Links.{of_sender, with_sent as with_message}
 use Rattle.cdc_message.specs.declared.packets.Packet.{Packet}
 use Rattle.cdc_progress.specs.Records.{Saved}
 use Rattle.cdc_publisher.specs.Courses.{Course, begun, first_saved, last_session, new_course, next_packet, next_poll, with_sent}
 use Rattle.cdc_publisher.specs.declared.errors.StartError.{StartError}
 use Rattle.cdc_publisher.specs.declared.errors.StartError.TheVariants.{SessionsExhausted}
-use Rattle.cdc_publisher.specs.Kept.{Kept}
+use Rattle.cdc_publisher.specs.SessionState.{SessionState}
 use Rattle.cdc_publisher.specs.Stands.{StandsFor}
 use Rattle.cdc_publisher.specs.declared.session.Poll.{Poll as Wanted}
 use Rattle.cdc_publisher.proofs.Wanted.{IsWanted-now, packets_keep}
@@ -26,13 +26,14 @@ use Rattle.cdc_traffic.specs.declared.messages.ToLedger.TheVariants as to_ledger
 use Rattle.cdc_traffic.specs.declared.polls.Poll.{Poll}
 
 -- the session that runs stands for the course
-pub stands_of : (o : Option Kept) (kept : Kept) (course : Course) → o ≡ Some kept → SessionStands o (Some course)
+pub stands_of : (o : Option SessionState) (kept : SessionState) (course : Course) → o ≡ Some kept
+    → SessionStands o (Some course)
     → StandsFor kept course
-stands_of o kept course is stands = subst (λ (s : Option Kept). SessionStands s (Some course)) is stands
+stands_of o kept course is stands = subst (λ (s : Option SessionState). SessionStands s (Some course)) is stands
 
 -- what is kept of it is there
-pub kept_of : (o : Option Kept) (course : Course) → SessionStands o (Some course)
-    → (kept : Kept) × (o ≡ Some kept) × StandsFor kept course
+pub kept_of : (o : Option SessionState) (course : Course) → SessionStands o (Some course)
+    → (kept : SessionState) × (o ≡ Some kept) × StandsFor kept course
 kept_of None course stands = absurd stands
 kept_of (Some kept) course stands = (kept, refl, stands)
 
@@ -153,7 +154,7 @@ poll_kept course asked poll packet sends is = record {
 
 module _ (c : Publishing) (course : Course) (is : IsPublishing c (Some course)) where
   -- a session that had nothing to send
-  pub IsPublishing-none : (session : Option Kept) → SessionStands session (Some course)
+  pub IsPublishing-none : (session : Option SessionState) → SessionStands session (Some course)
       → IsPublishing (record c { session = session }) (Some course)
   IsPublishing-none session stands = record {
     wired = is.wired;
@@ -199,7 +200,7 @@ module _ (c : Publishing) (course : Course) (is : IsPublishing c (Some course)) 
     }
 
     -- its next packet was sent
-    pub IsPublishing-sent : (session : Option Kept) (packet : Packet) → next_packet course ≡ Some packet
+    pub IsPublishing-sent : (session : Option SessionState) (packet : Packet) → next_packet course ≡ Some packet
         → SessionStands session (Some (with_sent (Some packet) course)) → c.unanswered ≤ c.window
         → IsPublishing (record c {
           session = session;

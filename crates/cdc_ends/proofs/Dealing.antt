@@ -7,7 +7,7 @@ use Rattle.std.proofs.lemmas.List.Elements.{Contains-push, Contains-push_cases, 
 use Rattle.std.proofs.lemmas.List.Sums.{fold-append}
 use Rattle.cdc_broker.specs.Broker.{BrokerState, after_packet, takes_packet}
 use Rattle.cdc_broker.specs.Packets.{is_taken, is_taken_at, items_of}
-use Rattle.cdc_ends.specs.BrokerEnds.{Dealings, Desk, answer_after, answer_to, as_confirm, confirm_of, counted, dealings, is_listed, is_lost, no_dealings, packet_in, packets_in, with_packet}
+use Rattle.cdc_ends.specs.BrokerEnds.{Dealings, BrokerDesk, answer_after, answer_to, as_confirm, confirm_of, counted, dealings, is_listed, is_lost, no_dealings, packet_in, packets_in, with_packet}
 use Rattle.cdc_ends.specs.BrokerTurns.{admitted, answer_if, with_coming, with_counted}
 use Rattle.cdc_ends.specs.declared.broker_plans.BrokerPlan.{BrokerPlan}
 use Rattle.cdc_laws.specs.Arrivals.{taken_after, taken_of}
@@ -112,7 +112,7 @@ taken_confirms_it plan accepted (Publish s t item) taken session tag there is =
 -- ---- one more packet
 
 -- what the broker's end keeps of the packets that it has received
-pub record HasDealt (plan : BrokerPlan) (made : Dealings) (d : Desk) : Type 0 where
+pub record HasDealt (plan : BrokerPlan) (made : Dealings) (d : BrokerDesk) : Type 0 where
   pub planned : d.plan ≡ plan
   pub arrived : HasArrived d.broker made.arrived made.confirms
   pub confirmed : d.confirms.sent ≡ map as_confirm made.confirms
@@ -127,7 +127,7 @@ confirms_push sent confirms confirm is =
     ap (λ (l : List (ToConnector × Option Past)). l ++ as_confirm confirm ∷ []) is
     ∙ sym (map-append as_confirm confirms (confirm ∷ []))
 
-module _ (made : Dealings) (d : Desk) (has : HasDealt d.plan made d) (packet : Packet) where
+module _ (made : Dealings) (d : BrokerDesk) (has : HasDealt d.plan made d) (packet : Packet) where
   -- the broker takes what its packets say
   takes_is : takes_packet d.broker packet ≡ is_taken (taken_of made.arrived) packet
   takes_is =
@@ -167,9 +167,9 @@ module _ (made : Dealings) (d : Desk) (has : HasDealt d.plan made d) (packet : P
     confirms = made.confirms ++ confirm_of packet answer ∷ [];
   }
 
-  abbrev desk_after : Bool → Desk
+  abbrev desk_after : Bool → BrokerDesk
   desk_after takes =
-      let mid : Desk = admitted takes packet (with_counted packet d) in
+      let mid : BrokerDesk = admitted takes packet (with_counted packet d) in
       record mid {
         confirms = record mid.confirms {
           sent = mid.confirms.sent ++ as_confirm (confirm_of packet (answer_if takes packet d)) ∷ [];

@@ -11,13 +11,13 @@ use Rattle.cdc_broker.specs.Broker.{empty_broker, nobody, queue_of}
 use Rattle.cdc_broker.specs.Packets.{items_of}
 use Rattle.cdc_broker.specs.Queues.{QueueState, empty_queue, next_delivery}
 use Rattle.cdc_ends.specs.BrokerDesks.{HasHeard, MayStop}
-use Rattle.cdc_ends.specs.BrokerEnds.{Dealings, Desk, IsBrokerEnd, IsDesk, IsServed, IsWhole, acks_at, as_confirm, dealings, is_over, no_dealings, packets_in}
+use Rattle.cdc_ends.specs.BrokerEnds.{Dealings, BrokerDesk, IsBrokerEnd, IsBrokerDesk, IsConsumerServed, IsWhole, acks_at, as_confirm, dealings, is_over, no_dealings, packets_in}
 use Rattle.cdc_ends.specs.BrokerTurns.{HasTurned, IsFreshLink, all_served, first_consumer, first_desk, heard, stopped, stopped_if, with_stop}
 use Rattle.cdc_ends.specs.declared.broker_plans.BrokerPlan.{BrokerPlan}
 use Rattle.cdc_ends.specs.declared.consumers.Consumer.{Consumer}
 use Rattle.cdc_ends.proofs.Hearing.{GoesOn, GoesOn-heard, IsServedTo, IsServedTo-first, IsServedTo-next, served_one}
-use Rattle.cdc_ends.proofs.Places.{HoldsOfAll, HoldsOfAll-consumers, slice_get_made}
-use Rattle.cdc_ends.proofs.Serving.{IsServed-first, IsServed-stop, MayStop-served, deliveries_in-stop, whole_queue}
+use Rattle.cdc_ends.proofs.ConsumerPlaces.{HoldsOfAll, HoldsOfAll-consumers, slice_get_made}
+use Rattle.cdc_ends.proofs.Serving.{IsConsumerServed-first, IsConsumerServed-stop, MayStop-served, deliveries_in-stop, whole_queue}
 use Rattle.cdc_laws.specs.Arrivals.{taken_of}
 use Rattle.cdc_laws.specs.Brokers.{HasArrived}
 use Rattle.cdc_laws.proofs.Brokers.{HasArrived-nil}
@@ -51,7 +51,7 @@ passes_at test (y ∷ xs) (suc k) x all found =
 -- ---- a turn ends
 
 -- each subscriber may be sent its last message
-pub may_stop : (d : Desk) → IsDesk d → d.finished ≡ false → All MayStop d.consumers
+pub may_stop : (d : BrokerDesk) → IsBrokerDesk d → d.finished ≡ false → All MayStop d.consumers
 may_stop d is goes k x below =
     let c : Consumer = get_or d.consumers k x in
     let found : slice_get d.consumers k ≡ Some c = slice_get-get_or d.consumers k x below in
@@ -61,7 +61,7 @@ may_stop d is goes k x below =
 abbrev has_none : Consumer → Bool
 has_none c = c.unacked == 0
 
-module _ (d : Desk) (count : ℕ) (so_far : IsServedTo count count d) where
+module _ (d : BrokerDesk) (count : ℕ) (so_far : IsServedTo count count d) where
   -- each queue is handed out as far as may be
   eager_all : HoldsOfAll (λ k q c. c.unacked < d.prefetch → next_delivery q ≡ None) d.broker d.consumers
   eager_all k c found few =
@@ -81,9 +81,9 @@ module _ (d : Desk) (count : ℕ) (so_far : IsServedTo count count d) where
   -- all is over
   over : is_over d ≡ true → IsBrokerEnd (record d { consumers = map with_stop d.consumers; finished = true })
   over is =
-      let new : Desk = record d { consumers = map with_stop d.consumers; finished = true } in
+      let new : BrokerDesk = record d { consumers = map with_stop d.consumers; finished = true } in
       let both = both_of d.connector_done (list_all has_none d.consumers) is in
-      let desk : IsDesk d = so_far.desk in
+      let desk : IsBrokerDesk d = so_far.desk in
       let eager : HoldsOfAll (λ k q c. c.unacked < d.prefetch → next_delivery q ≡ None) d.broker new.consumers =
       HoldsOfAll-consumers (λ k q c. c.unacked < d.prefetch → next_delivery q ≡ None)
       (λ k q c. c.unacked < d.prefetch → next_delivery q ≡ None) d.broker d.consumers with_stop eager_all
@@ -100,10 +100,10 @@ module _ (d : Desk) (count : ℕ) (so_far : IsServedTo count count d) where
           publishes = desk.publishes;
           accepted = desk.accepted;
           connector = desk.connector;
-          served = HoldsOfAll-consumers (λ k q c. IsServed false d.prefetch (acks_at d k) q c)
-              (λ k q c. IsServed true d.prefetch (acks_at d k) q c) d.broker d.consumers with_stop
+          served = HoldsOfAll-consumers (λ k q c. IsConsumerServed false d.prefetch (acks_at d k) q c)
+              (λ k q c. IsConsumerServed true d.prefetch (acks_at d k) q c) d.broker d.consumers with_stop
               (λ k c found. served_one d desk so_far.goes_on k c found)
-              (λ k q c one. IsServed-stop d.prefetch (acks_at d k) q c one);
+              (λ k q c one. IsConsumerServed-stop d.prefetch (acks_at d k) q c one);
         };
         eager = eager;
         over = sym (ap₂ (λ (a b : Bool). a && b) both.0 (list_all-map has_none with_stop d.consumers ∙ both.1));
@@ -114,7 +114,7 @@ module _ (d : Desk) (count : ℕ) (so_far : IsServedTo count count d) where
             eqb-true x.unacked 0 (passes_at has_none d.consumers k x both.1 made.1.0) in
             let none : next_delivery (queue_of d.broker (k + 1)) ≡ None =
             eager_all k x made.1.0 (omega (arith, zero_copies, desk.some)) in
-            let one : IsServed false d.prefetch (acks_at d k) (queue_of d.broker (k + 1)) x =
+            let one : IsConsumerServed false d.prefetch (acks_at d k) (queue_of d.broker (k + 1)) x =
             served_one d desk so_far.goes_on k x made.1.0 in
             subst (IsWhole (acks_at d k) (queue_of d.broker (k + 1))) made.1.1
             (record {
@@ -135,14 +135,14 @@ module _ (d : Desk) (count : ℕ) (so_far : IsServedTo count count d) where
 -- ---- a whole turn
 
 -- the first so many queues are served
-pub served_first : (count n : ℕ) (d : Desk) → GoesOn count d → n ≤ count → IsServedTo count n (all_served n d)
+pub served_first : (count n : ℕ) (d : BrokerDesk) → GoesOn count d → n ≤ count → IsServedTo count n (all_served n d)
 served_first count zero d goes below =
     subst (λ (k : ℕ). IsServedTo k 0 d) goes.many (IsServedTo-first d goes.desk goes.goes_on)
 served_first count (suc n) d goes below =
     IsServedTo-next count n (all_served n d) (served_first count n d goes (omega (arith, below))) (omega (arith, below))
 
 -- all of them are, where something came
-pub served_all : (old new : Desk) → IsDesk old → old.finished ≡ false → HasHeard old new
+pub served_all : (old new : BrokerDesk) → IsBrokerDesk old → old.finished ≡ false → HasHeard old new
     → IsServedTo (length old.consumers) (length old.consumers) (all_served (length new.consumers) new)
 served_all old new is goes came =
     let on : GoesOn (length old.consumers) new = GoesOn-heard old new is goes came in
@@ -150,7 +150,7 @@ served_all old new is goes came =
     (served_first (length old.consumers) (length old.consumers) new on (omega arith))
 
 -- so an end that has turned is one
-pub turned_is : (old new : Desk) → IsBrokerEnd old → old.finished ≡ false → HasTurned old new → IsBrokerEnd new
+pub turned_is : (old new : BrokerDesk) → IsBrokerEnd old → old.finished ≡ false → HasTurned old new → IsBrokerEnd new
 turned_is old new is goes has =
     let came : HasHeard old (heard has.entry old) =
     record { entry = has.entry; sender = has.sender; follows = has.follows; due = has.due; after = refl } in
@@ -213,7 +213,7 @@ IsBrokerEnd-first inbox confirms links bindings plan prefetch fresh senders own 
     none = ap (λ (l : List (ℕ × (ToBroker × Unit {0}))). dealings plan (packets_in (of_sender 0 l))) fresh
 
     served : (k : ℕ) (c : Consumer) → slice_get (map first_consumer links) k ≡ Some c
-        → IsServed false prefetch (length (of_sender (k + 1) inbox.received))
+        → IsConsumerServed false prefetch (length (of_sender (k + 1) inbox.received))
         (queue_of (empty_broker bindings) (k + 1)) c
     served k c found =
         let made = slice_get_made first_consumer links k c found in
@@ -223,7 +223,8 @@ IsBrokerEnd-first inbox confirms links bindings plan prefetch fresh senders own 
         let is : IsFreshLink link =
         subst IsFreshLink (get_or_from_slice_get links k link link made.1.0) (fresh_links k link inside) in
         subst (λ (l : List (ℕ × (ToBroker × Unit {0}))).
-        IsServed false prefetch (length (of_sender (k + 1) l)) (queue_of (empty_broker bindings) (k + 1)) c) (sym fresh)
-        (subst (λ (q : QueueState). IsServed false prefetch 0 q c) (sym at.1)
-        (subst (IsServed false prefetch 0 (empty_queue at.0)) made.1.1
-        (IsServed-first prefetch at.0 link is.0 is.1)))
+        IsConsumerServed false prefetch (length (of_sender (k + 1) l)) (queue_of (empty_broker bindings) (k + 1)) c)
+        (sym fresh)
+        (subst (λ (q : QueueState). IsConsumerServed false prefetch 0 q c) (sym at.1)
+        (subst (IsConsumerServed false prefetch 0 (empty_queue at.0)) made.1.1
+        (IsConsumerServed-first prefetch at.0 link is.0 is.1)))

@@ -6,12 +6,12 @@ use Rattle.std.proofs.lemmas.Option.{slice_get_within}
 use Rattle.cdc_broker.specs.Broker.{BrokerState, after_packet, queue_of, takes_packet}
 use Rattle.cdc_broker.specs.Queues.{QueueState, acknowledged, is_unknown, next_delivery, queued}
 use Rattle.cdc_ends.specs.BrokerDesks.{HasBecome, HasHeard, MayHandOut}
-use Rattle.cdc_ends.specs.BrokerEnds.{Dealings, Desk, IsDesk, IsServed, acks_at, dealings, dealings_of, is_lost, packets_in, with_packet}
+use Rattle.cdc_ends.specs.BrokerEnds.{Dealings, BrokerDesk, IsBrokerDesk, IsConsumerServed, acks_at, dealings, dealings_of, is_lost, packets_in, with_packet}
 use Rattle.cdc_ends.specs.BrokerTurns.{IsDue, Lane, MayAck, acked_if, coming_if, handed_out, heard, lane_of, served_if, with_ack, with_coming, with_counted, with_lane, with_one_fewer, with_served}
 use Rattle.cdc_ends.specs.declared.consumers.Consumer.{Consumer}
 use Rattle.cdc_ends.proofs.Dealing.{HasDealt, HasDealt-packet, dealings-push, packets_in-push}
-use Rattle.cdc_ends.proofs.Places.{HoldsOfAll, HoldsOfAll-queues, HoldsOfAll-set, has_ended-push, slice_get_some}
-use Rattle.cdc_ends.proofs.Serving.{HasArrived-queue, HasSameItems, IsServed-ack, IsServed-handed_out, IsServed-queued, MayHandOut-served, handed_out-all, same_handed_out}
+use Rattle.cdc_ends.proofs.ConsumerPlaces.{HoldsOfAll, HoldsOfAll-queues, HoldsOfAll-set, has_ended-push, slice_get_some}
+use Rattle.cdc_ends.proofs.Serving.{HasArrived-queue, HasSameItems, IsConsumerServed-ack, IsConsumerServed-handed_out, IsConsumerServed-queued, MayHandOut-served, handed_out-all, same_handed_out}
 use Rattle.cdc_links.specs.Links.{of_sender, with_received}
 use Rattle.cdc_links.proofs.Entries.{of_sender-snoc_other, of_sender-snoc_own}
 use Rattle.cdc_message.specs.declared.packets.Packet.{Packet}
@@ -22,7 +22,7 @@ use Rattle.cdc_traffic.specs.declared.messages.ToBroker.{ToBroker}
 use Rattle.cdc_traffic.specs.declared.messages.ToBroker.TheVariants as to_broker
 
 -- what a desk has made of its packets
-dealt : (d : Desk) → IsDesk d → HasDealt d.plan (dealings_of d) d
+dealt : (d : BrokerDesk) → IsBrokerDesk d → HasDealt d.plan (dealings_of d) d
 dealt d is = record {
   planned = refl;
   arrived = is.arrived;
@@ -33,13 +33,14 @@ dealt d is = record {
 
 -- ---- one queue and its subscriber change
 
-pub IsDesk-lane : (d : Desk) (place : ℕ) (lane : Lane) → IsDesk d → place < length d.consumers
+pub IsBrokerDesk-lane : (d : BrokerDesk) (place : ℕ) (lane : Lane) → IsBrokerDesk d → place < length d.consumers
     → HasSameItems (queue_of d.broker (place + 1)) lane.queue
-    → IsServed d.finished d.prefetch (acks_at d place) lane.queue lane.consumer → IsDesk (with_lane place lane d)
-IsDesk-lane d place lane is inside same one =
+    → IsConsumerServed d.finished d.prefetch (acks_at d place) lane.queue lane.consumer
+    → IsBrokerDesk (with_lane place lane d)
+IsBrokerDesk-lane d place lane is inside same one =
     let queued : place < length d.broker.queues = omega (arith, is.queues) in
     let queued' : place + 1 - 1 < length d.broker.queues = omega (arith, queued) in
-    let P : ℕ → QueueState → Consumer → Type 0 = λ k q c. IsServed d.finished d.prefetch (acks_at d k) q c in
+    let P : ℕ → QueueState → Consumer → Type 0 = λ k q c. IsConsumerServed d.finished d.prefetch (acks_at d k) q c in
     let many : length (slice_set d.consumers place lane.consumer) ≡ length d.consumers =
     length-set d.consumers place lane.consumer in
     let queues : length (slice_set d.broker.queues (place + 1 - 1) lane.queue) ≡ length d.broker.queues =
@@ -63,22 +64,23 @@ IsDesk-lane d place lane is inside same one =
 -- ---- the queues hand out
 
 -- the first so many queues have handed out what they may
-pub record IsServedTo (count n : ℕ) (d : Desk) : Type 0 where
-  pub desk : IsDesk d
+pub record IsServedTo (count n : ℕ) (d : BrokerDesk) : Type 0 where
+  pub desk : IsBrokerDesk d
   pub goes_on : d.finished ≡ false
   pub many : length d.consumers ≡ count
   pub eager : HoldsOfAll (λ k q c. k < n → c.unacked < d.prefetch → next_delivery q ≡ None) d.broker d.consumers
 
 -- none of them
-pub IsServedTo-first : (d : Desk) → IsDesk d → d.finished ≡ false → IsServedTo (length d.consumers) 0 d
+pub IsServedTo-first : (d : BrokerDesk) → IsBrokerDesk d → d.finished ≡ false → IsServedTo (length d.consumers) 0 d
 IsServedTo-first d is goes =
     record { desk = is; goes_on = goes; many = refl; eager = λ k c found below. absurd (omega (arith, below)) }
 
-module _ (d : Desk) (is : IsDesk d) (goes : d.finished ≡ false) (place : ℕ) (c : Consumer)
+module _ (d : BrokerDesk) (is : IsBrokerDesk d) (goes : d.finished ≡ false) (place : ℕ) (c : Consumer)
     (found : slice_get d.consumers place ≡ Some c) where
   -- what was sent to one of the subscribers
-  pub served_one : IsServed false d.prefetch (acks_at d place) (queue_of d.broker (place + 1)) c
-  served_one = subst (λ (b : Bool). IsServed b d.prefetch (acks_at d place) (queue_of d.broker (place + 1)) c) goes
+  pub served_one : IsConsumerServed false d.prefetch (acks_at d place) (queue_of d.broker (place + 1)) c
+  served_one = subst (λ (b : Bool). IsConsumerServed b d.prefetch (acks_at d place) (queue_of d.broker (place + 1)) c)
+      goes
       (is.served place c found)
 
   -- its queue may hand out
@@ -88,9 +90,9 @@ module _ (d : Desk) (is : IsDesk d) (goes : d.finished ≡ false) (place : ℕ) 
   abbrev lane_after : Lane
   lane_after = handed_out d.plan.repeat.items (place + 1) (d.prefetch - c.unacked) (lane_of d.broker (place + 1) c)
 
-  one_after : IsServed false d.prefetch (acks_at d place) lane_after.queue lane_after.consumer
+  one_after : IsConsumerServed false d.prefetch (acks_at d place) lane_after.queue lane_after.consumer
   one_after =
-      IsServed-handed_out d.prefetch (acks_at d place) d.plan.repeat.items (place + 1) (d.prefetch - c.unacked)
+      IsConsumerServed-handed_out d.prefetch (acks_at d place) d.plan.repeat.items (place + 1) (d.prefetch - c.unacked)
       (lane_of d.broker (place + 1) c) (omega (arith, served_one.at_most)) served_one
 
   inside : place < length d.consumers
@@ -106,10 +108,11 @@ module _ (d : Desk) (is : IsDesk d) (goes : d.finished ≡ false) (place : ℕ) 
         | inr none ↦ none
       ]
 
-  desk_after : IsDesk (with_lane place lane_after d)
-  desk_after = IsDesk-lane d place lane_after is inside
+  desk_after : IsBrokerDesk (with_lane place lane_after d)
+  desk_after = IsBrokerDesk-lane d place lane_after is inside
       (same_handed_out d.plan.repeat.items (place + 1) (d.prefetch - c.unacked) (lane_of d.broker (place + 1) c))
-      (subst (λ (b : Bool). IsServed b d.prefetch (acks_at d place) lane_after.queue lane_after.consumer) (sym goes)
+      (subst (λ (b : Bool). IsConsumerServed b d.prefetch (acks_at d place) lane_after.queue lane_after.consumer)
+      (sym goes)
       one_after)
 
   -- so one more queue is
@@ -134,7 +137,7 @@ module _ (d : Desk) (is : IsDesk d) (goes : d.finished ≡ false) (place : ℕ) 
       below_other k other below = omega (arith, below, other)
 
 -- one more queue
-pub IsServedTo-next : (count n : ℕ) (d : Desk) → IsServedTo count n d → n < count
+pub IsServedTo-next : (count n : ℕ) (d : BrokerDesk) → IsServedTo count n d → n < count
     → IsServedTo count (suc n) (with_served n d)
 IsServedTo-next count n d so_far below =
     let there = slice_get_some d.consumers n (omega (arith, so_far.many, below)) in
@@ -142,7 +145,7 @@ IsServedTo-next count n d so_far below =
     (served_after d so_far.desk so_far.goes_on n there.0 there.1 count so_far)
 
 -- a queue that has handed out what it may, and its subscriber, stand in their places
-pub served_so : (d : Desk) (repeats : List (ℕ × ℕ)) (place : ℕ) (c after : Consumer) (b : BrokerState)
+pub served_so : (d : BrokerDesk) (repeats : List (ℕ × ℕ)) (place : ℕ) (c after : Consumer) (b : BrokerState)
     → repeats ≡ d.plan.repeat.items → slice_get d.consumers place ≡ Some c
     → HasBecome (place + 1)
     (handed_out repeats (place + 1) (d.prefetch - c.unacked) (lane_of d.broker (place + 1) c)) d.broker b after
@@ -157,24 +160,24 @@ served_so d repeats place c after b same found became =
 -- ---- a message comes
 
 -- it is received, and isn't of a subscriber
-abbrev after_entry : Desk → ℕ × (ToBroker × Unit {0}) → Desk
+abbrev after_entry : BrokerDesk → ℕ × (ToBroker × Unit {0}) → BrokerDesk
 after_entry d entry = record d { inbox = with_received d.inbox entry }
 
 -- the acknowledgements of others are as many
-acks_other : (d : Desk) (entry : ℕ × (ToBroker × Unit {0})) (k : ℕ) → (entry.0 ≡ k + 1 → ⊥)
+acks_other : (d : BrokerDesk) (entry : ℕ × (ToBroker × Unit {0})) (k : ℕ) → (entry.0 ≡ k + 1 → ⊥)
     → acks_at (after_entry d entry) k ≡ acks_at d k
 acks_other d entry k other =
     ap (λ (l : List (ToBroker × Unit {0})). length l) (of_sender-snoc_other (k + 1) entry d.inbox.received other)
 
 -- what was sent to the subscribers, where no acknowledgement came
-served_same : (d : Desk) (entry : ℕ × (ToBroker × Unit {0})) (k : ℕ) (q : QueueState) (c : Consumer) → entry.0 ≡ 0
-    → IsServed d.finished d.prefetch (acks_at d k) q c
-    → IsServed d.finished d.prefetch (acks_at (after_entry d entry) k) q c
+served_same : (d : BrokerDesk) (entry : ℕ × (ToBroker × Unit {0})) (k : ℕ) (q : QueueState) (c : Consumer) → entry.0 ≡ 0
+    → IsConsumerServed d.finished d.prefetch (acks_at d k) q c
+    → IsConsumerServed d.finished d.prefetch (acks_at (after_entry d entry) k) q c
 served_same d entry k q c own one =
-    subst (λ (n : ℕ). IsServed d.finished d.prefetch n q c)
+    subst (λ (n : ℕ). IsConsumerServed d.finished d.prefetch n q c)
     (sym (acks_other d entry k (λ e. absurd (omega (arith, own, e))))) one
 
-module _ (d : Desk) (is : IsDesk d) (name : Unit {0}) where
+module _ (d : BrokerDesk) (is : IsBrokerDesk d) (name : Unit {0}) where
   -- ---- the connector is done
   abbrev finish : ℕ × (ToBroker × Unit {0})
   finish = (0, (to_broker.Finish, name))
@@ -197,9 +200,9 @@ module _ (d : Desk) (is : IsDesk d) (name : Unit {0}) where
   or_false true = refl
   or_false false = refl
 
-  pub IsDesk-finish : IsDesk (record (after_entry d finish) { connector_done = true })
-  IsDesk-finish =
-      let new : Desk = record (after_entry d finish) { connector_done = true } in
+  pub IsBrokerDesk-finish : IsBrokerDesk (record (after_entry d finish) { connector_done = true })
+  IsBrokerDesk-finish =
+      let new : BrokerDesk = record (after_entry d finish) { connector_done = true } in
       let same : dealings_of d ≡ dealings_of new = ap (dealings d.plan) (sym packets_finish) in
       let made : HasDealt d.plan (dealings_of new) d =
       subst (λ (x : Dealings). HasDealt d.plan x d) same (dealt d is) in
@@ -246,22 +249,22 @@ module _ (d : Desk) (is : IsDesk d) (name : Unit {0}) where
     queues_after (Publish session tag item) = length-map d.broker.queues (queued item) ∙ is.queues
 
     served_after_packet : (p : Packet)
-        → HoldsOfAll (λ k q c. IsServed d.finished d.prefetch (acks_at (after_entry d entry_of) k) q c)
+        → HoldsOfAll (λ k q c. IsConsumerServed d.finished d.prefetch (acks_at (after_entry d entry_of) k) q c)
         (after_packet d.broker p) d.consumers
     served_after_packet (Connect session) =
         λ k c found. served_same d entry_of k (queue_of d.broker (k + 1)) c refl (is.served k c found)
     served_after_packet (Publish session tag item) =
-        HoldsOfAll-queues (λ k q c. IsServed d.finished d.prefetch (acks_at d k) q c)
-        (λ k q c. IsServed d.finished d.prefetch (acks_at (after_entry d entry_of) k) q c) d.broker
+        HoldsOfAll-queues (λ k q c. IsConsumerServed d.finished d.prefetch (acks_at d k) q c)
+        (λ k q c. IsConsumerServed d.finished d.prefetch (acks_at (after_entry d entry_of) k) q c) d.broker
         (after_packet d.broker (Publish session tag item)) d.consumers (queued item) refl is.queues is.served
         (λ k q c one. served_same d entry_of k (queued item q) c refl
-        (IsServed-queued d.prefetch (acks_at d k) d.finished q c item one))
+        (IsConsumerServed-queued d.prefetch (acks_at d k) d.finished q c item one))
 
     -- what was dealt with
     from_dealt : (lost takes : Bool)
         → HasDealt d.plan (dealings_of (after_entry d entry_of))
         (coming_if lost takes packet (with_counted packet (after_entry d entry_of)))
-        → IsDesk (coming_if lost takes packet (with_counted packet (after_entry d entry_of)))
+        → IsBrokerDesk (coming_if lost takes packet (with_counted packet (after_entry d entry_of)))
     from_dealt true takes made = record {
       senders = is.senders;
       own = is.own;
@@ -311,9 +314,9 @@ module _ (d : Desk) (is : IsDesk d) (name : Unit {0}) where
       accepted = is.accepted;
     }
 
-    pub IsDesk-packet : IsDesk (with_coming packet (after_entry d entry_of))
-    IsDesk-packet =
-        let new : Desk = with_coming packet (after_entry d entry_of) in
+    pub IsBrokerDesk-packet : IsBrokerDesk (with_coming packet (after_entry d entry_of))
+    IsBrokerDesk-packet =
+        let new : BrokerDesk = with_coming packet (after_entry d entry_of) in
         let came : HasDealt d.plan (dealings_of (after_entry d entry_of)) new =
         subst (λ (x : Dealings). HasDealt d.plan x new) (sym made_packet)
         (HasDealt-packet (dealings_of d) (after_entry d entry_of) before packet) in
@@ -355,18 +358,19 @@ module _ (d : Desk) (is : IsDesk d) (name : Unit {0}) where
       known =
           subst (λ (n : ℕ). is_unknown (queue_of d.broker n) ack.position ≡ false) (own ∙ sym at) due.0
 
-      acked_one : IsServed d.finished d.prefetch (acks_at (after_entry d ack_entry) place) acked_queue
+      acked_one : IsConsumerServed d.finished d.prefetch (acks_at (after_entry d ack_entry) place) acked_queue
           (with_one_fewer c)
       acked_one =
-          subst (λ (n : ℕ). IsServed d.finished d.prefetch n acked_queue (with_one_fewer c)) (sym one_ack)
-          (subst (λ (b : Bool). IsServed b d.prefetch (acks_at d place + 1) acked_queue (with_one_fewer c)) (sym goes)
-          (IsServed-ack d.prefetch (acks_at d place) (queue_of d.broker (place + 1)) c ack.position known
+          subst (λ (n : ℕ). IsConsumerServed d.finished d.prefetch n acked_queue (with_one_fewer c)) (sym one_ack)
+          (subst (λ (b : Bool). IsConsumerServed b d.prefetch (acks_at d place + 1) acked_queue (with_one_fewer c))
+          (sym goes)
+          (IsConsumerServed-ack d.prefetch (acks_at d place) (queue_of d.broker (place + 1)) c ack.position known
           (due.1 c found) (served_one d is goes place c found)))
 
-      acked_desk : IsDesk
+      acked_desk : IsBrokerDesk
           (with_lane place (record { queue = acked_queue; consumer = with_one_fewer c }) (after_entry d ack_entry))
       acked_desk =
-          let new : Desk =
+          let new : BrokerDesk =
           with_lane place (record { queue = acked_queue; consumer = with_one_fewer c }) (after_entry d ack_entry) in
           let queued : place < length d.broker.queues = omega (arith, is.queues, within) in
           let queued' : place + 1 - 1 < length d.broker.queues = omega (arith, queued) in
@@ -388,29 +392,30 @@ module _ (d : Desk) (is : IsDesk d) (name : Unit {0}) where
             publishes = made.publishes;
             accepted = made.accepted;
             connector = is.connector ∙ ap (has_ended ends_to_broker) (sym sent_same);
-            served = HoldsOfAll-set (λ k q x. IsServed d.finished d.prefetch (acks_at d k) q x)
-                (λ k q x. IsServed d.finished d.prefetch (acks_at (after_entry d ack_entry) k) q x) d.broker d.consumers
+            served = HoldsOfAll-set (λ k q x. IsConsumerServed d.finished d.prefetch (acks_at d k) q x)
+                (λ k q x. IsConsumerServed d.finished d.prefetch (acks_at (after_entry d ack_entry) k) q x) d.broker
+                d.consumers
                 place acked_queue (with_one_fewer c) queued within is.served
-                (λ k q x other one. subst (λ (n : ℕ). IsServed d.finished d.prefetch n q x)
+                (λ k q x other one. subst (λ (n : ℕ). IsConsumerServed d.finished d.prefetch n q x)
                 (sym (acks_other d ack_entry k (λ e. other (omega (arith, e, at))))) one)
                 acked_one;
           }
 
-    pub IsDesk-ack : IsDesk (with_ack ack (after_entry d ack_entry))
-    IsDesk-ack =
+    pub IsBrokerDesk-ack : IsBrokerDesk (with_ack ack (after_entry d ack_entry))
+    IsBrokerDesk-ack =
         let there = slice_get_some d.consumers place within in
-        subst (λ (found : Option Consumer). IsDesk (acked_if place ack.position found (after_entry d ack_entry)))
+        subst (λ (found : Option Consumer). IsBrokerDesk (acked_if place ack.position found (after_entry d ack_entry)))
         (sym there.1) (acked_desk there.0 there.1)
 
 -- ---- whatever came
 
 -- the end goes on after it
-pub record GoesOn (count : ℕ) (d : Desk) : Type 0 where
-  pub desk : IsDesk d
+pub record GoesOn (count : ℕ) (d : BrokerDesk) : Type 0 where
+  pub desk : IsBrokerDesk d
   pub goes_on : d.finished ≡ false
   pub many : length d.consumers ≡ count
 
-came_packet : (d : Desk) (packet : Packet) → (with_coming packet d).finished ≡ d.finished
+came_packet : (d : BrokerDesk) (packet : Packet) → (with_coming packet d).finished ≡ d.finished
 came_packet d packet = go (is_lost d.plan d.publishes packet) (takes_packet d.broker packet)
   where
     go : (lost takes : Bool) → (coming_if lost takes packet (with_counted packet d)).finished ≡ d.finished
@@ -418,7 +423,7 @@ came_packet d packet = go (is_lost d.plan d.publishes packet) (takes_packet d.br
     go false true = refl
     go false false = refl
 
-came_consumers : (d : Desk) (packet : Packet) → (with_coming packet d).consumers ≡ d.consumers
+came_consumers : (d : BrokerDesk) (packet : Packet) → (with_coming packet d).consumers ≡ d.consumers
 came_consumers d packet = go (is_lost d.plan d.publishes packet) (takes_packet d.broker packet)
   where
     go : (lost takes : Bool) → (coming_if lost takes packet (with_counted packet d)).consumers ≡ d.consumers
@@ -426,41 +431,41 @@ came_consumers d packet = go (is_lost d.plan d.publishes packet) (takes_packet d
     go false true = refl
     go false false = refl
 
-acked_finished : (d : Desk) (k position : ℕ) (found : Option Consumer)
+acked_finished : (d : BrokerDesk) (k position : ℕ) (found : Option Consumer)
     → (acked_if k position found d).finished ≡ d.finished
 acked_finished d k position None = refl
 acked_finished d k position (Some c) = refl
 
-acked_many : (d : Desk) (k position : ℕ) (found : Option Consumer)
+acked_many : (d : BrokerDesk) (k position : ℕ) (found : Option Consumer)
     → length (acked_if k position found d).consumers ≡ length d.consumers
 acked_many d k position None = refl
 acked_many d k position (Some c) = length-set d.consumers k (with_one_fewer c)
 
-heard_goes_on : (d : Desk) → IsDesk d → d.finished ≡ false → (j : ℕ) (message : ToBroker) (name : Unit {0})
+heard_goes_on : (d : BrokerDesk) → IsBrokerDesk d → d.finished ≡ false → (j : ℕ) (message : ToBroker) (name : Unit {0})
     → j < d.inbox.senders → MaySendBroker j message → IsDue message d
     → GoesOn (length d.consumers) (heard (j, (message, name)) d)
 heard_goes_on d is goes j (to_broker.Packet packet) name sender may due =
     subst (λ (k : ℕ). GoesOn (length d.consumers) (heard (k, (to_broker.Packet packet, name)) d)) (sym may.0)
     (record {
-      desk = IsDesk-packet d is name packet;
+      desk = IsBrokerDesk-packet d is name packet;
       goes_on = came_packet (after_entry d (0, (to_broker.Packet packet, name))) packet ∙ goes;
       many = ap (λ (l : List Consumer). length l)
           (came_consumers (after_entry d (0, (to_broker.Packet packet, name))) packet);
     })
 heard_goes_on d is goes j to_broker.Finish name sender may due =
     subst (λ (k : ℕ). GoesOn (length d.consumers) (heard (k, (to_broker.Finish, name)) d)) (sym may)
-    (record { desk = IsDesk-finish d is name; goes_on = goes; many = refl })
+    (record { desk = IsBrokerDesk-finish d is name; goes_on = goes; many = refl })
 heard_goes_on d is goes j (to_broker.Ack ack) name sender may due =
-    let new : Desk = after_entry d (j, (to_broker.Ack ack, name)) in
+    let new : BrokerDesk = after_entry d (j, (to_broker.Ack ack, name)) in
     let found : Option Consumer = slice_get d.consumers (ack.subscriber - 1) in
     record {
-      desk = IsDesk-ack d is name j ack may.0 may.1 sender goes due;
+      desk = IsBrokerDesk-ack d is name j ack may.0 may.1 sender goes due;
       goes_on = acked_finished new (ack.subscriber - 1) ack.position found ∙ goes;
       many = acked_many new (ack.subscriber - 1) ack.position found;
     }
 
 -- so it does after a message that was heard
-pub GoesOn-heard : (old new : Desk) → IsDesk old → old.finished ≡ false → HasHeard old new
+pub GoesOn-heard : (old new : BrokerDesk) → IsBrokerDesk old → old.finished ≡ false → HasHeard old new
     → GoesOn (length old.consumers) new
 GoesOn-heard old new is goes came =
     subst (GoesOn (length old.consumers)) (sym came.after)

@@ -2,15 +2,15 @@
 use Rattle.std.proofs.Common.{◌≡◌, ◌==◌, ℕ, ◌+◌, ◌-◌, ◌<◌, ◌≤◌, true, false, List, [], ◌∷◌, ◌++◌, inl, inr, refl, sym, ap, ◌∙◌, subst, length, append-nil, ne_eqb, arith}
 use Rattle.std.specs.Prelude.{◌⊎◌, is_some, IfErr, OnErr, Option, Result, Ok, Err}
 use Rattle.cdc_ends.specs.Faults.{IsTurnFault}
-use Rattle.cdc_ends.specs.LedgerEnds.{Desk, IsBooked, IsDesk, clients_left, order_of, past_of_inbox}
+use Rattle.cdc_ends.specs.LedgerEnds.{LedgerDesk, IsBooked, IsLedgerDesk, clients_left, order_of, past_of_inbox}
 use Rattle.cdc_ends.specs.LedgerSoFar.{AnswersSoFar, ComesSoFar, IsLedgerSoFar, IsUntaken, LedgersComeSoFar, TakesSoFar}
 use Rattle.cdc_ends.specs.LedgerSteps.{IsNext, IsTaken}
 use Rattle.cdc_ends.specs.Orders.{past_of}
 use Rattle.cdc_ends.specs.declared.faults.RunFault.{RunFault}
 use Rattle.cdc_ends.specs.declared.faults.RunFault.TheVariants.{PeerGone, OutOfMemory, Store, SessionsExhausted, NotOneSystem, StartNotAllowed}
-use Rattle.cdc_ends.proofs.Booked.{left_before, past_before, past_with}
+use Rattle.cdc_ends.proofs.LedgerDesks.{left_before, past_before, past_with}
 use Rattle.cdc_ends.proofs.Receipts.{done_same, left_same, order_push}
-use Rattle.cdc_ends.proofs.Said.{past_push}
+use Rattle.cdc_ends.proofs.ClientReplies.{past_push}
 use Rattle.cdc_ledger.specs.History.{History}
 use Rattle.cdc_links.specs.Links.{Incoming, Outgoing, of_sender, with_received}
 use Rattle.cdc_traffic.specs.Following.{FollowsToLedger, ends_to_ledger, last_named}
@@ -28,14 +28,14 @@ use Rattle.cdc_types.specs.declared.batches.Batch.{Batch}
 -- ---- where all is booked
 
 -- the past that the inbox makes, told by how many clients the end knows to be left
-past_left : (d : Desk) → IsBooked d
+past_left : (d : LedgerDesk) → IsBooked d
     → past_of_inbox d.inbox ≡ past_with (order_of d.inbox.received) (d.clients_left == 0)
 past_left d is =
     let count : d.inbox.senders - 1 ≡ length d.clients = omega (arith, is.senders) in
     ap (λ (n : ℕ). past_with (order_of d.inbox.received) (n == 0))
     (ap (λ (n : ℕ). clients_left n d.inbox.received) count ∙ sym is.left)
 
-booked_so_far : (d : Desk) → IsBooked d → IsLedgerSoFar d
+booked_so_far : (d : LedgerDesk) → IsBooked d → IsLedgerSoFar d
 booked_so_far d is = record {
   senders = is.senders;
   submitted = order_of d.inbox.received;
@@ -57,7 +57,8 @@ booked_so_far d is = record {
 
 -- ---- where a message wasn't taken
 
-module _ (d : Desk) (is : IsBooked d) (sender : ℕ) (message : ToLedger) (goes_on : ends_to_ledger message ≡ false) where
+module _ (d : LedgerDesk) (is : IsBooked d) (sender : ℕ) (message : ToLedger)
+    (goes_on : ends_to_ledger message ≡ false) where
   abbrev brought : Incoming ToLedger (Unit {0})
   brought = with_received d.inbox (sender, (message, tt))
 
@@ -97,7 +98,7 @@ module _ (d : Desk) (is : IsBooked d) (sender : ℕ) (message : ToLedger) (goes_
       (subst (Continues (last_named d.connector.sent)) (past_left d is) is.named)
 
 -- a request's was, and its client wasn't replied to
-submitted_so_far : (d : Desk) → IsBooked d → (sender : ℕ) (request : Request) → sender < d.inbox.senders
+submitted_so_far : (d : LedgerDesk) → IsBooked d → (sender : ℕ) (request : Request) → sender < d.inbox.senders
     → FollowsToLedger sender (of_sender sender d.inbox.received) (to_ledger.Request request, tt) → (ledger : History)
     → ledger ≡ history_of (past_of (order_of d.inbox.received ++ (request.client, request.batch) ∷ []))
     → IsLedgerSoFar (record d {
@@ -125,7 +126,7 @@ submitted_so_far d is sender request below follows ledger history =
     (subst (Continues (last_named d.connector.sent)) past
     (Continues-trans (last_named d.connector.sent) (past_of_inbox d.inbox) (past_of more) is.named on))
 
-module _ (old : Desk) (is : IsBooked old) (fault : RunFault) (new : Desk) (sender : ℕ) where
+module _ (old : LedgerDesk) (is : IsBooked old) (fault : RunFault) (new : LedgerDesk) (sender : ℕ) where
   -- what holds of the inbox with the message holds of it as it is
   at_inbox : (message : ToLedger) → new.inbox ≡ with_received old.inbox (sender, (message, tt))
       → new ≡ record old { inbox = new.inbox; ledger = new.ledger }
@@ -165,14 +166,15 @@ module _ (old : Desk) (is : IsBooked old) (fault : RunFault) (new : Desk) (sende
       at_inbox (to_ledger.Request request) received after (request_so_far request below follows fault answers)
   untaken_so_far (to_ledger.Done number) below follows received takes = absurd takes
   untaken_so_far (to_ledger.Poll poll) below follows received (some, its, after) =
-      let same : new.ledger ≡ old.ledger = ap (λ (d : Desk). d.ledger) after in
+      let same : new.ledger ≡ old.ledger = ap (λ (d : LedgerDesk). d.ledger) after in
       at_inbox (to_ledger.Poll poll) received
       (after ∙ ap (λ (h : History). record old { inbox = new.inbox; ledger = h }) (sym same))
       (unsubmitted_so_far old is sender (to_ledger.Poll poll) refl [] (omega arith)
       (order_push old.inbox.received sender (to_ledger.Poll poll)) new.ledger same)
   untaken_so_far to_ledger.Finish below follows received takes = absurd takes
 
-comes_so_far : (old : Desk) (fault : RunFault) (new : Desk) → IsDesk old → ComesSoFar old fault new → IsLedgerSoFar new
+comes_so_far : (old : LedgerDesk) (fault : RunFault) (new : LedgerDesk) → IsLedgerDesk old → ComesSoFar old fault new
+    → IsLedgerSoFar new
 comes_so_far old fault new is (inl (gone, same)) = subst IsLedgerSoFar (sym same) (booked_so_far old is.booked)
 comes_so_far old fault new is (inr (inl untaken)) =
     untaken_so_far old is.booked fault new untaken.sender untaken.message untaken.below untaken.follows untaken.inbox
@@ -186,7 +188,7 @@ ledgers_come_so_far = record {
 }
 
 -- a message was taken, and the poll that is asked then couldn't be replied to
-pub looked_failed : {A : Type 0} (old mid new : Desk) (result : Result A RunFault) → IsTaken old mid
+pub looked_failed : {A : Type 0} (old mid new : LedgerDesk) (result : Result A RunFault) → IsTaken old mid
     → OnErr result (new ≡ mid) → OnErr result (is_some mid.kept ≡ true) → IfErr result IsTurnFault
     → IfErr result (λ fault. ComesSoFar old fault new)
 looked_failed old mid new (Ok x) taken same some kind = tt
@@ -195,12 +197,12 @@ looked_failed old mid new (Err fault) taken same some kind =
 
 -- ---- what stands within the ledger's end
 
-pub unheard_so : (inside now : Desk) (inbox : Incoming ToLedger (Unit {0})) → inside ≡ now → inbox ≡ inside.inbox
+pub unheard_so : (inside now : LedgerDesk) (inbox : Incoming ToLedger (Unit {0})) → inside ≡ now → inbox ≡ inside.inbox
     → record inside { inbox = inbox } ≡ now
 unheard_so inside now inbox same is = (λ i. record inside { inbox = is i }) ∙ same
 
 -- a request couldn't be replied to
-pub request_failed : {A : Type 0} (d now : Desk) → d ≡ now → (request : Request)
+pub request_failed : {A : Type 0} (d now : LedgerDesk) → d ≡ now → (request : Request)
     (inbox : Incoming ToLedger (Unit {0})) → IsNext d.inbox (to_ledger.Request request) inbox
     → (order : List (ℕ × Batch)) → order ≡ order_of d.inbox.received → (clients : List (Outgoing Reply Past))
     → (ledger : History) (result : Result A RunFault)
@@ -212,7 +214,8 @@ pub request_failed : {A : Type 0} (d now : Desk) → d ≡ now → (request : Re
     ⊎ IsUntaken now fault (record d { inbox = inbox; clients = clients; ledger = ledger }))
 request_failed d now same request inbox next order is clients ledger (Ok x) answers untold = tt
 request_failed d now same request inbox next order is clients ledger (Err fault) answers untold =
-    inr (subst (λ (s : Desk). IsUntaken s fault (record d { inbox = inbox; clients = clients; ledger = ledger })) same
+    inr (subst (λ (s : LedgerDesk). IsUntaken s fault (record d { inbox = inbox; clients = clients; ledger = ledger }))
+    same
     (record {
       sender = next.sender;
       message = to_ledger.Request request;
@@ -227,12 +230,12 @@ request_failed d now same request inbox next order is clients ledger (Err fault)
     }))
 
 -- nor a poll that was kept
-pub poll_failed : (d now : Desk) → d ≡ now → (poll : Poll) (inbox : Incoming ToLedger (Unit {0}))
+pub poll_failed : (d now : LedgerDesk) → d ≡ now → (poll : Poll) (inbox : Incoming ToLedger (Unit {0}))
     → IsNext d.inbox (to_ledger.Poll poll) inbox → (connector : Outgoing ToConnector (Option Past))
     → connector ≡ d.connector → is_some d.kept ≡ true → (fault : RunFault) → IsTurnFault fault
     → IsUntaken now fault (record d { inbox = inbox; connector = connector })
 poll_failed d now same poll inbox next connector untold some fault kind =
-    subst (λ (s : Desk). IsUntaken s fault (record d { inbox = inbox; connector = connector })) same
+    subst (λ (s : LedgerDesk). IsUntaken s fault (record d { inbox = inbox; connector = connector })) same
     (record {
       sender = next.sender;
       message = to_ledger.Poll poll;

@@ -7,11 +7,11 @@ mod Equal
 mod Finishing
 mod HandedOn
 mod Hearing
-mod Lanes
+mod BrokerLanes
 mod Keeping
 mod LedgerFails
 mod Linked
-mod Places
+mod ConsumerPlaces
 mod ConnectorFailing
 mod ConnectorHearing
 mod ConnectorHistories
@@ -20,7 +20,7 @@ mod ConnectorRounds
 mod ConnectorSessions
 mod ConnectorSteps
 mod ConnectorTurns
-mod Said
+mod ClientReplies
 mod Seated
 mod Taking
 mod Serving
@@ -28,6 +28,6 @@ mod Subscribers
 mod SubscriberFails
 mod Talking
 mod Receipts
-mod Told
-mod Booked
+mod RequestReplies
+mod LedgerDesks
 mod Closed

@@ -5,7 +5,7 @@ use Rattle.std.proofs.Math.Seq.{map-set_same}
 use Rattle.std.proofs.lemmas.Option.{get_or_from_slice_get, unwrap_or-slice_get}
 use Rattle.cdc_broker.specs.Broker.{BrokerState, after_packet, nobody, queue_of, takes_packet}
 use Rattle.cdc_broker.specs.Queues.{QueueState, acknowledged, empty_queue, item_for, next_delivery, queued, with_item}
-use Rattle.cdc_ends.specs.BrokerEnds.{Desk, is_lost, is_over}
+use Rattle.cdc_ends.specs.BrokerEnds.{BrokerDesk, is_lost, is_over}
 use Rattle.cdc_ends.specs.BrokerTurns.{HasSameLinks, HasTurned, Lane, acked_if, all_served, coming_if, handed_out, heard, lane_of, served_if, stopped, stopped_if, with_counted, with_lane, with_next, with_one_fewer, with_served, with_stop}
 use Rattle.cdc_ends.specs.declared.consumers.Consumer.{Consumer}
 use Rattle.cdc_ends.specs.Seats.{broker_seat}
@@ -27,10 +27,10 @@ link_in c = c.link.link
 abbrev binding_in : QueueState → Arguments
 binding_in q = q.binding
 
-pub same_links : (d : Desk) → HasSameLinks d d
+pub same_links : (d : BrokerDesk) → HasSameLinks d d
 same_links d = record { inbox = refl; confirms = refl; consumers = refl; bindings = refl }
 
-pub then_same : (a b c : Desk) → HasSameLinks a b → HasSameLinks b c → HasSameLinks a c
+pub then_same : (a b c : BrokerDesk) → HasSameLinks a b → HasSameLinks b c → HasSameLinks a c
 then_same a b c first next = record {
   inbox = next.inbox ∙ first.inbox;
   confirms = next.confirms ∙ first.confirms;
@@ -39,7 +39,7 @@ then_same a b c first next = record {
 }
 
 -- a lane that changes
-pub lane_same : (d : Desk) (place : ℕ) (c : Consumer) (lane : Lane) → slice_get d.consumers place ≡ Some c
+pub lane_same : (d : BrokerDesk) (place : ℕ) (c : Consumer) (lane : Lane) → slice_get d.consumers place ≡ Some c
     → link_in lane.consumer ≡ link_in c → lane.queue.binding ≡ (queue_of d.broker (place + 1)).binding
     → HasSameLinks d (with_lane place lane d)
 lane_same d place c lane found linked bound = record {
@@ -64,7 +64,7 @@ handed_linked repeats number (suc n) lane =
     handed_linked repeats number n (with_next repeats number (next_delivery lane.queue) lane)
     ∙ next_linked repeats number (next_delivery lane.queue) lane
 
-served_same : (d : Desk) (place : ℕ) (found : Option Consumer) → slice_get d.consumers place ≡ found
+served_same : (d : BrokerDesk) (place : ℕ) (found : Option Consumer) → slice_get d.consumers place ≡ found
     → HasSameLinks d (served_if place found d)
 served_same d place None is = same_links d
 served_same d place (Some c) is =
@@ -73,7 +73,7 @@ served_same d place (Some c) is =
     (handed_linked d.plan.repeat.items (place + 1) (d.prefetch - c.unacked) lane)
     (same_handed_out d.plan.repeat.items (place + 1) (d.prefetch - c.unacked) lane).binding
 
-pub all_same : (n : ℕ) (d : Desk) → HasSameLinks d (all_served n d)
+pub all_same : (n : ℕ) (d : BrokerDesk) → HasSameLinks d (all_served n d)
 all_same zero d = same_links d
 all_same (suc n) d =
     then_same d (all_served n d) (with_served n (all_served n d)) (all_same n d)
@@ -95,25 +95,25 @@ packet_bound : (b : BrokerState) (packet : Packet)
 packet_bound b (Connect session) = refl
 packet_bound b (Publish session tag item) = queued_bound item b.queues
 
-pub coming_same : (lost takes : Bool) (packet : Packet) (d : Desk)
+pub coming_same : (lost takes : Bool) (packet : Packet) (d : BrokerDesk)
     → HasSameLinks d (coming_if lost takes packet (with_counted packet d))
 coming_same true takes packet d = record { inbox = refl; confirms = refl; consumers = refl; bindings = refl }
 coming_same false true packet d =
     record { inbox = refl; confirms = refl; consumers = refl; bindings = packet_bound d.broker packet }
 coming_same false false packet d = record { inbox = refl; confirms = refl; consumers = refl; bindings = refl }
 
-acked_same : (d : Desk) (place position : ℕ) (found : Option Consumer) → slice_get d.consumers place ≡ found
+acked_same : (d : BrokerDesk) (place position : ℕ) (found : Option Consumer) → slice_get d.consumers place ≡ found
     → HasSameLinks d (acked_if place position found d)
 acked_same d place position None is = same_links d
 acked_same d place position (Some c) is =
     lane_same d place c
     (record { queue = acknowledged position (queue_of d.broker (place + 1)); consumer = with_one_fewer c }) is refl refl
 
-pub heard_same : (d : Desk) (j : ℕ) (message : ToBroker) (name : Unit {0})
+pub heard_same : (d : BrokerDesk) (j : ℕ) (message : ToBroker) (name : Unit {0})
     → HasSameLinks d (heard (j, (message, name)) d)
 heard_same d j message name = go message
   where
-    came : ToBroker → Desk
+    came : ToBroker → BrokerDesk
     came m = record d { inbox = with_received d.inbox (j, (m, name)) }
 
     received : (m : ToBroker) → HasSameLinks d (record d { inbox = with_received d.inbox (j, (m, name)) })
@@ -121,12 +121,12 @@ heard_same d j message name = go message
 
     go : (m : ToBroker) → HasSameLinks d (heard (j, (m, name)) d)
     go (to_broker.Packet packet) =
-        let mid : Desk = record d { inbox = with_received d.inbox (j, (to_broker.Packet packet, name)) } in
+        let mid : BrokerDesk = record d { inbox = with_received d.inbox (j, (to_broker.Packet packet, name)) } in
         then_same d mid (heard (j, (to_broker.Packet packet, name)) d) (received (to_broker.Packet packet))
         (coming_same (is_lost mid.plan mid.publishes packet) (takes_packet mid.broker packet) packet mid)
     go to_broker.Finish = record { inbox = refl; confirms = refl; consumers = refl; bindings = refl }
     go (to_broker.Ack ack) =
-        let mid : Desk = record d { inbox = with_received d.inbox (j, (to_broker.Ack ack, name)) } in
+        let mid : BrokerDesk = record d { inbox = with_received d.inbox (j, (to_broker.Ack ack, name)) } in
         then_same d mid (heard (j, (to_broker.Ack ack, name)) d) (received (to_broker.Ack ack))
         (acked_same mid (ack.subscriber - 1) ack.position (slice_get mid.consumers (ack.subscriber - 1)) refl)
 
@@ -134,22 +134,22 @@ stops_linked : (consumers : List Consumer) → map link_in (map with_stop consum
 stops_linked [] = refl
 stops_linked (c ∷ consumers) = ap (λ (ls : List (LinkId ToSubscriber)). link_in c ∷ ls) (stops_linked consumers)
 
-stopped_same : (over : Bool) (d : Desk) → HasSameLinks d (stopped_if over d)
+stopped_same : (over : Bool) (d : BrokerDesk) → HasSameLinks d (stopped_if over d)
 stopped_same true d =
     record { inbox = refl; confirms = refl; consumers = stops_linked d.consumers; bindings = refl }
 stopped_same false d = same_links d
 
 -- so a turn does
-turned_links : (old new : Desk) → HasTurned old new → HasSameLinks old new
+turned_links : (old new : BrokerDesk) → HasTurned old new → HasSameLinks old new
 turned_links old new has =
-    let came : Desk = heard has.entry old in
-    let all : Desk = all_served (length old.consumers) came in
+    let came : BrokerDesk = heard has.entry old in
+    let all : BrokerDesk = all_served (length old.consumers) came in
     subst (HasSameLinks old) (sym has.after)
     (then_same old came (stopped all) (heard_same old has.entry.0 has.entry.1.0 has.entry.1.1)
     (then_same came all (stopped all) (all_same (length old.consumers) came) (stopped_same (is_over all) all)))
 
 -- and it stands where it stood
-pub links_seat : (old new : Desk) → HasSameLinks old new → broker_seat new ≡ broker_seat old
+pub links_seat : (old new : BrokerDesk) → HasSameLinks old new → broker_seat new ≡ broker_seat old
 links_seat old new same = λ i. record {
   inbox = same.inbox i;
   confirms = same.confirms i;
@@ -157,5 +157,5 @@ links_seat old new same = λ i. record {
   bindings = same.bindings i;
 }
 
-pub turned_same : (old new : Desk) → HasTurned old new → broker_seat new ≡ broker_seat old
+pub turned_same : (old new : BrokerDesk) → HasTurned old new → broker_seat new ≡ broker_seat old
 turned_same old new has = links_seat old new (turned_links old new has)

@@ -4,7 +4,7 @@ use Rattle.std.specs.Prelude.{◌||◌, if◌then◌else◌}
 use Rattle.std.proofs.lemmas.Bool.{eqb-true, eqb-false}
 use Rattle.cdc_ends.specs.LedgerEnds.{batch_in, clients_left, is_done, order_of}
 use Rattle.cdc_ends.specs.Orders.{batches_by}
-use Rattle.cdc_ends.proofs.Said.{own_batches}
+use Rattle.cdc_ends.proofs.ClientReplies.{own_batches}
 use Rattle.cdc_links.specs.Links.{CanSend, FollowFrom, of_sender}
 use Rattle.cdc_links.proofs.Entries.{of_sender-other, of_sender-own, of_sender-snoc_other, of_sender-snoc_own}
 use Rattle.cdc_traffic.specs.Following.{FollowsToLedger, ends_to_ledger, has_ended}

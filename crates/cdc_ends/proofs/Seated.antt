@@ -5,7 +5,7 @@ use Rattle.cdc_ends.specs.ClientSoFar.{AsksSoFar, IsReceivedOnly}
 use Rattle.cdc_ends.specs.Clients.{IsAnswered, Talk}
 use Rattle.cdc_ends.specs.ConnectorEnds.{IsOfSame, IsWorkingTurn, Origin, Publishing, origin_of}
 use Rattle.cdc_ends.specs.ConnectorSoFar.{HasFailed as WorkHasFailed, ReceivesAtMostOne}
-use Rattle.cdc_ends.specs.LedgerEnds.{Desk, IsServed}
+use Rattle.cdc_ends.specs.LedgerEnds.{LedgerDesk, IsLedgerTurn}
 use Rattle.cdc_ends.specs.LedgerSoFar.{ComesSoFar as LedgerComes, TakesSoFar}
 use Rattle.cdc_ends.specs.LedgerSteps.{IsTaken}
 use Rattle.cdc_ends.specs.Seats.{client_seat, connector_seat, ledger_seat, origin_if, subscriber_seat}
@@ -14,7 +14,7 @@ use Rattle.cdc_ends.specs.SubscriberSoFar.{ComesSoFar as IntakeComes, HasFailed 
 use Rattle.cdc_ends.specs.declared.faults.RunFault.{RunFault}
 use Rattle.cdc_ends.specs.declared.faults.RunFault.TheVariants.{PeerGone, OutOfMemory, Store, SessionsExhausted, NotOneSystem, StartNotAllowed}
 use Rattle.cdc_links.specs.Links.{Takes}
-use Rattle.cdc_publisher.specs.Kept.{Kept}
+use Rattle.cdc_publisher.specs.SessionState.{SessionState}
 use Rattle.cdc_traffic.specs.Following.{FollowsToConnector}
 use Rattle.cdc_traffic.specs.declared.messages.ToConnector.{ToConnector}
 use Rattle.cdc_traffic.specs.declared.messages.ToLedger.{ToLedger}
@@ -26,7 +26,7 @@ use Rattle.cdc_traffic.specs.declared.requests.Reply.{Reply}
 use Rattle.cdc_types.specs.declared.batches.Batch.{Batch}
 
 -- the ledger's
-pub served_seat : (old new : Desk) → IsServed old new → ledger_seat new ≡ ledger_seat old
+pub served_seat : (old new : LedgerDesk) → IsLedgerTurn old new → ledger_seat new ≡ ledger_seat old
 served_seat old new is = λ i. record {
   inbox = (is.inbox i).link;
   senders = (is.inbox i).senders;
@@ -35,7 +35,7 @@ served_seat old new is = λ i. record {
 }
 
 -- so it does where a turn fails
-pub come_seat : (old : Desk) (fault : RunFault) (new : Desk) → LedgerComes old fault new
+pub come_seat : (old : LedgerDesk) (fault : RunFault) (new : LedgerDesk) → LedgerComes old fault new
     → ledger_seat new ≡ ledger_seat old
 come_seat old fault new (inl none) = ap ledger_seat none.1
 come_seat old fault new (inr (inl untaken)) = untaken_seat untaken.message untaken.takes
@@ -102,7 +102,7 @@ same_seat old new same inbox =
       restarts = same.restarts i;
     }
 
-pub working_seat : (session : Option Kept) (old new : Publishing) → IsWorkingTurn session old new
+pub working_seat : (session : Option SessionState) (old new : Publishing) → IsWorkingTurn session old new
     → connector_seat new ≡ connector_seat old
 working_seat None old new is = same_seat old new is.same (λ i. (is.inbox i).link)
 working_seat (Some kept) old new is = same_seat old new is.same (λ i. (is.takes.4 i).link)

@@ -9,11 +9,11 @@ use Rattle.cdc_broker.specs.Broker.{BrokerState, nobody, queue_of, with_queue}
 use Rattle.cdc_broker.specs.Packets.{items_of}
 use Rattle.cdc_broker.specs.Queues.{QueueState, acknowledged, empty_queue, is_unknown, item_for, next_delivery, queued, with_delivery, with_item}
 use Rattle.cdc_ends.specs.BrokerDesks.{MayHandOut, MayStop}
-use Rattle.cdc_ends.specs.BrokerEnds.{IsServed, as_sent, deliveries_in, delivery_in}
+use Rattle.cdc_ends.specs.BrokerEnds.{IsConsumerServed, as_sent, deliveries_in, delivery_in}
 use Rattle.cdc_ends.specs.BrokerTurns.{Lane, back_if, first_consumer, goes_back, handed_out, with_copy, with_next, with_one_fewer, with_stop}
 use Rattle.cdc_ends.specs.declared.consumers.Consumer.{Consumer}
-use Rattle.cdc_ends.proofs.Lanes.{handed_out-none}
-use Rattle.cdc_ends.proofs.Places.{slice_get_behind}
+use Rattle.cdc_ends.proofs.BrokerLanes.{handed_out-none}
+use Rattle.cdc_ends.proofs.ConsumerPlaces.{slice_get_behind}
 use Rattle.cdc_laws.specs.Arrivals.{taken_of}
 use Rattle.cdc_laws.specs.Brokers.{HasArrived, HasHandedOut}
 use Rattle.cdc_laws.proofs.Queues.{HasHandedOut-ack, HasHandedOut-next, HasHandedOut-nil, HasHandedOut-queued, HasHandedOut-rewound}
@@ -81,11 +81,11 @@ next_position q d next = go (slice_get q.items (q.cursor.next - 1)) next
 
 module _ (prefetch acks : ℕ) where
   -- one more is handed out
-  pub IsServed-next : (repeats : List (ℕ × ℕ)) (number : ℕ) (lane : Lane) (d : Delivery)
+  pub IsConsumerServed-next : (repeats : List (ℕ × ℕ)) (number : ℕ) (lane : Lane) (d : Delivery)
       → next_delivery lane.queue ≡ Some d → lane.consumer.unacked < prefetch
-      → IsServed false prefetch acks lane.queue lane.consumer
-      → IsServed false prefetch acks (with_next repeats number (Some d) lane).queue (with_copy d lane.consumer)
-  IsServed-next repeats number lane d next few is =
+      → IsConsumerServed false prefetch acks lane.queue lane.consumer
+      → IsConsumerServed false prefetch acks (with_next repeats number (Some d) lane).queue (with_copy d lane.consumer)
+  IsConsumerServed-next repeats number lane d next few is =
       let sent : List (ToSubscriber × Unit {0}) = lane.consumer.link.sent in
       let push : deliveries_in (sent ++ as_sent d ∷ []) ≡ deliveries_in sent ++ d ∷ [] = deliveries_in-push sent d in
       let goes : Bool = goes_back repeats number lane.consumer d in
@@ -114,11 +114,11 @@ module _ (prefetch acks : ℕ) where
   -- what is next may be handed out
   pub next_served : (repeats : List (ℕ × ℕ)) (number : ℕ) (found : Option Delivery) (lane : Lane)
       → next_delivery lane.queue ≡ found → lane.consumer.unacked < prefetch
-      → IsServed false prefetch acks lane.queue lane.consumer
-      → IsServed false prefetch acks (with_next repeats number found lane).queue
+      → IsConsumerServed false prefetch acks lane.queue lane.consumer
+      → IsConsumerServed false prefetch acks (with_next repeats number found lane).queue
       (with_next repeats number found lane).consumer
   next_served repeats number None lane next few is = is
-  next_served repeats number (Some d) lane next few is = IsServed-next repeats number lane d next few is
+  next_served repeats number (Some d) lane next few is = IsConsumerServed-next repeats number lane d next few is
 
   -- one copy more at most
   next_copies : (repeats : List (ℕ × ℕ)) (number : ℕ) (found : Option Delivery) (lane : Lane)
@@ -127,24 +127,25 @@ module _ (prefetch acks : ℕ) where
   next_copies repeats number (Some d) lane = omega arith
 
   -- and so many
-  pub IsServed-handed_out : (repeats : List (ℕ × ℕ)) (number n : ℕ) (lane : Lane)
+  pub IsConsumerServed-handed_out : (repeats : List (ℕ × ℕ)) (number n : ℕ) (lane : Lane)
       → lane.consumer.unacked + n ≤ prefetch
-      → IsServed false prefetch acks lane.queue lane.consumer
-      → IsServed false prefetch acks (handed_out repeats number n lane).queue
+      → IsConsumerServed false prefetch acks lane.queue lane.consumer
+      → IsConsumerServed false prefetch acks (handed_out repeats number n lane).queue
       (handed_out repeats number n lane).consumer
-  IsServed-handed_out repeats number zero lane few is = is
-  IsServed-handed_out repeats number (suc n) lane few is =
+  IsConsumerServed-handed_out repeats number zero lane few is = is
+  IsConsumerServed-handed_out repeats number (suc n) lane few is =
       let next : Lane = with_next repeats number (next_delivery lane.queue) lane in
       let copies : next.consumer.unacked ≤ lane.consumer.unacked + 1 =
       next_copies repeats number (next_delivery lane.queue) lane in
-      IsServed-handed_out repeats number n next (omega (arith, copies))
+      IsConsumerServed-handed_out repeats number n next (omega (arith, copies))
       (next_served repeats number (next_delivery lane.queue) lane refl (omega arith) is)
 
   -- an acknowledgement
-  pub IsServed-ack : (q : QueueState) (c : Consumer) (position : ℕ) → is_unknown q position ≡ false → 0 < c.unacked
-      → IsServed false prefetch acks q c
-      → IsServed false prefetch (acks + 1) (acknowledged position q) (with_one_fewer c)
-  IsServed-ack q c position known some is = record {
+  pub IsConsumerServed-ack : (q : QueueState) (c : Consumer) (position : ℕ) → is_unknown q position ≡ false
+      → 0 < c.unacked
+      → IsConsumerServed false prefetch acks q c
+      → IsConsumerServed false prefetch (acks + 1) (acknowledged position q) (with_one_fewer c)
+  IsConsumerServed-ack q c position known some is = record {
     broker = is.broker;
     sent = is.sent;
     handed = HasHandedOut-ack q (deliveries_in c.link.sent) position is.handed known;
@@ -154,9 +155,9 @@ module _ (prefetch acks : ℕ) where
   }
 
   -- one more item comes to the queue
-  pub IsServed-queued : (finished : Bool) (q : QueueState) (c : Consumer) (item : Item)
-      → IsServed finished prefetch acks q c → IsServed finished prefetch acks (queued item q) c
-  IsServed-queued finished q c item is = record {
+  pub IsConsumerServed-queued : (finished : Bool) (q : QueueState) (c : Consumer) (item : Item)
+      → IsConsumerServed finished prefetch acks q c → IsConsumerServed finished prefetch acks (queued item q) c
+  IsConsumerServed-queued finished q c item is = record {
     broker = is.broker;
     sent = is.sent;
     handed = HasHandedOut-queued q (deliveries_in c.link.sent) item is.handed;
@@ -170,9 +171,9 @@ module _ (prefetch acks : ℕ) where
       same (Some x) = refl
 
   -- the last message is sent
-  pub IsServed-stop : (q : QueueState) (c : Consumer) → IsServed false prefetch acks q c
-      → IsServed true prefetch acks q (with_stop c)
-  IsServed-stop q c is =
+  pub IsConsumerServed-stop : (q : QueueState) (c : Consumer) → IsConsumerServed false prefetch acks q c
+      → IsConsumerServed true prefetch acks q (with_stop c)
+  IsConsumerServed-stop q c is =
       let same : deliveries_in (c.link.sent ++ (Stop, tt) ∷ []) ≡ deliveries_in c.link.sent =
       deliveries_in-stop c.link.sent in
       record {
@@ -187,20 +188,20 @@ module _ (prefetch acks : ℕ) where
       }
 
   -- a queue that isn't done may hand out
-  pub MayHandOut-served : (q : QueueState) (c : Consumer) → IsServed false prefetch acks q c
+  pub MayHandOut-served : (q : QueueState) (c : Consumer) → IsConsumerServed false prefetch acks q c
       → MayHandOut (record { queue = q; consumer = c })
   MayHandOut-served q c is =
       record { broker = is.broker; goes_on = goes_on c.link.sent is.sent; from_one = is.handed.from_one }
 
   -- and its subscriber may be sent its last message
-  pub MayStop-served : (q : QueueState) (c : Consumer) → IsServed false prefetch acks q c → MayStop c
+  pub MayStop-served : (q : QueueState) (c : Consumer) → IsConsumerServed false prefetch acks q c → MayStop c
   MayStop-served q c is = (is.broker, goes_on c.link.sent is.sent)
 
 -- a subscriber to which nothing was sent
-pub IsServed-first : (prefetch : ℕ) (binding : Arguments) (link : Outgoing ToSubscriber (Unit {0}))
+pub IsConsumerServed-first : (prefetch : ℕ) (binding : Arguments) (link : Outgoing ToSubscriber (Unit {0}))
     → link.number ≡ 0 → link.sent ≡ []
-    → IsServed false prefetch 0 (empty_queue binding) (first_consumer link)
-IsServed-first prefetch binding link own silent =
+    → IsConsumerServed false prefetch 0 (empty_queue binding) (first_consumer link)
+IsConsumerServed-first prefetch binding link own silent =
     let none : deliveries_in link.sent ≡ [] = ap deliveries_in silent in
     record {
       broker = own;

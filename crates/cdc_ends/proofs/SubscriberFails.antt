@@ -11,7 +11,7 @@ use Rattle.cdc_ends.proofs.Taking.{came_more, of_broker_more}
 use Rattle.cdc_links.specs.Links.{Incoming, Outgoing, with_received}
 use Rattle.cdc_message.specs.declared.items.Delivery.{Delivery}
 use Rattle.cdc_subscriber.specs.Heard.{Heard, kept_of, nothing}
-use Rattle.cdc_subscriber.specs.Kept.{Kept}
+use Rattle.cdc_subscriber.specs.SubscriberState.{SubscriberState}
 use Rattle.cdc_traffic.specs.declared.messages.ToBroker.{ToBroker}
 use Rattle.cdc_traffic.specs.declared.messages.ToSubscriber.{ToSubscriber}
 use Rattle.cdc_traffic.specs.declared.messages.ToSubscriber.TheVariants.{Delivery as Hands}
@@ -40,7 +40,7 @@ module _ (c : Intake) (is : IsSubscriberEnd c) (goes_on : c.finished ≡ false) 
       ((0, (Hands d, tt)) ∷ [])
 
   -- a delivery more was received, whatever its subscriber has heard by then
-  with_one_more : (subscriber : Kept)
+  with_one_more : (subscriber : SubscriberState)
       → (subscriber ≡ kept_of (heard_by c.close_after (taken_by c.inbox)))
       ⊎ (subscriber ≡ kept_of (heard_by c.close_after (taken_by brought)))
       → IsSubscriberSoFar (record c { inbox = brought; subscriber = subscriber })
@@ -87,7 +87,7 @@ subscribers_come_so_far = record { between = subscriber_so_far; failed = failed_
 
 -- what stands within a subscriber's end, once it has taken a delivery and couldn't acknowledge it
 pub unacknowledged_so : (inside now : Intake) → inside ≡ now → (inbox : Incoming ToSubscriber (Unit {0}))
-    (subscriber : Kept) (acks : Outgoing ToBroker (Unit {0})) (d : Delivery)
+    (subscriber : SubscriberState) (acks : Outgoing ToBroker (Unit {0})) (d : Delivery)
     → inbox ≡ with_received now.inbox (0, (Hands d, tt))
     → now.subscriber ≡ kept_of (heard_by now.close_after (taken_by now.inbox))
     → ((heard : Heard) → inside.subscriber ≡ kept_of heard

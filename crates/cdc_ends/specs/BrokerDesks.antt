@@ -1,9 +1,9 @@
 -- The broker's end as its own functions see it. Cited by private contracts alone.
 use Rattle.std.specs.Prelude.{◌≡◌, ℕ, ◌≤◌, ◌<◌, false}
 use Rattle.cdc_broker.specs.Broker.{BrokerState, takes_packet, with_queue}
-use Rattle.cdc_ends.specs.BrokerEnds.{Desk}
+use Rattle.cdc_ends.specs.BrokerEnds.{BrokerDesk}
 use Rattle.cdc_ends.specs.BrokerTurns.{IsDue, Lane, admitted, answer_if, heard}
-use Rattle.cdc_ends.specs.declared.broker_desks.BrokerDesk.{BrokerDesk}
+use Rattle.cdc_ends.specs.declared.broker_desks.BrokerDesk.{BrokerDesk as DeclaredDesk}
 use Rattle.cdc_ends.specs.declared.consumers.Consumer.{Consumer}
 use Rattle.cdc_links.specs.Links.{of_sender}
 use Rattle.cdc_message.specs.declared.packets.Answer.{Answer}
@@ -12,7 +12,7 @@ use Rattle.cdc_traffic.specs.Following.{FollowsToBroker, ends_to_subscriber, has
 use Rattle.cdc_traffic.specs.declared.messages.ToBroker.{ToBroker}
 
 -- the end as contracts see it
-abbrev pub desk_of : BrokerDesk → Desk
+abbrev pub desk_of : DeclaredDesk → BrokerDesk
 desk_of d = record {
   inbox = d.inbox;
   confirms = d.confirms;
@@ -39,7 +39,7 @@ pub record HasBecome (number : ℕ) (lane : Lane) (old : BrokerState) (new : Bro
   pub consumer : c ≡ lane.consumer
 
 -- what came to the broker's end was heard
-pub record HasHeard (old new : Desk) : Type 0 where
+pub record HasHeard (old new : BrokerDesk) : Type 0 where
   pub entry : ℕ × (ToBroker × Unit {0})
   pub sender : entry.0 < old.inbox.senders
   pub follows : FollowsToBroker entry.0 (of_sender entry.0 old.inbox.received) entry.1
@@ -47,7 +47,7 @@ pub record HasHeard (old new : Desk) : Type 0 where
   pub after : new ≡ heard entry old
 
 -- a publish came to the broker, which took it or passed it over, and this is the answer
-pub record HasCome (packet : Packet) (old : Desk) (answer : Answer) (new : Desk) : Type 0 where
+pub record HasCome (packet : Packet) (old : BrokerDesk) (answer : Answer) (new : BrokerDesk) : Type 0 where
   pub after : new ≡ admitted (takes_packet old.broker packet) packet old
   pub says : answer ≡ answer_if (takes_packet old.broker packet) packet old
 

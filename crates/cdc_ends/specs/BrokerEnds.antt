@@ -119,7 +119,7 @@ stop_if finished = if finished then (to_subscriber.Stop, tt) ∷ [] else []
 -- what was sent to a subscriber of whose queue there were so many acknowledgements: deliveries, and the last message
 -- once the broker's end has finished; the queue has handed them out; and of each but at most `prefetch` of them there
 -- was an acknowledgement
-pub record IsServed (finished : Bool) (prefetch acks : ℕ) (q : QueueState) (c : Consumer) : Type 0 where
+pub record IsConsumerServed (finished : Bool) (prefetch acks : ℕ) (q : QueueState) (c : Consumer) : Type 0 where
   pub broker : c.link.number ≡ 0
   pub sent : c.link.sent ≡ map as_sent (deliveries_in c.link.sent) ++ stop_if finished
   pub handed : HasHandedOut q (deliveries_in c.link.sent)
@@ -132,7 +132,7 @@ pub record IsServed (finished : Bool) (prefetch acks : ℕ) (q : QueueState) (c 
 -- the broker's end without its faults: its inbox; the confirms that it has sent; its subscribers, by place; the broker;
 -- what goes wrong by plan; how many copies of a queue may be without an acknowledgement; how many publishes it has
 -- received, and how many of them were accepted; whether the connector is done; and whether all is done
-pub record Desk : Type 0 where
+pub record BrokerDesk : Type 0 where
   pub inbox : Incoming ToBroker (Unit {0})
   pub confirms : Outgoing ToConnector (Option Past)
   pub consumers : List Consumer
@@ -145,17 +145,17 @@ pub record Desk : Type 0 where
   pub finished : Bool
 
 -- what it has made of the packets that it has received
-abbrev pub dealings_of : Desk → Dealings
+abbrev pub dealings_of : BrokerDesk → Dealings
 dealings_of d = dealings d.plan (packets_in (of_sender 0 d.inbox.received))
 
 -- how many acknowledgements it has received of the subscriber at a place
-abbrev pub acks_at : Desk → ℕ → ℕ
+abbrev pub acks_at : BrokerDesk → ℕ → ℕ
 acks_at d place = length (of_sender (place + 1) d.inbox.received)
 
 -- what holds of it also in the middle of a turn: the broker is what it took of the packets received, less those that
 -- were lost; each packet received was answered, and nothing else was; and each subscriber was sent what its queue has
 -- handed out
-pub record IsDesk (d : Desk) : Type 0 where
+pub record IsBrokerDesk (d : BrokerDesk) : Type 0 where
   pub senders : d.inbox.senders ≡ length d.consumers + 1
   pub own : d.confirms.number ≡ 1
   pub queues : length d.broker.queues ≡ length d.consumers
@@ -167,10 +167,10 @@ pub record IsDesk (d : Desk) : Type 0 where
   pub accepted : d.accepted ≡ length (items_of (taken_of (dealings_of d).arrived))
   pub connector : d.connector_done ≡ has_ended ends_to_broker (of_sender 0 d.inbox.received)
   pub served : (place : ℕ) (c : Consumer) → slice_get d.consumers place ≡ Some c
-      → IsServed d.finished d.prefetch (acks_at d place) (queue_of d.broker (place + 1)) c
+      → IsConsumerServed d.finished d.prefetch (acks_at d place) (queue_of d.broker (place + 1)) c
 
 -- the connector is done, and no copy is without an acknowledgement
-abbrev pub is_over : Desk → Bool
+abbrev pub is_over : BrokerDesk → Bool
 is_over d = d.connector_done && list_all (λ c. c.unacked == 0) d.consumers
 
 -- the end has finished with one of its subscribers: its queue was handed out whole, and of each copy there was an
@@ -181,8 +181,8 @@ pub record IsWhole (acks : ℕ) (q : QueueState) (c : Consumer) : Type 0 where
 
 -- between two turns each queue has handed out what it may: so much that `prefetch` copies are without an
 -- acknowledgement, or all up to its cursor; and the end has finished where all is over, and with each subscriber then
-pub record IsBrokerEnd (d : Desk) : Type 0 where
-  pub desk : IsDesk d
+pub record IsBrokerEnd (d : BrokerDesk) : Type 0 where
+  pub desk : IsBrokerDesk d
   pub eager : (place : ℕ) (c : Consumer) → slice_get d.consumers place ≡ Some c → c.unacked < d.prefetch
       → next_delivery (queue_of d.broker (place + 1)) ≡ None
   pub over : d.finished ≡ is_over d

@@ -3,7 +3,7 @@
 use Rattle.std.specs.Prelude.{◌≡◌, ◌⊎◌, ℕ, false, true, Some, List, [], is_some, length, map, slice_get}
 use Rattle.cdc_broker.specs.Broker.{BrokerState, queue_of, with_queue}
 use Rattle.cdc_broker.specs.Queues.{QueueState, next_delivery, with_delivery}
-use Rattle.cdc_ends.specs.BrokerEnds.{Desk, IsServed, deliveries_in}
+use Rattle.cdc_ends.specs.BrokerEnds.{BrokerDesk, IsConsumerServed, deliveries_in}
 use Rattle.cdc_ends.specs.BrokerSoFar.{AreHandedOut, IsBrokerSoFar, IsServedSoFar}
 use Rattle.cdc_ends.specs.BrokerTurns.{HasSameLinks, with_coming, with_counted, with_stop}
 use Rattle.cdc_ends.specs.declared.consumers.Consumer.{Consumer}
@@ -14,7 +14,7 @@ use Rattle.cdc_message.specs.declared.packets.Packet.{Packet}
 use Rattle.cdc_types.specs.Widths.{max_64}
 
 -- a publish wasn't taken, by the fault: there is no further number for one that is accepted, or no memory
-abbrev pub IsUnpublished : Desk → RunFault → Desk → Type 0
+abbrev pub IsUnpublished : BrokerDesk → RunFault → BrokerDesk → Type 0
 IsUnpublished old PeerGone new = (old.accepted ≡ max_64) × (new ≡ old)
 IsUnpublished old OutOfMemory new = new ≡ old
 IsUnpublished old (Store why) new = ⊥
@@ -24,7 +24,7 @@ IsUnpublished old StartNotAllowed new = ⊥
 
 -- a packet wasn't answered, by the fault: it hasn't come to the broker, since numbers or memory ran out; or it has
 -- come, and the connector is gone
-abbrev pub IsUnanswered : Packet → Desk → RunFault → Desk → Type 0
+abbrev pub IsUnanswered : Packet → BrokerDesk → RunFault → BrokerDesk → Type 0
 IsUnanswered packet old PeerGone new =
     (((old.publishes ≡ max_64) ⊎ (old.accepted ≡ max_64)) × (new ≡ record old { publishes = new.publishes }))
     ⊎ (new ≡ record (with_coming packet old) { confirms = old.confirms })
@@ -56,12 +56,12 @@ pub record IsStuck (number prefetch : ℕ) (old : BrokerState) (c : Consumer) (f
   pub items : queue.items ≡ (queue_of old number).items
   pub broker : new ≡ with_queue number queue old
   pub link : after.link.link ≡ c.link.link
-  pub served : (acks : ℕ) → IsServed false prefetch acks (queue_of old number) c → IsServedSoFar queue after
-  pub memory : fault ≡ OutOfMemory → (acks : ℕ) → IsServed false prefetch acks (queue_of old number) c
+  pub served : (acks : ℕ) → IsConsumerServed false prefetch acks (queue_of old number) c → IsServedSoFar queue after
+  pub memory : fault ≡ OutOfMemory → (acks : ℕ) → IsConsumerServed false prefetch acks (queue_of old number) c
       → HasHandedOut queue (deliveries_in after.link.sent)
 
 -- a part of a turn that receives nothing has failed: how far the end has come by then
-pub record IsCutOff (old : Desk) (fault : RunFault) (new : Desk) : Type 0 where
+pub record IsCutOff (old : BrokerDesk) (fault : RunFault) (new : BrokerDesk) : Type 0 where
   pub links : HasSameLinks old new
   pub plan : new.plan ≡ old.plan
   pub finished : new.finished ≡ old.finished

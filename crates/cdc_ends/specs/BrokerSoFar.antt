@@ -2,7 +2,7 @@
 use Rattle.std.specs.Prelude.{◌≡◌, ◌⊎◌, ℕ, ◌+◌, ◌≤◌, Bool, Some, List, [], ◌++◌, length, map, slice_get}
 use Rattle.cdc_broker.specs.Broker.{queue_of}
 use Rattle.cdc_broker.specs.Queues.{QueueState}
-use Rattle.cdc_ends.specs.BrokerEnds.{Desk, IsBrokerEnd, as_confirm, as_sent, dealings, deliveries_in, packets_in, stop_if}
+use Rattle.cdc_ends.specs.BrokerEnds.{BrokerDesk, IsBrokerEnd, as_confirm, as_sent, dealings, deliveries_in, packets_in, stop_if}
 use Rattle.cdc_ends.specs.BrokerTurns.{HasSameLinks}
 use Rattle.cdc_ends.specs.Faults.{IsTurnFault}
 use Rattle.cdc_ends.specs.declared.consumers.Consumer.{Consumer}
@@ -29,7 +29,7 @@ pub record IsServedSoFar (q : QueueState) (c : Consumer) : Type 0 where
 -- with a fault or without one: the packets received have come to it, but for the last one perhaps; the broker is what
 -- it took of those that have come, less those that were lost; each of them was answered, in their order, and nothing
 -- else was, but for the last one perhaps; and each subscriber was sent a replay of its queue
-pub record IsBrokerSoFar (d : Desk) : Type 0 where
+pub record IsBrokerSoFar (d : BrokerDesk) : Type 0 where
   pub senders : d.inbox.senders ≡ length d.consumers + 1
   pub own : d.confirms.number ≡ 1
   pub queues : length d.broker.queues ≡ length d.consumers
@@ -52,12 +52,12 @@ abbrev pub ReceivesAtMostOne : Incoming ToBroker (Unit {0}) → Incoming ToBroke
 ReceivesAtMostOne old new = (new ≡ old) ⊎ ((message : ToBroker) × Takes FollowsToBroker old message new)
 
 -- each queue has handed out just what its subscriber was sent
-abbrev pub AreHandedOut : Desk → Type 0
+abbrev pub AreHandedOut : BrokerDesk → Type 0
 AreHandedOut d = (place : ℕ) (c : Consumer) → slice_get d.consumers place ≡ Some c
     → HasHandedOut (queue_of d.broker (place + 1)) (deliveries_in c.link.sent)
 
 -- links, bindings and plan stay, and the end hasn't finished by it; and where memory runs out nothing is half sent
-pub record HasFailed (old : Desk) (fault : RunFault) (new : Desk) : Type 0 where
+pub record HasFailed (old : BrokerDesk) (fault : RunFault) (new : BrokerDesk) : Type 0 where
   pub links : HasSameLinks old new
   pub plan : new.plan ≡ old.plan
   pub finished : new.finished ≡ old.finished
@@ -70,4 +70,4 @@ pub record HasFailed (old : Desk) (fault : RunFault) (new : Desk) : Type 0 where
 
 -- so the broker's end stands between two turns, as it does after one that has failed
 abbrev pub BrokersComeSoFar : Type 0
-BrokersComeSoFar = (d : Desk) → IsBrokerEnd d → IsBrokerSoFar d
+BrokersComeSoFar = (d : BrokerDesk) → IsBrokerEnd d → IsBrokerSoFar d

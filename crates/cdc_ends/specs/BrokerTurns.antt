@@ -3,7 +3,7 @@ use Rattle.std.specs.Prelude.{◌≡◌, ◌==◌, ◌&&◌, ℕ, zero, suc, ◌
 use Rattle.std.specs.List.{list_any}
 use Rattle.cdc_broker.specs.Broker.{BrokerState, after_packet, queue_of, takes_packet, with_queue}
 use Rattle.cdc_broker.specs.Queues.{QueueState, acknowledged, is_unknown, next_delivery, rewound_queue, with_delivery}
-use Rattle.cdc_ends.specs.BrokerEnds.{Desk, answer_to, as_confirm, as_sent, confirm_of, counted, is_lost, is_over}
+use Rattle.cdc_ends.specs.BrokerEnds.{BrokerDesk, answer_to, as_confirm, as_sent, confirm_of, counted, is_lost, is_over}
 use Rattle.cdc_ends.specs.declared.broker_plans.BrokerPlan.{BrokerPlan}
 use Rattle.cdc_ends.specs.declared.consumers.Consumer.{Consumer}
 use Rattle.cdc_links.specs.Links.{Incoming, Outgoing, of_sender, with_received, with_sent}
@@ -28,7 +28,7 @@ first_consumer link = record { link = link; unacked = 0; handed = 0 }
 
 -- nothing has come yet
 abbrev pub first_desk : Incoming ToBroker (Unit {0}) → Outgoing ToConnector (Option Past)
-    → List (Outgoing ToSubscriber (Unit {0})) → BrokerState → BrokerPlan → ℕ → Desk
+    → List (Outgoing ToSubscriber (Unit {0})) → BrokerState → BrokerPlan → ℕ → BrokerDesk
 first_desk inbox confirms links broker plan prefetch = record {
   inbox = inbox;
   confirms = confirms;
@@ -49,31 +49,31 @@ IsFreshLink link = (link.number ≡ 0) × (link.sent ≡ [])
 -- ---- packets
 
 -- a packet was answered so
-abbrev pub answered : Packet → Answer → Desk → Desk
+abbrev pub answered : Packet → Answer → BrokerDesk → BrokerDesk
 answered packet answer d = record d { confirms = with_sent d.confirms (as_confirm (confirm_of packet answer)) }
 
 -- a packet is counted
-abbrev pub with_counted : Packet → Desk → Desk
+abbrev pub with_counted : Packet → BrokerDesk → BrokerDesk
 with_counted packet d = record d { publishes = counted d.publishes packet }
 
 -- a packet is taken
-abbrev pub with_taken : Packet → Desk → Desk
+abbrev pub with_taken : Packet → BrokerDesk → BrokerDesk
 with_taken packet d =
     record d { broker = after_packet d.broker packet; accepted = counted d.accepted packet }
 
 -- the broker takes a packet or passes it over, and this is its answer
-abbrev pub admitted : Bool → Packet → Desk → Desk
+abbrev pub admitted : Bool → Packet → BrokerDesk → BrokerDesk
 admitted takes packet d = if takes then with_taken packet d else d
 
-abbrev pub answer_if : Bool → Packet → Desk → Answer
+abbrev pub answer_if : Bool → Packet → BrokerDesk → Answer
 answer_if takes packet d = if takes then answer_to d.plan d.accepted packet else Ignored
 
 -- a packet comes: it is lost, and the answer is that it was; or it comes to the broker
-abbrev pub coming_if : Bool → Bool → Packet → Desk → Desk
+abbrev pub coming_if : Bool → Bool → Packet → BrokerDesk → BrokerDesk
 coming_if true takes packet d = answered packet Broken d
 coming_if false takes packet d = answered packet (answer_if takes packet d) (admitted takes packet d)
 
-abbrev pub with_coming : Packet → Desk → Desk
+abbrev pub with_coming : Packet → BrokerDesk → BrokerDesk
 with_coming packet d =
     coming_if (is_lost d.plan d.publishes packet) (takes_packet d.broker packet) packet (with_counted packet d)
 
@@ -119,24 +119,24 @@ handed_out repeats number (suc n) lane =
     handed_out repeats number n (with_next repeats number (next_delivery lane.queue) lane)
 
 -- the subscriber at a place and its queue are these now
-abbrev pub with_lane : ℕ → Lane → Desk → Desk
+abbrev pub with_lane : ℕ → Lane → BrokerDesk → BrokerDesk
 with_lane place lane d = record d {
   broker = with_queue (place + 1) lane.queue d.broker;
   consumers = slice_set d.consumers place lane.consumer;
 }
 
 -- the queue at a place hands out while fewer than `prefetch` copies are without an acknowledgement
-abbrev pub served_if : ℕ → Option Consumer → Desk → Desk
+abbrev pub served_if : ℕ → Option Consumer → BrokerDesk → BrokerDesk
 served_if place None d = d
 served_if place (Some c) d =
     with_lane place
     (handed_out d.plan.repeat.items (place + 1) (d.prefetch - c.unacked) (lane_of d.broker (place + 1) c)) d
 
-abbrev pub with_served : ℕ → Desk → Desk
+abbrev pub with_served : ℕ → BrokerDesk → BrokerDesk
 with_served place d = served_if place (slice_get d.consumers place) d
 
 -- so do the first so many queues, one after another
-abbrev pub all_served : ℕ → Desk → Desk
+abbrev pub all_served : ℕ → BrokerDesk → BrokerDesk
 all_served zero d = d
 all_served (suc n) d = with_served n (all_served n d)
 
@@ -147,34 +147,34 @@ abbrev pub with_one_fewer : Consumer → Consumer
 with_one_fewer c = record c { unacked = c.unacked - 1 }
 
 -- the subscriber at a place acknowledges a position
-abbrev pub acked_if : ℕ → ℕ → Option Consumer → Desk → Desk
+abbrev pub acked_if : ℕ → ℕ → Option Consumer → BrokerDesk → BrokerDesk
 acked_if place position None d = d
 acked_if place position (Some c) d =
     with_lane place
     (record { queue = acknowledged position (queue_of d.broker (place + 1)); consumer = with_one_fewer c }) d
 
-abbrev pub with_ack : Ack → Desk → Desk
+abbrev pub with_ack : Ack → BrokerDesk → BrokerDesk
 with_ack ack d =
     acked_if (ack.subscriber - 1) ack.position (slice_get d.consumers (ack.subscriber - 1)) d
 
 -- it may: the position was handed out, and some copy is without an acknowledgement
-abbrev pub MayAck : Ack → Desk → Type 0
+abbrev pub MayAck : Ack → BrokerDesk → Type 0
 MayAck ack d = (is_unknown (queue_of d.broker ack.subscriber) ack.position ≡ false)
     × ((c : Consumer) → slice_get d.consumers (ack.subscriber - 1) ≡ Some c → 0 < c.unacked)
 
 -- ---- a turn
 
 -- a message is received
-abbrev pub with_message : ToBroker → Desk → Desk
+abbrev pub with_message : ToBroker → BrokerDesk → BrokerDesk
 with_message (to_broker.Packet packet) d = with_coming packet d
 with_message to_broker.Finish d = record d { connector_done = true }
 with_message (to_broker.Ack ack) d = with_ack ack d
 
-abbrev pub heard : ℕ × (ToBroker × Unit {0}) → Desk → Desk
+abbrev pub heard : ℕ × (ToBroker × Unit {0}) → BrokerDesk → BrokerDesk
 heard entry d = with_message entry.1.0 (record d { inbox = with_received d.inbox entry })
 
 -- a message that may come; what isn't due is a fault
-abbrev pub IsDue : ToBroker → Desk → Type 0
+abbrev pub IsDue : ToBroker → BrokerDesk → Type 0
 IsDue (to_broker.Packet packet) d = Unit {0}
 IsDue to_broker.Finish d = Unit {0}
 IsDue (to_broker.Ack ack) d = MayAck ack d
@@ -184,18 +184,18 @@ abbrev pub with_stop : Consumer → Consumer
 with_stop c = record c { link = with_sent c.link (Stop, tt) }
 
 -- all are, where all is over
-abbrev pub stopped_if : Bool → Desk → Desk
+abbrev pub stopped_if : Bool → BrokerDesk → BrokerDesk
 stopped_if over d = if over then record d { consumers = map with_stop d.consumers; finished = true } else d
 
-abbrev pub stopped : Desk → Desk
+abbrev pub stopped : BrokerDesk → BrokerDesk
 stopped d = stopped_if (is_over d) d
 
 -- the whole turn
-abbrev pub turned : ℕ × (ToBroker × Unit {0}) → Desk → Desk
+abbrev pub turned : ℕ × (ToBroker × Unit {0}) → BrokerDesk → BrokerDesk
 turned entry d = stopped (all_served (length d.consumers) (heard entry d))
 
 -- a message that may come was received, and all that follows was done
-pub record HasTurned (old new : Desk) : Type 0 where
+pub record HasTurned (old new : BrokerDesk) : Type 0 where
   pub entry : ℕ × (ToBroker × Unit {0})
   pub sender : entry.0 < old.inbox.senders
   pub follows : FollowsToBroker entry.0 (of_sender entry.0 old.inbox.received) entry.1
@@ -203,7 +203,7 @@ pub record HasTurned (old new : Desk) : Type 0 where
   pub after : new ≡ turned entry old
 
 -- it works over the same links, and its broker has the same bindings
-pub record HasSameLinks (old new : Desk) : Type 0 where
+pub record HasSameLinks (old new : BrokerDesk) : Type 0 where
   pub inbox : new.inbox.link ≡ old.inbox.link
   pub confirms : new.confirms.link ≡ old.confirms.link
   pub consumers : map (λ c. c.link.link) new.consumers ≡ map (λ c. c.link.link) old.consumers
@@ -212,7 +212,8 @@ pub record HasSameLinks (old new : Desk) : Type 0 where
 -- ---- what is left in the end
 
 -- these are its ends of its links, and its broker
-pub record ArePartsOf (d : Desk) (inbox : Incoming ToBroker (Unit {0})) (confirms : Outgoing ToConnector (Option Past))
+pub record ArePartsOf (d : BrokerDesk) (inbox : Incoming ToBroker (Unit {0}))
+    (confirms : Outgoing ToConnector (Option Past))
     (consumers : List Consumer) (broker : BrokerState) : Type 0 where
   pub inbox_is : inbox ≡ d.inbox
   pub confirms_are : confirms ≡ d.confirms

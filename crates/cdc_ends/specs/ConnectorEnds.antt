@@ -14,7 +14,7 @@ use Rattle.cdc_message.specs.declared.packets.Packet.TheVariants.{Connect, Publi
 use Rattle.cdc_progress.specs.Records.{Saved}
 use Rattle.cdc_progress.specs.Stores.{Risks}
 use Rattle.cdc_publisher.specs.Courses.{Course, after_answer, confirmed_timestamp, is_done, next_packet, next_poll}
-use Rattle.cdc_publisher.specs.Kept.{Kept}
+use Rattle.cdc_publisher.specs.SessionState.{SessionState}
 use Rattle.cdc_publisher.specs.Polls.{IsWanted}
 use Rattle.cdc_publisher.specs.Stands.{StandsFor}
 use Rattle.cdc_traffic.specs.Following.{FollowsToConnector, IsTold}
@@ -45,7 +45,7 @@ pub record Publishing : Type 0 where
   pub held : Option Saved
   pub honest : Bool
   pub risks : Risks
-  pub session : Option Kept
+  pub session : Option SessionState
   pub asked : ℕ
   pub poll : Option Poll
   pub unanswered : ℕ
@@ -163,7 +163,7 @@ IsFirstIn first None = first ≡ None
 IsFirstIn first (Some course) = (moment : ℕ) × (first ≡ Some moment)
 
 -- what is kept of a session stands for this course: both are there, or neither
-abbrev pub SessionStands : Option Kept → Option Course → Type 0
+abbrev pub SessionStands : Option SessionState → Option Course → Type 0
 SessionStands None None = Unit {0}
 SessionStands None (Some course) = ⊥
 SessionStands (Some kept) None = ⊥
@@ -305,7 +305,7 @@ pub record IsLaterTurn (old new : Publishing) : Type 0 where
   pub same : IsOfSame old new
 
 -- a turn in which no session runs is the first
-abbrev pub IsWorkingTurn : Option Kept → Publishing → Publishing → Type 0
+abbrev pub IsWorkingTurn : Option SessionState → Publishing → Publishing → Type 0
 IsWorkingTurn None old new = IsFirstTurn old new
 IsWorkingTurn (Some kept) old new = IsLaterTurn old new
 

@@ -9,8 +9,8 @@ use Rattle.cdc_message.specs.declared.packets.Confirm.{Confirm}
 use Rattle.cdc_message.specs.declared.packets.Packet.{Packet}
 use Rattle.cdc_progress.specs.Records.{Saved}
 use Rattle.cdc_publisher.specs.Courses.{Course, after_answer, begun, confirmed_timestamp, new_course, next_packet, progress_of, with_offer, with_sent}
-use Rattle.cdc_publisher.specs.Kept.{Kept}
-use Rattle.cdc_publisher.specs.Kept.{poll_of}
+use Rattle.cdc_publisher.specs.SessionState.{SessionState}
+use Rattle.cdc_publisher.specs.SessionState.{poll_of}
 use Rattle.cdc_publisher.specs.declared.session.Poll.{Poll as Wanted}
 use Rattle.cdc_traffic.specs.Following.{FollowsToConnector}
 use Rattle.cdc_traffic.specs.declared.messages.ToBroker.TheVariants as to_broker
@@ -130,7 +130,7 @@ pub record IsFollowed (old new : Publishing) : Type 0 where
 -- ---- what is received
 
 -- the events that a session wants, if one runs
-abbrev pub wanted_by : Option Kept → Option Wanted
+abbrev pub wanted_by : Option SessionState → Option Wanted
 wanted_by None = None
 wanted_by (Some kept) = poll_of kept
 
@@ -200,7 +200,7 @@ pub record IsReceived (old : Publishing) (moved : Bool) (new : Publishing) : Typ
   pub still : moved ≡ false → new ≡ record old { inbox = new.inbox }
 
 -- the first session has begun, or a message was received
-abbrev pub IsBegunOrReceived : Option Kept → Publishing → Bool → Publishing → Type 0
+abbrev pub IsBegunOrReceived : Option SessionState → Publishing → Bool → Publishing → Type 0
 IsBegunOrReceived None old moved new = IsFirstTurn old new
 IsBegunOrReceived (Some kept) old moved new = IsReceived old moved new
 

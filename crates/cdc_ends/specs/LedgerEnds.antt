@@ -52,7 +52,7 @@ past_of_inbox inbox = record {
 
 -- the ledger's end of each of its links, the ledger, how many clients aren't done, whether the connector is, and the
 -- poll that is kept until there is something to reply
-pub record Desk : Type 0 where
+pub record LedgerDesk : Type 0 where
   pub inbox : Incoming ToLedger (Unit {0})
   pub clients : List (Outgoing Reply Past)
   pub connector : Outgoing ToConnector (Option Past)
@@ -69,7 +69,7 @@ AreTold number order (client ∷ clients) =
 
 -- the ledger is what all batches received make of it, closed once all clients are done; each client was replied to its
 -- own batches in that order; and what the connector was told of last, the ledger goes on from
-pub record IsBooked (d : Desk) : Type 0 where
+pub record IsBooked (d : LedgerDesk) : Type 0 where
   pub some : 0 < length d.clients
   pub senders : d.inbox.senders ≡ length d.clients + 1
   pub told : AreTold 1 (order_of d.inbox.received) d.clients
@@ -88,13 +88,13 @@ abbrev pub Waits : History → Option Poll → Type 0
 Waits h None = Unit {0}
 Waits h (Some poll) = has_to_wait h poll ≡ true
 
-pub record IsDesk (d : Desk) : Type 0 where
+pub record IsLedgerDesk (d : LedgerDesk) : Type 0 where
   pub booked : IsBooked d
   pub waits : Waits d.ledger d.kept
 
 -- nothing was received
 abbrev pub first_desk : Incoming ToLedger (Unit {0}) → List (Outgoing Reply Past)
-    → Outgoing ToConnector (Option Past) → Desk
+    → Outgoing ToConnector (Option Past) → LedgerDesk
 first_desk inbox clients connector = record {
   inbox = inbox;
   clients = clients;
@@ -106,7 +106,7 @@ first_desk inbox clients connector = record {
 }
 
 -- all clients and the connector are done
-abbrev pub is_over : Desk → Bool
+abbrev pub is_over : LedgerDesk → Bool
 is_over d = (d.clients_left == 0) && d.connector_done
 
 -- ---- a turn
@@ -151,7 +151,7 @@ abbrev pub links_of : List (Outgoing Reply Past) → List (LinkId Reply)
 links_of clients = map (λ client. client.link) clients
 
 -- one message was received, and what follows from it was sent
-pub record IsServed (old new : Desk) : Type 0 where
+pub record IsLedgerTurn (old new : LedgerDesk) : Type 0 where
   pub sender : ℕ
   pub message : ToLedger
   pub below : sender < old.inbox.senders
@@ -161,12 +161,12 @@ pub record IsServed (old new : Desk) : Type 0 where
   pub connector : new.connector ≡ with_replies old.connector (past_of_inbox new.inbox)
       (replied_first new.ledger old.kept message ++ replied_of new.ledger (asked old.kept message))
   pub kept : new.kept ≡ kept_of new.ledger (asked old.kept message)
-  pub is : IsDesk new
+  pub is : IsLedgerDesk new
 
 -- ---- what is left in the end
 
 -- these are its ends of its links, and its ledger
-pub record ArePartsOf (d : Desk) (inbox : Incoming ToLedger (Unit {0})) (clients : List (Outgoing Reply Past))
+pub record ArePartsOf (d : LedgerDesk) (inbox : Incoming ToLedger (Unit {0})) (clients : List (Outgoing Reply Past))
     (connector : Outgoing ToConnector (Option Past)) (ledger : History) : Type 0 where
   pub inbox_is : inbox ≡ d.inbox
   pub clients_are : clients ≡ d.clients
@@ -175,7 +175,7 @@ pub record ArePartsOf (d : Desk) (inbox : Incoming ToLedger (Unit {0})) (clients
 
 -- all have said that they are done: the ledger is what all batches received make of it, with a close after them, and no
 -- poll waits
-pub record IsClosed (d : Desk) : Type 0 where
+pub record IsClosed (d : LedgerDesk) : Type 0 where
   pub clients_done : (client : ℕ) → 0 < client → client ≤ length d.clients → is_done client d.inbox.received ≡ true
   pub connector_done : is_done 0 d.inbox.received ≡ true
   pub history : d.ledger ≡ history_of (record { batches = batches_in (order_of d.inbox.received); closed = true })
@@ -185,10 +185,10 @@ pub record IsClosed (d : Desk) : Type 0 where
 
 -- the end is finished only then
 abbrev pub FinishedDesksAreClosed : Type 0
-FinishedDesksAreClosed = (d : Desk) → IsDesk d → is_over d ≡ true → IsClosed d
+FinishedDesksAreClosed = (d : LedgerDesk) → IsLedgerDesk d → is_over d ≡ true → IsClosed d
 
 -- each client was told, over the link at its place, what it is said of all batches received, in their order
 abbrev pub ClientsAreTold : Type 0
-ClientsAreTold = (d : Desk) (place : ℕ) (client : Outgoing Reply Past) → IsDesk d
+ClientsAreTold = (d : LedgerDesk) (place : ℕ) (client : Outgoing Reply Past) → IsLedgerDesk d
     → slice_get d.clients place ≡ Some client
     → (client.number ≡ 0) × (client.sent ≡ said_to (place + 1) (order_of d.inbox.received))

@@ -1,7 +1,7 @@
 -- How far the ledger's end has come, whether it has met a fault or not.
 use Rattle.std.specs.Prelude.{◌≡◌, ◌==◌, ◌⊎◌, ℕ, ◌+◌, ◌<◌, ◌≤◌, true, false, List, [], ◌∷◌, ◌++◌, is_some, length}
 use Rattle.cdc_ends.specs.Faults.{IsTurnFault}
-use Rattle.cdc_ends.specs.LedgerEnds.{AreTold, Desk, IsDesk, clients_left, is_done, is_over, order_of}
+use Rattle.cdc_ends.specs.LedgerEnds.{AreTold, LedgerDesk, IsLedgerDesk, clients_left, is_done, is_over, order_of}
 use Rattle.cdc_ends.specs.LedgerSteps.{IsTaken}
 use Rattle.cdc_ends.specs.Orders.{batches_in, past_of}
 use Rattle.cdc_ends.specs.declared.faults.RunFault.{RunFault}
@@ -29,7 +29,7 @@ AnswersSoFar before after StartNotAllowed ledger = ⊥
 
 -- how far a message was taken that was received: a request was submitted or not, and its client wasn't replied to; and
 -- a poll came in the place of one that couldn't be replied to, which is kept
-abbrev pub TakesSoFar : ToLedger → Desk → RunFault → Desk → Type 0
+abbrev pub TakesSoFar : ToLedger → LedgerDesk → RunFault → LedgerDesk → Type 0
 TakesSoFar (to_ledger.Request request) old fault new =
     AnswersSoFar old.ledger
     (history_of (past_of (order_of old.inbox.received ++ (request.client, request.batch) ∷ []))) fault new.ledger
@@ -40,7 +40,7 @@ TakesSoFar (to_ledger.Poll poll) old fault new =
 TakesSoFar to_ledger.Finish old fault new = ⊥
 
 -- a message was received, and couldn't be taken
-pub record IsUntaken (old : Desk) (fault : RunFault) (new : Desk) : Type 0 where
+pub record IsUntaken (old : LedgerDesk) (fault : RunFault) (new : LedgerDesk) : Type 0 where
   pub sender : ℕ
   pub message : ToLedger
   pub below : sender < old.inbox.senders
@@ -50,13 +50,13 @@ pub record IsUntaken (old : Desk) (fault : RunFault) (new : Desk) : Type 0 where
 
 -- nothing was received; a message was, and couldn't be taken; or it was taken, and the poll that is asked then couldn't
 -- be replied to
-abbrev pub ComesSoFar : Desk → RunFault → Desk → Type 0
+abbrev pub ComesSoFar : LedgerDesk → RunFault → LedgerDesk → Type 0
 ComesSoFar old fault new =
     ((fault ≡ PeerGone) × (new ≡ old))
     ⊎ (IsUntaken old fault new ⊎ (IsTaken old new × (is_some new.kept ≡ true) × IsTurnFault fault))
 
 -- only an end that isn't finished fails
-pub record HasFailed (old : Desk) (fault : RunFault) (new : Desk) : Type 0 where
+pub record HasFailed (old : LedgerDesk) (fault : RunFault) (new : LedgerDesk) : Type 0 where
   pub working : is_over old ≡ false
   pub comes : ComesSoFar old fault new
 
@@ -65,7 +65,7 @@ pub record HasFailed (old : Desk) (fault : RunFault) (new : Desk) : Type 0 where
 -- with a fault or without one: the ledger is what the batches received make of it, but for the last one perhaps, closed
 -- once all clients are done; each client was replied to its own batches of those in that order, but to the last one of
 -- all perhaps; and what the connector was told of last, the ledger goes on from
-pub record IsLedgerSoFar (d : Desk) : Type 0 where
+pub record IsLedgerSoFar (d : LedgerDesk) : Type 0 where
   pub senders : d.inbox.senders ≡ length d.clients + 1
   pub submitted : List (ℕ × Batch)
   pub unsubmitted : List (ℕ × Batch)
@@ -87,5 +87,6 @@ pub record IsLedgerSoFar (d : Desk) : Type 0 where
 
 -- so the ledger's end stands between two turns, and after one that has failed
 pub record LedgersComeSoFar : Type 0 where
-  pub between : (d : Desk) → IsDesk d → IsLedgerSoFar d
-  pub failed : (old : Desk) (fault : RunFault) (new : Desk) → IsDesk old → HasFailed old fault new → IsLedgerSoFar new
+  pub between : (d : LedgerDesk) → IsLedgerDesk d → IsLedgerSoFar d
+  pub failed : (old : LedgerDesk) (fault : RunFault) (new : LedgerDesk) → IsLedgerDesk old → HasFailed old fault new
+      → IsLedgerSoFar new

@@ -1,7 +1,7 @@
 -- What the steps of a turn of the ledger's end do. Private contracts cite this file, and what is said of a turn that
 -- fails.
 use Rattle.std.specs.Prelude.{◌≡◌, ◌==◌, ℕ, ◌-◌, ◌<◌, true, if◌then◌else◌}
-use Rattle.cdc_ends.specs.LedgerEnds.{Desk, IsBooked, asked, kept_of, links_of, past_of_inbox, replied_first, replied_of, with_replies}
+use Rattle.cdc_ends.specs.LedgerEnds.{LedgerDesk, IsBooked, asked, kept_of, links_of, past_of_inbox, replied_first, replied_of, with_replies}
 use Rattle.cdc_ledger.specs.History.{History}
 use Rattle.cdc_links.specs.Links.{Incoming, of_sender, with_received}
 use Rattle.cdc_traffic.specs.Following.{FollowsToLedger}
@@ -20,21 +20,21 @@ abbrev pub shut : History → History
 shut h = record h { closed = true }
 
 -- one client more is done; once all are, the ledger is closed
-abbrev pub with_one_done : Desk → Desk
+abbrev pub with_one_done : LedgerDesk → LedgerDesk
 with_one_done d = record d {
   clients_left = d.clients_left - 1;
   ledger = if (d.clients_left - 1) == 0 then shut d.ledger else d.ledger;
 }
 
 -- the poll that is asked was looked at
-abbrev pub looked_at : Desk → Desk
+abbrev pub looked_at : LedgerDesk → LedgerDesk
 looked_at d = record d {
   connector = with_replies d.connector (past_of_inbox d.inbox) (replied_of d.ledger d.kept);
   kept = kept_of d.ledger d.kept;
 }
 
 -- one message was received and taken, and the poll that is asked then wasn't looked at yet
-pub record IsTaken (old new : Desk) : Type 0 where
+pub record IsTaken (old new : LedgerDesk) : Type 0 where
   pub sender : ℕ
   pub message : ToLedger
   pub below : sender < old.inbox.senders

@@ -1,9 +1,9 @@
 -- Where each end of a run stands in its system: what no turn of it changes.
 use Rattle.std.specs.Prelude.{ℕ, Bool, Option, Some, None, List, map, if◌then◌else◌}
-use Rattle.cdc_ends.specs.BrokerEnds.{Desk as BrokerDesk}
+use Rattle.cdc_ends.specs.BrokerEnds.{BrokerDesk}
 use Rattle.cdc_ends.specs.Clients.{Talk}
 use Rattle.cdc_ends.specs.ConnectorEnds.{Origin, Publishing, origin_of}
-use Rattle.cdc_ends.specs.LedgerEnds.{Desk, links_of}
+use Rattle.cdc_ends.specs.LedgerEnds.{LedgerDesk, links_of}
 use Rattle.cdc_ends.specs.SubscriberEnds.{Intake}
 use Rattle.cdc_links.specs.Links.{LinkId}
 use Rattle.cdc_match.specs.Arguments.{Arguments}
@@ -21,7 +21,7 @@ pub record LedgerSeat : Type 0 where
   pub clients : List (LinkId Reply)
   pub connector : LinkId ToConnector
 
-abbrev pub ledger_seat : Desk → LedgerSeat
+abbrev pub ledger_seat : LedgerDesk → LedgerSeat
 ledger_seat d = record {
   inbox = d.inbox.link;
   senders = d.inbox.senders;

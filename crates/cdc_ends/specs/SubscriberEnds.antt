@@ -6,7 +6,7 @@ use Rattle.cdc_laws.specs.Hearing.{HasTaken}
 use Rattle.cdc_links.specs.Links.{Incoming, Outgoing, of_sender, with_received, with_sent}
 use Rattle.cdc_message.specs.declared.items.Delivery.{Delivery}
 use Rattle.cdc_subscriber.specs.Heard.{Heard, applied_of, has_ended, kept_of, next, nothing}
-use Rattle.cdc_subscriber.specs.Kept.{Kept}
+use Rattle.cdc_subscriber.specs.SubscriberState.{SubscriberState}
 use Rattle.cdc_traffic.specs.Following.{FollowsToSubscriber}
 use Rattle.cdc_traffic.specs.declared.messages.ToBroker.{ToBroker}
 use Rattle.cdc_traffic.specs.declared.messages.ToBroker.TheVariants.{Ack as Acknowledges}
@@ -19,7 +19,7 @@ pub record Intake : Type 0 where
   pub number : ℕ
   pub inbox : Incoming ToSubscriber (Unit {0})
   pub acks : Outgoing ToBroker (Unit {0})
-  pub subscriber : Kept
+  pub subscriber : SubscriberState
   pub close_after : Option ℕ
   pub finished : Bool
 

@@ -3,7 +3,7 @@
 ghost use Rattle.std.specs.Prelude.{◌≡◌, ◌<◌, ◌≤◌, ◌+◌, All, IfErr, IfOk, OnErr, false, length, map};
 ghost use Rattle.cdc_broker.specs.Broker.{empty_broker, takes_packet};
 ghost use Rattle.cdc_ends.specs.BrokerDesks.{HasCome, HasHeard, MayStop, desk_of};
-ghost use Rattle.cdc_ends.specs.BrokerEnds.{IsBrokerEnd, IsDesk, as_confirm, is_over};
+ghost use Rattle.cdc_ends.specs.BrokerEnds.{IsBrokerEnd, IsBrokerDesk, as_confirm, is_over};
 ghost use Rattle.cdc_ends.specs.BrokerFails.{AreStopping, IsCutOff, IsUnanswered, IsUnpublished};
 ghost use Rattle.cdc_ends.specs.BrokerSoFar.{HasFailed};
 ghost use Rattle.cdc_ends.specs.BrokerTurns.{ArePartsOf, HasTurned, MayAck, admitted, all_served, answer_if, first_consumer, first_desk, stopped, with_ack, with_coming, with_served, with_stop};
@@ -312,7 +312,7 @@ impl BrokerDesk {
 
     /// The next message is received, and what it says is done.
     fn hear<R: Wait>(&mut self, rt: &R, alloc: Global) -> Result<(), RunFault>
-        requires { IsDesk (desk_of self.old) }
+        requires { IsBrokerDesk (desk_of self.old) }
         ensures after { IfOk result (λ _. HasHeard (desk_of self.old) (desk_of self.new)) }
         ensures failed { IfErr result (λ fault.
             HasFailed (desk_of self.old) fault (desk_of self.new)) }
@@ -329,7 +329,7 @@ impl BrokerDesk {
 
     /// The queue at a place hands out what it may.
     fn serve<R: Wait>(&mut self, rt: &R, alloc: Global, place: usize) -> Result<(), RunFault>
-        requires desk { IsDesk (desk_of self.old) }
+        requires desk { IsBrokerDesk (desk_of self.old) }
         requires goes_on { self.old.finished ≡ false }
         requires inside { place < length self.old.consumers.items }
         ensures after { IfOk result (λ _. desk_of self.new ≡ with_served place (desk_of self.old)) }
@@ -353,7 +353,7 @@ impl BrokerDesk {
 
     /// So does each queue, in order.
     fn serve_all<R: Wait>(&mut self, rt: &R, alloc: Global) -> Result<(), RunFault>
-        requires desk { IsDesk (desk_of self.old) }
+        requires desk { IsBrokerDesk (desk_of self.old) }
         requires goes_on { self.old.finished ≡ false }
         ensures after { IfOk result (λ _. desk_of self.new
             ≡ all_served (length self.old.consumers.items) (desk_of self.old)) }
@@ -381,7 +381,7 @@ impl BrokerDesk {
 
     /// Where all is over, each subscriber is told so.
     fn stop<R: Wait>(&mut self, rt: &R) -> Result<(), RunFault>
-        requires desk { IsDesk (desk_of self.old) }
+        requires desk { IsBrokerDesk (desk_of self.old) }
         requires goes_on { self.old.finished ≡ false }
         ensures after { IfOk result (λ _. desk_of self.new ≡ stopped (desk_of self.old)) }
         ensures failed { IfErr result (λ fault.

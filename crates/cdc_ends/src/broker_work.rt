@@ -30,9 +30,9 @@ impl Drop for BrokerWork {
 
 impl Model for BrokerWork {
     ghost use Rattle.cdc_ends.specs.BrokerDesks.{desk_of};
-    ghost use Rattle.cdc_ends.specs.BrokerEnds.{Desk};
+    ghost use Rattle.cdc_ends.specs.BrokerEnds.{BrokerDesk};
 
-    ghost Value = { Desk };
+    ghost Value = { BrokerDesk };
 
     ghost view = { λ work. desk_of work.desk };
 }

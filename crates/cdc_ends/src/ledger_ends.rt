@@ -4,8 +4,8 @@ ghost use Rattle.std.specs.Prelude.{◌≡◌, ◌+◌, ◌<◌, All, [], length
 ghost use Rattle.cdc_ends.specs.Ends.{new_end};
 ghost use Rattle.cdc_ends.specs.LedgerEnds.{ClientsAreTold, FinishedDesksAreClosed, first_desk};
 
-use crate::desks::Desk;
 use crate::ends::End;
+use crate::ledger_desks::LedgerDesk;
 use cdc_links::{LinkIn, LinkOut};
 use cdc_traffic::{Reply, ToConnector, ToLedger};
 use std::alloc::Global;
@@ -18,7 +18,7 @@ use std::alloc::Global;
 /// ledger is closed, or once a later poll comes. The ledger is closed once all clients are done, and the end is
 /// finished once the connector is done too; from then on nothing is received. `PeerGone`: a link refused to send or to
 /// receive. `OutOfMemory`: there was no memory for a batch or for a reply.
-pub type LedgerEnd = End<Desk>;
+pub type LedgerEnd = End<LedgerDesk>;
 
 impl LedgerEnd {
     /// The end of a ledger that has taken nothing yet. The clients' links come in order of the clients' numbers, from
@@ -39,7 +39,7 @@ impl LedgerEnd {
         requires silent { connector.sent ≡ [] }
         ensures { result ≡ new_end system (first_desk inbox clients.items connector) }
     {
-        End::of(system, Desk::new(alloc, inbox, clients, connector))
+        End::of(system, LedgerDesk::new(alloc, inbox, clients, connector))
     }
 }
 

@@ -6,10 +6,10 @@ use Rattle.std.specs.Option.{option_map}
 use Rattle.std.proofs.lemmas.List.{drop_all, map-append}
 use Rattle.std.proofs.lemmas.Grind.{flat_map-append}
 use Rattle.serde_json.specs.Data.{Data}
-use Rattle.cdc_commands.proofs.Places.{drop_found, take_found}
+use Rattle.cdc_commands.proofs.FoundElements.{drop_found, take_found}
 use Rattle.cdc_json.specs.Lines.{batch_value, json_line, json_lines, kept_values, subscriber_values}
 use Rattle.cdc_json.specs.Private.Taking.{numbered_values}
-use Rattle.cdc_subscriber.specs.Kept.{Kept}
+use Rattle.cdc_subscriber.specs.SubscriberState.{SubscriberState}
 use Rattle.cdc_traffic.specs.declared.requests.Reply.{Reply}
 use Rattle.cdc_subscriber.specs.Book.{entry_for, id_and_balances}
 use Rattle.cdc_subscriber.specs.declared.book.BookEntry.{BookEntry}
@@ -53,7 +53,8 @@ pub json_lines-append : (values rest : List Data) → json_lines (values ++ rest
 json_lines-append values rest = flat_map-append json_line values rest
 
 -- one subscriber more is told
-pub kept_more : (all : List Kept) (place : ℕ) (kept : Kept) (now next whole : List ℕ) → slice_get all place ≡ Some kept
+pub kept_more : (all : List SubscriberState) (place : ℕ) (kept : SubscriberState) (now next whole : List ℕ)
+    → slice_get all place ≡ Some kept
     → next ≡ now ++ json_lines (subscriber_values (place + 1) kept)
     → now ++ json_lines (kept_values (place + 1) (drop place all)) ≡ whole
     → next ++ json_lines (kept_values (place + 1 + 1) (drop (place + 1) all)) ≡ whole
@@ -63,16 +64,17 @@ kept_more all place kept now next whole found added before =
     ap (λ (text : List ℕ). text ++ json_lines rest) added
     ∙ append_assoc now (json_lines own) (json_lines rest)
     ∙ ap (λ (text : List ℕ). now ++ text) (sym (json_lines-append own rest))
-    ∙ ap (λ (left : List Kept). now ++ json_lines (kept_values (place + 1) left))
+    ∙ ap (λ (left : List SubscriberState). now ++ json_lines (kept_values (place + 1) left))
     (sym (drop_found all place kept found))
     ∙ before
 
 -- no subscriber is left
-pub kept_whole : (all : List Kept) (place : ℕ) (now whole : List ℕ) → length all ≤ place
+pub kept_whole : (all : List SubscriberState) (place : ℕ) (now whole : List ℕ) → length all ≤ place
     → now ++ json_lines (kept_values (place + 1) (drop place all)) ≡ whole → now ≡ whole
 kept_whole all place now whole past before =
     sym (append-nil now)
-    ∙ ap (λ (left : List Kept). now ++ json_lines (kept_values (place + 1) left)) (sym (drop_all place all past))
+    ∙ ap (λ (left : List SubscriberState). now ++ json_lines (kept_values (place + 1) left))
+    (sym (drop_all place all past))
     ∙ before
 
 -- one reply more is told

@@ -9,7 +9,7 @@ use Rattle.serde_json.specs.Events.{SendsItems, SendsMembers, SendsValue, items_
 use Rattle.serde_json.specs.View.{items_of}
 use Rattle.serde_json.specs.Written.{has_float, items_have_float, members_have_float}
 use Rattle.serde_json.proofs.FreeTexts.{text_of_value}
-use Rattle.cdc_commands.proofs.Places.{drop_found}
+use Rattle.cdc_commands.proofs.FoundElements.{drop_found}
 use Rattle.cdc_json.specs.Lines.{json_line, line_of}
 use Rattle.cdc_json.specs.Private.Sending.{AddsLine, entry_value, field_value, members_of}
 use Rattle.cdc_json.specs.declared.lines.Field.{Field}

@@ -3,7 +3,7 @@ use Rattle.std.proofs.Common.{◌≡◌, ℕ, ◌+◌, List, [], ◌∷◌, ap, 
 use Rattle.serde_json.specs.Data.{Data}
 use Rattle.cdc_match.specs.Arguments.{Arguments}
 use Rattle.cdc_message.specs.declared.items.Item.{Item}
-use Rattle.cdc_subscriber.specs.Kept.{Kept}
+use Rattle.cdc_subscriber.specs.SubscriberState.{SubscriberState}
 use Rattle.cdc_traffic.specs.declared.requests.Reply.{Reply}
 use Rattle.cdc_commands.specs.Feeds.{kept_by}
 use Rattle.cdc_commands.specs.Queues.{filled_queues}
@@ -15,7 +15,8 @@ use Rattle.cdc_json.specs.RunObjects.{reply_values}
 pub kept_of_filled : (items : List Item) (bindings : List Arguments)
     → map kept_of_queue (filled_queues items bindings) ≡ map (kept_by items) bindings
 kept_of_filled items [] = refl
-kept_of_filled items (b ∷ rest) = ap (λ (kept : List Kept). kept_by items b ∷ kept) (kept_of_filled items rest)
+kept_of_filled items (b ∷ rest) = ap (λ (kept : List SubscriberState). kept_by items b ∷ kept)
+    (kept_of_filled items rest)
 
 -- the values of replies are those of the entries that have them
 pub values_numbered : (n : ℕ) (entries : List (ℕ × Reply))

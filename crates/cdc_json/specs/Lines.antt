@@ -13,7 +13,7 @@ use Rattle.cdc_ledger.specs.declared.errors.BatchError.{BatchError}
 use Rattle.cdc_ledger.specs.BatchErrors.{batch_error_number, batch_error_name}
 use Rattle.cdc_message.specs.Values.{narrow, wide}
 use Rattle.cdc_subscriber.specs.declared.book.BookEntry.{BookEntry}
-use Rattle.cdc_subscriber.specs.Kept.{Kept}
+use Rattle.cdc_subscriber.specs.SubscriberState.{SubscriberState}
 use Rattle.cdc_progress.specs.Records.{Saved}
 use Rattle.cdc_script.specs.declared.faults.ScriptFault.{ScriptFault}
 use Rattle.cdc_script.specs.Faults.{kind_name}
@@ -73,7 +73,7 @@ batch_value batch (Err e) =
     no_members)))
 
 -- how far the subscriber of this number is
-abbrev pub subscriber_value : ℕ → Kept → Data
+abbrev pub subscriber_value : ℕ → SubscriberState → Data
 subscriber_value number kept =
     line_of (codes "subscriber") (
     member (codes "subscriber") (narrow number) (
@@ -96,11 +96,11 @@ account_value number entry =
     no_members))))))
 
 -- a subscriber and the accounts of its book
-abbrev pub subscriber_values : ℕ → Kept → List Data
+abbrev pub subscriber_values : ℕ → SubscriberState → List Data
 subscriber_values number kept = subscriber_value number kept ∷ map (account_value number) kept.book
 
 -- the values of subscribers that keep this, the first of which has this number
-abbrev pub kept_values : ℕ → List Kept → List Data
+abbrev pub kept_values : ℕ → List SubscriberState → List Data
 kept_values n [] = []
 kept_values n (kept ∷ rest) = subscriber_values n kept ++ kept_values (n + 1) rest
 

@@ -16,7 +16,7 @@ use Rattle.cdc_laws.proofs.Bases.{bases_taken, prefix_at}
 use Rattle.cdc_laws.specs.Takings.{HasTakenUpTo}
 use Rattle.cdc_laws.proofs.Lines.{line_splits, split_after}
 use Rattle.cdc_laws.proofs.LongerRuns.{each_late}
-use Rattle.cdc_laws.proofs.Places.{Contains_slice_get, each_from, each_has, none_there, slice_get-before, slice_get-behind}
+use Rattle.cdc_laws.proofs.ListElements.{Contains_slice_get, each_from, each_has, none_there, slice_get-before, slice_get-behind}
 use Rattle.cdc_laws.proofs.Replays.{from_places}
 use Rattle.cdc_laws.proofs.Sessions.{IsPublished, IsPublished-sent, follows, one_session}
 use Rattle.cdc_laws.proofs.Taking.{current_session-push, expected_tag-push, is_tag-some, item_taken, items_of-push, later_numbers, tag_after-is, taken_after-false, taken_after-true}

@@ -13,7 +13,7 @@ use Rattle.cdc_laws.specs.ConnectorRuns.{AreSessions, IsBase, IsConfirmed, IsCon
 use Rattle.cdc_laws.specs.Line.{end_mark_if, line_after, told}
 use Rattle.cdc_laws.specs.Takings.{HasTakenUpTo}
 use Rattle.cdc_laws.proofs.Lines.{split_events}
-use Rattle.cdc_laws.proofs.Places.{Contains-cons_cases, each_has, none_there, slice_get-append, slice_get-before}
+use Rattle.cdc_laws.proofs.ListElements.{Contains-cons_cases, each_has, none_there, slice_get-append, slice_get-before}
 use Rattle.cdc_laws.proofs.Rising.{RiseFrom-earlier, TimestampsRise-from, all_later}
 use Rattle.cdc_laws.proofs.Sessions.{follows}
 use Rattle.cdc_log.specs.Log.{RiseFrom, events_after}

@@ -9,7 +9,7 @@ use Rattle.cdc_broker.specs.Queues.{QueueState, acknowledged, empty_queue, rewou
 use Rattle.cdc_broker.proofs.Accepted.{HasAccepted-acknowledged, HasAccepted-published, HasAccepted-rewound, HasAccepted-with_delivery}
 use Rattle.cdc_laws.specs.Arrivals.{AreOfTaken, taken_after, taken_of}
 use Rattle.cdc_laws.specs.Brokers.{HasArrived}
-use Rattle.cdc_laws.proofs.Places.{none_there}
+use Rattle.cdc_laws.proofs.ListElements.{none_there}
 use Rattle.cdc_laws.proofs.Taking.{current_session-push, expected_tag-push, items_of-push, taken_after-false, taken_after-true}
 use Rattle.cdc_match.specs.Arguments.{Arguments}
 use Rattle.cdc_match.specs.Queue.{queue}

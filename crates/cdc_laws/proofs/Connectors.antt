@@ -18,7 +18,7 @@ use Rattle.cdc_laws.specs.Line.{told}
 use Rattle.cdc_laws.proofs.Bases.{prefix_has, told_at}
 use Rattle.cdc_laws.proofs.Courses.{IsPrefix-take, MayFollow-course, confirmed_cases, each_number, end_at, publishes_from-push, reaches, take_one}
 use Rattle.cdc_laws.proofs.Lines.{events_after-goes_on}
-use Rattle.cdc_laws.proofs.Places.{Contains-cons_cases, none_there, slice_get-append}
+use Rattle.cdc_laws.proofs.ListElements.{Contains-cons_cases, none_there, slice_get-append}
 use Rattle.cdc_laws.proofs.LongerRuns.{AreSessions-goes_on, IsPrefix-longer}
 use Rattle.cdc_laws.proofs.Sessions.{AreConfirmed-more, AreSessions-more, IsBase-more}
 use Rattle.cdc_log.specs.Log.{events_after}

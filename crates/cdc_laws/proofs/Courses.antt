@@ -10,7 +10,7 @@ use Rattle.cdc_ledger.specs.History.{History}
 use Rattle.cdc_laws.specs.ConnectorRuns.{AreConfirmed, IsBase, MayFollow, Shown, publishes_from}
 use Rattle.cdc_laws.specs.Connectors.{SendsInTurn, shown_of}
 use Rattle.cdc_laws.specs.Line.{end_mark_if, line_after, told}
-use Rattle.cdc_laws.proofs.Places.{slice_get-append}
+use Rattle.cdc_laws.proofs.ListElements.{slice_get-append}
 use Rattle.cdc_laws.proofs.LongerRuns.{IsPrefix-longer}
 use Rattle.cdc_log.specs.Log.{events_after}
 use Rattle.cdc_message.specs.declared.items.Item.{Item}

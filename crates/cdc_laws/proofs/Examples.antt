@@ -17,7 +17,7 @@ use Rattle.cdc_laws.specs.ConnectorRuns.{AreConfirmed, IsConfirmed, IsConnectorR
 use Rattle.cdc_laws.specs.Deliveries.{deliveries, positions_in}
 use Rattle.cdc_laws.specs.Faithful.{HoldsAccounts, IsFaithful, accounts_told, applied, balances_held, no_balances}
 use Rattle.cdc_laws.specs.Line.{feed_after, feed_of, line, line_after}
-use Rattle.cdc_laws.proofs.Places.{Contains-cons_cases, none_there}
+use Rattle.cdc_laws.proofs.ListElements.{Contains-cons_cases, none_there}
 use Rattle.cdc_match.specs.Arguments.{Arguments}
 use Rattle.cdc_match.specs.Queue.{queue}
 use Rattle.cdc_match.specs.declared.pairs.Mode.TheVariants.{All}

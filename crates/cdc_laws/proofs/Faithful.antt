@@ -29,7 +29,7 @@ use Rattle.cdc_message.specs.Replays.{IsPrefix, IsReplay}
 use Rattle.cdc_message.proofs.ReplayLaws.{IsReplay-take, IsReplay-trans}
 use Rattle.cdc_subscriber.specs.Book.{book_of}
 use Rattle.cdc_subscriber.specs.Heard.{Heard, applied_of, has_ended, is_end, kept_of, next, nothing}
-use Rattle.cdc_subscriber.specs.Kept.{Kept}
+use Rattle.cdc_subscriber.specs.SubscriberState.{SubscriberState}
 
 -- what is heard of the first so many deliveries of a replay of a queue is a replay of the queue
 pub IsReplay-heard : (items : List Item) (ds : List Delivery) (n : ℕ) → IsReplay ds (deliveries items)
@@ -64,7 +64,7 @@ module _ (h : History) (start : ℕ) (binding : Arguments) (heard : Heard) (is :
       let same : applied heard ≡ applied_of heard =
       rises-told (feed_after h start binding) (feed_after_rises h start binding is) h.closed heard.items
       (subst (IsReplay heard.items) (queue-line_after h start binding) replay) in
-      let kept : List Event → Kept = λ es. record {
+      let kept : List Event → SubscriberState = λ es. record {
         book = book_of es;
         last = last_timestamp es;
         applied = min (length es) (2 ^ 64 - 1);

@@ -27,7 +27,7 @@ use Rattle.cdc_types.specs.declared.transfers.Transfer.{Transfer}
 use Rattle.cdc_types.specs.declared.events.Event.{Event}
 use Rattle.cdc_types.specs.Features.{features}
 use Rattle.cdc_laws.specs.GoingOn.{GoesOn}
-use Rattle.cdc_laws.proofs.Places.{AllByRecursion-append}
+use Rattle.cdc_laws.proofs.ListElements.{AllByRecursion-append}
 
 -- what is asked of a history so that a request adds to it: no entry is past the last timestamp, and both accounts of
 -- each entry are there

@@ -14,7 +14,7 @@ pub mod LateBooks
 pub mod Lines
 pub mod LongerRuns
 pub mod Offers
-pub mod Places
+pub mod ListElements
 pub mod Queues
 pub mod Replays
 pub mod Rising

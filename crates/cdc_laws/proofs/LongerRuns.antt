@@ -10,7 +10,7 @@ use Rattle.cdc_laws.specs.GoingOn.{GoesOn}
 use Rattle.cdc_laws.specs.Line.{line_after}
 use Rattle.cdc_laws.proofs.Bases.{event_at, prefix_at}
 use Rattle.cdc_laws.proofs.Lines.{line_after-goes_on, split_events}
-use Rattle.cdc_laws.proofs.Places.{Contains-cons_cases, Contains_slice_get, each_has, none_there}
+use Rattle.cdc_laws.proofs.ListElements.{Contains-cons_cases, Contains_slice_get, each_has, none_there}
 use Rattle.cdc_laws.proofs.Rising.{all_later}
 use Rattle.cdc_laws.proofs.Sessions.{AreSessions-more}
 use Rattle.cdc_log.specs.Log.{events_after}

@@ -10,7 +10,7 @@ use Rattle.cdc_ledger.specs.Events.{event_of, events}
 use Rattle.cdc_ledger.specs.History.{History}
 use Rattle.cdc_ledger.specs.Sound as sound
 use Rattle.cdc_laws.specs.Line.{feed_after}
-use Rattle.cdc_laws.proofs.Places.{each_has}
+use Rattle.cdc_laws.proofs.ListElements.{each_has}
 use Rattle.cdc_log.specs.Log.{RiseFrom, events_after}
 use Rattle.cdc_match.specs.Arguments.{Arguments}
 use Rattle.cdc_match.specs.Queue.{takes_event}

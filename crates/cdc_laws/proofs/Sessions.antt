@@ -5,7 +5,7 @@ use Rattle.std.proofs.lemmas.List.Elements.{Contains-append_cases, Contains-appe
 use Rattle.cdc_ledger.specs.History.{History}
 use Rattle.cdc_laws.specs.Arrivals.{AreAmong}
 use Rattle.cdc_laws.specs.ConnectorRuns.{AreConfirmed, AreSessions, IsBase, IsConfirmedTo, MayFollow, Shown, packets_of, publishes_from, sent_by}
-use Rattle.cdc_laws.proofs.Places.{Contains-cons_cases, none_there}
+use Rattle.cdc_laws.proofs.ListElements.{Contains-cons_cases, none_there}
 use Rattle.cdc_message.specs.declared.items.Item.{Item}
 use Rattle.cdc_message.specs.declared.packets.Confirm.{Confirm}
 use Rattle.cdc_message.specs.declared.packets.Packet.TheVariants.{Connect, Publish}

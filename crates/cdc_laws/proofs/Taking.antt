@@ -9,7 +9,7 @@ use Rattle.std.proofs.lemmas.Option.{cond_some}
 use Rattle.cdc_broker.specs.Packets.{current_session, expected_after, expected_tag, is_tag, is_taken, items_of, packet_item, session_after, tag_after}
 use Rattle.cdc_laws.specs.Arrivals.{taken_after}
 use Rattle.cdc_laws.specs.Takings.{session_of}
-use Rattle.cdc_laws.proofs.Places.{Contains-cons_cases, none_there}
+use Rattle.cdc_laws.proofs.ListElements.{Contains-cons_cases, none_there}
 use Rattle.cdc_message.specs.declared.items.Item.{Item}
 use Rattle.cdc_message.specs.declared.packets.Packet.{Packet}
 use Rattle.cdc_message.specs.declared.packets.Packet.TheVariants.{Connect, Publish}

@@ -7,7 +7,7 @@ use Rattle.std.proofs.lemmas.Bool.Decides.{nat_tests}
 use Rattle.std.proofs.lemmas.List.Elements.{Contains-append_right, Contains-get_or}
 use Rattle.cdc_laws.specs.Readings.{none_follow}
 use Rattle.cdc_laws.proofs.Lines.{events_past, split_events}
-use Rattle.cdc_laws.proofs.Places.{each_has}
+use Rattle.cdc_laws.proofs.ListElements.{each_has}
 use Rattle.cdc_laws.proofs.Splits.{split_at}
 use Rattle.cdc_ledger.specs.Events.{events}
 use Rattle.cdc_ledger.specs.History.{History}

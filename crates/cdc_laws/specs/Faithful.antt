@@ -11,7 +11,7 @@ use Rattle.cdc_message.specs.Replays.{IsPrefix, firsts}
 use Rattle.cdc_subscriber.specs.declared.book.BookEntry.{BookEntry}
 use Rattle.cdc_subscriber.specs.Book.{accounts_of, balances_in, book_of}
 use Rattle.cdc_subscriber.specs.Heard.{Heard, has_ended}
-use Rattle.cdc_subscriber.specs.Kept.{Kept}
+use Rattle.cdc_subscriber.specs.SubscriberState.{SubscriberState}
 use Rattle.cdc_types.specs.declared.accounts.Balances.{Balances}
 use Rattle.cdc_types.specs.declared.events.Event.{Event}
 use Rattle.cdc_types.specs.Timestamps.{last_timestamp}
@@ -62,7 +62,7 @@ pub record IsFaithful (h : History) (start : ℕ) (binding : Arguments) (heard :
       → HoldsBalances h (applied heard)
 
 -- what a subscriber keeps, told by what it has applied; it counts up to 2^64-1
-abbrev pub kept_from : Heard → Kept
+abbrev pub kept_from : Heard → SubscriberState
 kept_from heard = record {
   book = book_of (applied heard);
   last = last_timestamp (applied heard);

@@ -24,7 +24,7 @@ use Rattle.cdc_ledger.specs.Filling.{stored, filled, filled_by, filled_from, as_
 use Rattle.cdc_ledger.specs.History.{History, Opened, opened}
 use Rattle.cdc_ledger.specs.Kinds.{posts, voids, expires}
 use Rattle.cdc_ledger.specs.Movements.{IsPlace}
-use Rattle.cdc_ledger.specs.Places.{account_place}
+use Rattle.cdc_ledger.specs.PlacesById.{account_place}
 use Rattle.cdc_ledger.specs.Balances.{IsBounded}
 use Rattle.cdc_ledger.specs.Submit.{entry_of}
 use Rattle.cdc_ledger.specs.Verdict.{transfer_lines, known_transfer_lines, plain_lines, field_lines, settling_lines}
@@ -35,7 +35,7 @@ use Rattle.cdc_ledger.proofs.Found.{find-accounts_now}
 use Rattle.cdc_ledger.proofs.LineLaws.{first_line-append_none, first_line-append_some, test_fails}
 use Rattle.cdc_ledger.proofs.OpenedLaws.{opened_id}
 use Rattle.cdc_ledger.proofs.PlaceLaws.{find-no_place}
-use Rattle.cdc_ledger.proofs.Places.{place-find}
+use Rattle.cdc_ledger.proofs.AccountPlaces.{place-find}
 
 -- the lines on a request's own fields and on a known id don't apply: its own lines decide
 module _ (h : History) (r : NewTransfer) (t : ℕ) (shape : transfer_refusal features r ≡ None)

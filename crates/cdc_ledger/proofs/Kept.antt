@@ -9,7 +9,7 @@ use Rattle.cdc_ledger.specs.Changes.{with_account}
 use Rattle.cdc_ledger.specs.Endings.{endings_of}
 use Rattle.cdc_ledger.specs.Events.{accounts_now}
 use Rattle.cdc_ledger.specs.History.{History, Opened, opened}
-use Rattle.cdc_ledger.specs.Places.{account_place, place_of, stored_place}
+use Rattle.cdc_ledger.specs.PlacesById.{account_place, place_of, stored_place}
 use Rattle.cdc_ledger.specs.Sound.{IsSound}
 use Rattle.cdc_ledger.specs.Tables.{IsKept, history_of}
 use Rattle.cdc_ledger.specs.Verdict.{max_timestamp}

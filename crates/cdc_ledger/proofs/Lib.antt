@@ -19,7 +19,7 @@ pub mod Found
 pub mod PlaceLaws
 pub mod Kept
 pub mod Legal
-pub mod Places
+pub mod AccountPlaces
 pub mod DueOrder
 pub mod IndexTriples
 pub mod Pending

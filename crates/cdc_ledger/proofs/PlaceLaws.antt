@@ -13,7 +13,7 @@ use Rattle.cdc_ledger.specs.Events.{account_now, accounts_now}
 use Rattle.cdc_ledger.specs.Filling.{stored}
 use Rattle.cdc_ledger.specs.History.{History, opened}
 use Rattle.cdc_ledger.specs.Kinds.{stores}
-use Rattle.cdc_ledger.specs.Places.{PlacesById, place_of, account_place, stored_place}
+use Rattle.cdc_ledger.specs.PlacesById.{PlacesById, place_of, account_place, stored_place}
 use Rattle.cdc_ledger.proofs.Found.{find-same}
 
 -- the place that a search answers is the one where it stopped

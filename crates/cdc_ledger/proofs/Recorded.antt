@@ -25,7 +25,7 @@ use Rattle.cdc_ledger.specs.Follows.{Follows}
 use Rattle.cdc_ledger.specs.History.{History, Opened, opened}
 use Rattle.cdc_ledger.specs.Kinds.{settles, stores}
 use Rattle.cdc_ledger.specs.Movements.{IsPlaced, IsMovement, SideFits, Takes, account_ids, accounts_after, effect_of_movement, settled_transfer}
-use Rattle.cdc_ledger.specs.Places.{account_place, place_of, stored_place}
+use Rattle.cdc_ledger.specs.PlacesById.{account_place, place_of, stored_place}
 use Rattle.cdc_ledger.specs.Sound.{AreApart, IsSound}
 use Rattle.cdc_ledger.specs.Tables.{IsKept, contents_of, history_of}
 use Rattle.cdc_ledger.specs.Verdict.{max_timestamp}

@@ -25,7 +25,7 @@ use Rattle.cdc_ledger.specs.Filling.{stored}
 use Rattle.cdc_ledger.specs.History.{History, Opened, opened}
 use Rattle.cdc_ledger.specs.Kinds.{stores}
 use Rattle.cdc_ledger.specs.Movements.{account_ids, accounts_after, credited_account, debited_account, effect_of_movement, IsStoredAt}
-use Rattle.cdc_ledger.specs.Places.{account_place, place_of, stored_place}
+use Rattle.cdc_ledger.specs.PlacesById.{account_place, place_of, stored_place}
 use Rattle.cdc_ledger.specs.Recorded.{AreRecorded, IsLastOpened, IsLastRecorded, IsRecorded, grown, without_account, without_entry}
 use Rattle.cdc_ledger.specs.Sound.{AreApart}
 use Rattle.cdc_ledger.specs.Submit.{opened_by}
@@ -35,7 +35,7 @@ use Rattle.cdc_ledger.proofs.EndingLaws.{endings_of-pushed, open_before, settled
 use Rattle.cdc_ledger.proofs.Found.{find-same}
 use Rattle.cdc_ledger.proofs.Kept.{IsKept-from}
 use Rattle.cdc_ledger.proofs.PlaceLaws.{find-place, position-pushed}
-use Rattle.cdc_ledger.proofs.Places.{both-changed, place-inside, places_apart}
+use Rattle.cdc_ledger.proofs.AccountPlaces.{both-changed, place-inside, places_apart}
 use Rattle.cdc_ledger.proofs.Recorded.{account_place-changed, effect-movement, ids_opened}
 
 -- a list without its last element

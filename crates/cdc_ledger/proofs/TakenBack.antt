@@ -14,7 +14,7 @@ use Rattle.cdc_ledger.specs.OpenTriples.{ends_after}
 use Rattle.cdc_ledger.specs.Sound.{IsSound}
 use Rattle.cdc_ledger.specs.Stops.{AreUnrefused, taken_all}
 use Rattle.cdc_ledger.specs.Submit.{account_rules, opened_by}
-use Rattle.cdc_ledger.specs.Told.{IsTold}
+use Rattle.cdc_ledger.specs.ToldHistory.{IsTold}
 use Rattle.cdc_ledger.specs.Verdict.{max_timestamp}
 use Rattle.cdc_ledger.proofs.AcceptedLaws.{accepted_account}
 use Rattle.cdc_ledger.proofs.BatchLaws.{AreUnrefused_less, no_account, taken_all_more}

@@ -26,7 +26,7 @@ use Rattle.cdc_ledger.specs.Movements.{settled_transfer}
 use Rattle.cdc_ledger.specs.OpenTriples.{ends_after, index_of, opens}
 use Rattle.cdc_ledger.specs.Sound.{IsSound}
 use Rattle.cdc_ledger.specs.Submit.{account_rules, accounts_from, base, is_past_the_end, opened_by, taken}
-use Rattle.cdc_ledger.specs.Told.{IsTold}
+use Rattle.cdc_ledger.specs.ToldHistory.{IsTold}
 use Rattle.cdc_ledger.specs.Verdict.{max_timestamp}
 use Rattle.cdc_ledger.proofs.AcceptedLaws.{accepted_account}
 use Rattle.cdc_ledger.proofs.ChainLaws.{items_from-keeps}

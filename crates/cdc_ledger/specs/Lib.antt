@@ -20,9 +20,9 @@ pub mod Endings
 pub mod Follows
 pub mod Movements
 pub mod OpenTriples
-pub mod Places
+pub mod PlacesById
 pub mod Recorded
 pub mod Sound
 pub mod Stops
 pub mod Tables
-pub mod Told
+pub mod ToldHistory

@@ -7,7 +7,7 @@ use Rattle.cdc_ledger.specs.Contents.{Contents}
 use Rattle.cdc_ledger.specs.Endings.{endings_of}
 use Rattle.cdc_ledger.specs.Events.{accounts_now}
 use Rattle.cdc_ledger.specs.History.{History}
-use Rattle.cdc_ledger.specs.Places.{account_place, place_of, stored_place}
+use Rattle.cdc_ledger.specs.PlacesById.{account_place, place_of, stored_place}
 use Rattle.cdc_ledger.specs.Sound.{IsSound}
 
 -- the history that the tables hold

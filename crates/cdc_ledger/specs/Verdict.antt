@@ -3,6 +3,7 @@
 use Rattle.std.specs.Prelude.{ℕ, ◌+◌, Bool, true, ◌==◌, ◌&&◌, ◌||◌, not, nat_lt, nat_le, Option, Some, None, List, [], ◌∷◌, ◌++◌, if◌then◌else◌}
 use Rattle.cdc_types.specs.declared.accounts.Balances.{Balances}
 use Rattle.cdc_types.specs.declared.accounts.NewAccount.{NewAccount}
+use Rattle.cdc_types.specs.declared.accounts.TheConstants.AccountFlags.{CREDITS_MUST_NOT_EXCEED_DEBITS, DEBITS_MUST_NOT_EXCEED_CREDITS}
 use Rattle.cdc_types.specs.declared.events.Entry.{Entry}
 use Rattle.cdc_types.specs.declared.results.AccountResult.{AccountResult}
 use Rattle.cdc_types.specs.declared.results.AccountResult.TheVariants as account
@@ -75,9 +76,13 @@ timeout_lines r t =
 abbrev pub limit_lines : Balances → Balances → NewAccount → NewAccount → ℕ → List (Bool × TransferResult)
 limit_lines debit credit debited credited amount =
     let debits = debit.debits_pending + debit.debits_posted + amount in
-    let credits = credit.credits_pending + credit.credits_posted + amount in
-    (has_flag debited.flags 2 && nat_lt debit.credits_posted debits, transfer.ExceedsCredits) ∷
-    (has_flag credited.flags 4 && nat_lt credit.debits_posted credits, transfer.ExceedsDebits) ∷
+    let credits = credit.credits_pending + credit.credits_posted + amount in (
+      has_flag debited.flags DEBITS_MUST_NOT_EXCEED_CREDITS && nat_lt debit.credits_posted debits,
+      transfer.ExceedsCredits,
+    ) ∷ (
+      has_flag credited.flags CREDITS_MUST_NOT_EXCEED_DEBITS && nat_lt credit.debits_posted credits,
+      transfer.ExceedsDebits,
+    ) ∷
     []
 
 -- the lines on the sums that a single-phase or a pending transfer would lead to, from the balances before it

@@ -4,7 +4,7 @@ ghost use Rattle.std.specs.Prelude.{◌≡◌, nat_lt, OnOk};
 ghost use Rattle.cdc_ledger.specs.Answers.{Answers};
 ghost use Rattle.cdc_ledger.specs.Fits.{BatchFits};
 ghost use Rattle.cdc_ledger.specs.Submit.{base as first_timestamp, refusal_at};
-ghost use Rattle.cdc_ledger.specs.Told.{IsTold};
+ghost use Rattle.cdc_ledger.specs.ToldHistory.{IsTold};
 
 use crate::chains::tail_len;
 use crate::errors::BatchError;

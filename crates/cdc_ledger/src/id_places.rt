@@ -1,7 +1,7 @@
 //! The places of accounts and of transfers by their ids: a hash map, with room that was made ahead.
 
 ghost use Rattle.std.specs.Prelude.{◌≡◌, ◌+◌, ◌≤◌, ◌<◌, ◌==◌, ℕ, [], None, Some, if◌then◌else◌, OnOk};
-ghost use Rattle.cdc_ledger.specs.Places.{place_of};
+ghost use Rattle.cdc_ledger.specs.PlacesById.{place_of};
 
 use indexmap::IndexMap;
 use std::alloc::{AllocError, Global};
@@ -18,7 +18,7 @@ pub(crate) struct IdPlaces {
 impl Model for IdPlaces {
     ghost use Rattle.std.specs.Prelude.{◌≤◌};
     ghost use Rattle.indexmap.specs.IndexMap.{spare};
-    ghost use Rattle.cdc_ledger.specs.Places.{PlacesById};
+    ghost use Rattle.cdc_ledger.specs.PlacesById.{PlacesById};
 
     ghost Value = { PlacesById };
 

@@ -43,7 +43,7 @@ impl Model for Ledger {
     ghost Value = { History };
 
     ghost use Rattle.cdc_ledger.specs.Submit.{IsLegal};
-    ghost use Rattle.cdc_ledger.specs.Told.{IsTold};
+    ghost use Rattle.cdc_ledger.specs.ToldHistory.{IsTold};
 
     ghost view = { λ ledger. ledger.tables.history };
 

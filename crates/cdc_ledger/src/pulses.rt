@@ -7,7 +7,7 @@ ghost use Rattle.cdc_ledger.specs.Due.{due};
 ghost use Rattle.cdc_ledger.specs.Follows.{Follows, IsDueNext};
 ghost use Rattle.cdc_ledger.specs.Movements.{IsStoredAt};
 ghost use Rattle.cdc_ledger.specs.Submit.{expiries_from};
-ghost use Rattle.cdc_ledger.specs.Told.{IsTold};
+ghost use Rattle.cdc_ledger.specs.ToldHistory.{IsTold};
 ghost use Rattle.cdc_ledger.specs.Verdict.{max_timestamp};
 
 use crate::errors::BatchError;

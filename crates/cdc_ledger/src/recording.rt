@@ -8,7 +8,7 @@ ghost use Rattle.cdc_ledger.specs.Follows.{Follows};
 ghost use Rattle.cdc_ledger.specs.History.{opened};
 ghost use Rattle.cdc_ledger.specs.Kinds as kinds;
 ghost use Rattle.cdc_ledger.specs.Movements.{IsMovement};
-ghost use Rattle.cdc_ledger.specs.Places.{place_of};
+ghost use Rattle.cdc_ledger.specs.PlacesById.{place_of};
 ghost use Rattle.cdc_ledger.specs.Recorded.{IsLastOpened, IsLastRecorded, IsRecorded, without_account, without_entry};
 ghost use Rattle.cdc_ledger.specs.Sound.{IsSound};
 ghost use Rattle.cdc_ledger.specs.Submit.{opened_by};

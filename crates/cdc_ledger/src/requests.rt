@@ -12,7 +12,7 @@ ghost use Rattle.cdc_ledger.specs.Recorded.{AreRecorded, grown};
 ghost use Rattle.cdc_ledger.specs.Sound.{IsSound};
 ghost use Rattle.cdc_ledger.specs.Stops.{IsJudgedInChain, IsStopped, judged_count, stop_parts};
 ghost use Rattle.cdc_ledger.specs.Submit.{account_rules, accounts_from, opened_by, transfer_rules, transfers_from};
-ghost use Rattle.cdc_ledger.specs.Told.{IsTold};
+ghost use Rattle.cdc_ledger.specs.ToldHistory.{IsTold};
 ghost use Rattle.cdc_ledger.specs.Verdict.{max_timestamp, account_lines};
 
 use crate::accounts::is_same_account;

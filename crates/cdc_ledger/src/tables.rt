@@ -6,7 +6,7 @@ ghost use Rattle.cdc_ledger.specs.Endings.{ending_of};
 ghost use Rattle.cdc_ledger.specs.Events.{account_now, accounts_now};
 ghost use Rattle.cdc_ledger.specs.Filling.{stored};
 ghost use Rattle.cdc_ledger.specs.History.{empty_history, opened};
-ghost use Rattle.cdc_ledger.specs.Places.{account_place, stored_place};
+ghost use Rattle.cdc_ledger.specs.PlacesById.{account_place, stored_place};
 ghost use Rattle.cdc_ledger.specs.Sound.{IsSound};
 ghost use Rattle.cdc_ledger.specs.Verdict.{max_timestamp};
 

@@ -1,6 +1,6 @@
 pub mod Entries
 mod Joined
-mod Places
+mod DistinctNumbers
 mod Settling
 mod Stays
 mod Steps

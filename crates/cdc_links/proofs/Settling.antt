@@ -8,7 +8,7 @@ use Rattle.cdc_links.specs.declared.rule.Knowledge.{Knowledge}
 use Rattle.cdc_links.specs.Links.{Outgoing, Incoming, of_sender, IsAccount}
 use Rattle.cdc_links.specs.Rule.{receiving, joined_of, with_joined, with_all_joined, IsApart, AreApart, AreWhole, IsSettled}
 use Rattle.cdc_links.proofs.Entries.{of_sender-own, of_sender-other}
-use Rattle.cdc_links.proofs.Places.{In, Away, Distinct, Below, hits, by_equal, in-contains, all_there, hits-once}
+use Rattle.cdc_links.proofs.DistinctNumbers.{In, Away, Distinct, Below, hits, by_equal, in-contains, all_there, hits-once}
 
 -- zeros add up to zero
 sum_by-zero : (ks : List ℕ) → 0 ≡ sum_by (λ _. 0) ks

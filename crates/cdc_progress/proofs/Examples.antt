@@ -3,7 +3,7 @@ use Rattle.std.proofs.Common.{◌≡◌, true, false, refl}
 use Rattle.std.specs.Prelude.{Some, None, codes}
 use Rattle.std.specs.Fmt.{digits}
 use Rattle.cdc_progress.specs.Memory.{Memory, fails_next, failures_of, called, after_save}
-use Rattle.cdc_progress.specs.Records.{first_text_of, saved, text_of}
+use Rattle.cdc_progress.specs.Records.{first_text_of, saved, saved_from, text_of}
 
 -- the text of session 3 at timestamp 2000
 third_as_text : text_of (saved 3 2000) ≡ codes "tb-cdc 2 3 2000 0\n"
@@ -16,7 +16,7 @@ unfolding digits
 third_as_first_text = refl
 
 -- the text of session 4 at timestamp 2001 of a publisher that began after 2000
-late_as_text : text_of (record { session = 4; timestamp = 2001; start = 2000 }) ≡ codes "tb-cdc 2 4 2001 2000\n"
+late_as_text : text_of (saved_from 2000 4 2001) ≡ codes "tb-cdc 2 4 2001 2000\n"
 unfolding digits
 late_as_text = refl
 

@@ -9,9 +9,13 @@ pub record Saved : Type 0 where
   pub timestamp : ℕ
   pub start : ℕ
 
+-- what is saved of a publisher that began after this start: so many sessions, and the timestamp
+abbrev pub saved_from : ℕ → ℕ → ℕ → Saved
+saved_from start session timestamp = record { session = session; timestamp = timestamp; start = start }
+
 -- what is saved of a publisher that began at the very start
 abbrev pub saved : ℕ → ℕ → Saved
-saved session timestamp = record { session = session; timestamp = timestamp; start = 0 }
+saved session timestamp = saved_from 0 session timestamp
 
 -- the numbers fit: 64 bits, and the greatest timestamp; and the start is no later than the timestamp
 pub record Fits (saved : Saved) : Type 0 where

@@ -7,7 +7,7 @@ use Rattle.cdc_types.specs.declared.events.Event.{Event}
 use Rattle.cdc_types.specs.Timestamps.{RiseFrom, last_timestamp_from}
 use Rattle.cdc_types.proofs.Rising.{last_timestamp_from-slice_get}
 use Rattle.cdc_publisher.specs.declared.session.Unconfirmed.{Unconfirmed}
-use Rattle.cdc_publisher.specs.Kept.{Kept, poll_of, without_tag}
+use Rattle.cdc_publisher.specs.SessionState.{SessionState, poll_of, without_tag}
 use Rattle.cdc_publisher.specs.Offers.{IsOffered}
 use Rattle.cdc_publisher.specs.Stands.{HasBounds, IsFrom}
 use Rattle.cdc_publisher.specs.Turns.{tagged}
@@ -47,7 +47,7 @@ from_start start moment (event ∷ events) late rising fits (suc k) d lt =
     (λ i x low. fits (suc i) x (omega (arith, low))) k d (omega (arith, lt))
 
 -- where events are offered
-pub offered_bounds : (kept : Kept) (events : List Event) (complete : Bool) → HasBounds kept
+pub offered_bounds : (kept : SessionState) (events : List Event) (complete : Bool) → HasBounds kept
     → IsOffered (poll_of kept) events
     → HasBounds (record kept {
       last = last_timestamp_from kept.last events;
@@ -77,7 +77,7 @@ offered_bounds kept events complete bounds offer =
     }
 
 -- where a tag is taken out
-pub confirmed_bounds : (kept : Kept) (tag : ℕ) → HasBounds kept
+pub confirmed_bounds : (kept : SessionState) (tag : ℕ) → HasBounds kept
     → HasBounds (record kept { unconfirmed = without_tag tag kept.unconfirmed })
 confirmed_bounds kept tag bounds =
     let few = length-without_tag tag kept.unconfirmed in
@@ -96,7 +96,7 @@ confirmed_bounds kept tag bounds =
     }
 
 -- where the oldest unsent event is sent
-pub published_bounds : (kept : Kept) (event : Event) (events : List Event) → HasBounds kept
+pub published_bounds : (kept : SessionState) (event : Event) (events : List Event) → HasBounds kept
     → kept.unsent ≡ event ∷ events
     → HasBounds (record (tagged kept) { unsent = events; last_sent = event.timestamp })
 published_bounds kept event events bounds is =
@@ -126,7 +126,7 @@ published_bounds kept event events bounds is =
     one (suc k) d lt = absurd (omega arith)
 
 -- what is offered fits
-pub offered_fits : (kept : Kept) (events : List Event) → HasBounds kept → IsOffered (poll_of kept) events
+pub offered_fits : (kept : SessionState) (events : List Event) → HasBounds kept → IsOffered (poll_of kept) events
     → length (kept.unsent ++ events) ≤ kept.window
 offered_fits kept events bounds offer =
     let free = is_free kept events offer in
@@ -135,7 +135,7 @@ offered_fits kept events bounds offer =
     omega (arith, length-append kept.unsent events)
 
 -- one more tag fits where an event is unsent
-pub tag_fits : (kept : Kept) (event : Event) (events : List Event) (entry : Unconfirmed) → HasBounds kept
+pub tag_fits : (kept : SessionState) (event : Event) (events : List Event) (entry : Unconfirmed) → HasBounds kept
     → kept.unsent ≡ event ∷ events → length (kept.unconfirmed ++ entry ∷ []) ≤ kept.window
 tag_fits kept event events entry bounds is =
     let long : length kept.unsent ≡ suc (length events) = ap length is in

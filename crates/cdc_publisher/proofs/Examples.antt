@@ -6,7 +6,7 @@ use Rattle.cdc_types.specs.declared.events.EventAccount.{EventAccount}
 use Rattle.cdc_types.specs.declared.events.EventKind.TheVariants.{SinglePhase}
 use Rattle.cdc_message.specs.declared.items.Item.TheVariants.{Event as OfEvent, EndMark}
 use Rattle.cdc_message.specs.declared.packets.Packet.TheVariants.{Connect, Publish}
-use Rattle.cdc_progress.specs.Records.{saved}
+use Rattle.cdc_progress.specs.Records.{saved, saved_from}
 use Rattle.cdc_publisher.specs.declared.errors.StartError.TheVariants.{SessionsExhausted, StartNotAllowed}
 use Rattle.cdc_publisher.specs.Courses.{Course, begun, confirmed_timestamp, is_done, new_course, next_packet, next_poll, progress_of, takes_confirm, unconfirmed, with_confirm, with_offer, with_sent}
 
@@ -61,11 +61,11 @@ first_number : begun None None ≡ Ok (saved 1 0)
 first_number = refl
 
 -- or after the moment that is asked for, up to which all counts as confirmed
-late_start : begun None (Some 2000) ≡ Ok (record { session = 1; timestamp = 2000; start = 2000 })
+late_start : begun None (Some 2000) ≡ Ok (saved_from 2000 1 2000)
 late_start = refl
 
 -- once progress is held none may be asked for, not even the one that there was
-no_other_start : begun (Some (record { session = 1; timestamp = 2000; start = 2000 })) (Some 2000) ≡ Err StartNotAllowed
+no_other_start : begun (Some (saved_from 2000 1 2000)) (Some 2000) ≡ Err StartNotAllowed
 no_other_start = refl
 
 -- and this is found before the want of a number
@@ -146,9 +146,9 @@ done_when_it_is_confirmed = refl
 
 -- a late start is kept by every save
 abbrev late : Course
-late = new_course (record { session = 1; timestamp = 2000; start = 2000 }) 3
+late = new_course (saved_from 2000 1 2000) 3
 
 -- as it stands before anything is confirmed, and once event 3000 is
 late_saves : progress_of (with_confirm 1 1 (sent_one (sent_one (with_offer (event 3000 ∷ []) false late))))
-    ≡ record { session = 1; timestamp = 3000; start = 2000 }
+    ≡ saved_from 2000 1 3000
 late_saves = refl

@@ -16,7 +16,7 @@ use Rattle.cdc_message.specs.declared.packets.Packet.{Packet}
 use Rattle.cdc_message.specs.declared.packets.Packet.TheVariants.{Connect, Publish}
 use Rattle.cdc_publisher.specs.declared.session.Unconfirmed.{Unconfirmed}
 use Rattle.cdc_publisher.specs.Courses.{Course, is_confirmed, is_sent, next_packet, numbers_from, tags_sent, takes_confirm, with_confirm, with_offer, with_sent}
-use Rattle.cdc_publisher.specs.Kept.{Kept, holds_tag, is_nil, poll_of, without_tag}
+use Rattle.cdc_publisher.specs.SessionState.{SessionState, holds_tag, is_nil, poll_of, without_tag}
 use Rattle.cdc_publisher.specs.Offers.{IsOffered, IsReply}
 use Rattle.cdc_publisher.specs.Stands.{StandsFor, entry_of, flag_count, timestamp_after}
 use Rattle.cdc_publisher.specs.Turns.{advanced, ends, publish_of, published, tagged}
@@ -32,7 +32,7 @@ sent_some : (sent : ℕ) → (sent == 0) ≡ false → 0 < sent
 sent_some sent is = grind (arith, nat_tests)
 
 -- the connect is sent
-connect_stands : (kept : Kept) (course : Course) → StandsFor kept course → kept.sent ≡ 0
+connect_stands : (kept : SessionState) (course : Course) → StandsFor kept course → kept.sent ≡ 0
     → StandsFor (record kept { sent = 1 }) (record course { sent = course.sent + 1 })
 connect_stands kept course stands none =
     let sent = stands.sent in
@@ -77,7 +77,7 @@ one_waits course tags is =
     ∙ map_push entry (failing p (numbers_from 1 tags)) (1 + tags)
 
 -- an event or the end mark is sent under the next tag
-tag_stands : (kept : Kept) (course : Course) (unsent : List Event) (last_sent : ℕ) (ended : Bool)
+tag_stands : (kept : SessionState) (course : Course) (unsent : List Event) (last_sent : ℕ) (ended : Bool)
     → StandsFor kept course → 0 < kept.sent
     → unsent ≡ drop (tags_sent course + 1) course.offered
     → last_sent ≡ timestamp_after course.base course.offered (tags_sent course + 1)
@@ -144,7 +144,7 @@ ends_means true true none is = cc
 ends_means false ended none is = cc
 
 -- the next packet is sent, if there is one
-advance_by : (kept : Kept) (course : Course) → StandsFor kept course
+advance_by : (kept : SessionState) (course : Course) → StandsFor kept course
     → (none_sent : Bool) (unsent : List Event) (ending : Bool)
     → (kept.sent == 0) ≡ none_sent → kept.unsent ≡ unsent → ends kept ≡ ending
     → StandsFor (if none_sent then record kept { sent = 1 } else published kept unsent)
@@ -184,7 +184,7 @@ advance_by kept course stands false [] false at_first is_unsent is_ending =
     (sym is_ending) stands
 
 -- a session that sends its next packet stands for the course that has sent it
-pub advanced_stands : (kept : Kept) (course : Course) → StandsFor kept course
+pub advanced_stands : (kept : SessionState) (course : Course) → StandsFor kept course
     → StandsFor (advanced kept) (with_sent (next_packet course) course)
 advanced_stands kept course stands =
     subst (λ (packet : Option Packet). StandsFor (advanced kept) (with_sent packet course))
@@ -226,7 +226,7 @@ same_sent : (course : Course) (tag x : ℕ) → is_sent course tag ≡ true → 
 same_sent course tag x was is = let same : x ≡ tag = grind (arith, nat_tests) in ap (is_sent course) same ∙ was
 
 -- a tag that counts is taken out
-settle_stands : (kept : Kept) (course : Course) (tag : ℕ) → StandsFor kept course → IsTrue (is_sent course tag)
+settle_stands : (kept : SessionState) (course : Course) (tag : ℕ) → StandsFor kept course → IsTrue (is_sent course tag)
     → StandsFor (record kept { unconfirmed = without_tag tag kept.unconfirmed })
     (record course { confirmed = course.confirmed ++ tag ∷ [] })
 settle_stands kept course tag stands was_sent =
@@ -272,7 +272,7 @@ first_holds true b is = refl
 first_holds false b is = cc
 
 -- a confirm of this session's tag, where it counts and where it doesn't
-confirm_by : (kept : Kept) (course : Course) (tag : ℕ) (b : Bool) → StandsFor kept course
+confirm_by : (kept : SessionState) (course : Course) (tag : ℕ) (b : Bool) → StandsFor kept course
     → holds_tag tag kept.unconfirmed ≡ b
     → StandsFor (record kept { unconfirmed = without_tag tag kept.unconfirmed })
     (if b then record course { confirmed = course.confirmed ++ tag ∷ [] } else course)
@@ -290,7 +290,7 @@ own_number session number b is = let here : (session == number) ≡ true = grind
     ap (λ a. a && b) here
 
 -- a confirm under this session's number
-pub confirm_stands : (kept : Kept) (course : Course) (session tag : ℕ) → StandsFor kept course
+pub confirm_stands : (kept : SessionState) (course : Course) (session tag : ℕ) → StandsFor kept course
     → session ≡ kept.number
     → StandsFor (record kept { unconfirmed = without_tag tag kept.unconfirmed }) (with_confirm session tag course)
 confirm_stands kept course session tag stands is =
@@ -301,13 +301,13 @@ confirm_stands kept course session tag stands is =
 -- ---- an offer
 
 -- what is known where events may be offered
-pub record IsFree (kept : Kept) (events : List Event) : Type 0 where
+pub record IsFree (kept : SessionState) (events : List Event) : Type 0 where
   pub unsent : length kept.unsent ≡ 0
   pub complete : kept.complete ≡ false
   pub reply : IsReply (record { after = kept.last; limit = kept.window - length kept.unconfirmed }) events
 
 -- an offer comes only while nothing is unsent and the end isn't known
-free_by : (kept : Kept) (events : List Event) (none room complete : Bool)
+free_by : (kept : SessionState) (events : List Event) (none room complete : Bool)
     → is_nil kept.unsent ≡ none → kept.complete ≡ complete
     → IsOffered (if none && room && not complete
     then Some (record { after = kept.last; limit = kept.window - length kept.unconfirmed }) else None) events
@@ -323,7 +323,7 @@ free_by kept events true false complete a b offer = absurd offer
 free_by kept events false room complete a b offer = absurd offer
 
 -- so it is whenever a session is offered what it wants
-pub is_free : (kept : Kept) (events : List Event) → IsOffered (poll_of kept) events → IsFree kept events
+pub is_free : (kept : SessionState) (events : List Event) → IsOffered (poll_of kept) events → IsFree kept events
 is_free kept events offer =
     free_by kept events (is_nil kept.unsent) (nat_lt (length kept.unconfirmed) kept.window) kept.complete refl refl
     offer
@@ -341,7 +341,8 @@ last_timestamp_from-append moment [] events = refl
 last_timestamp_from-append moment (event ∷ first) events = last_timestamp_from-append event.timestamp first events
 
 -- a session that is offered events stands for the course that was
-pub offered_stands : (kept : Kept) (course : Course) (events : List Event) (complete : Bool) → StandsFor kept course
+pub offered_stands : (kept : SessionState) (course : Course) (events : List Event) (complete : Bool)
+    → StandsFor kept course
     → IsOffered (poll_of kept) events
     → StandsFor (record kept {
       last = last_timestamp_from kept.last events;

@@ -8,7 +8,7 @@ use Rattle.std.proofs.lemmas.List.Folds.{list_any-append}
 use Rattle.std.proofs.Math.Bool.{or-false, or-true}
 use Rattle.circular_buffer.specs.Buffer.{keep_last}
 use Rattle.cdc_publisher.specs.declared.session.Unconfirmed.{Unconfirmed}
-use Rattle.cdc_publisher.specs.Kept.{confirmed_of, holds_tag, without_tag}
+use Rattle.cdc_publisher.specs.SessionState.{confirmed_of, holds_tag, without_tag}
 
 -- nothing is overwritten where all fits
 pub keep_all : {X : Type 0} (n : ℕ) (xs : List X) → length xs ≤ n → keep_last n xs ≡ xs

@@ -13,7 +13,7 @@ use Rattle.cdc_message.specs.declared.packets.Packet.{Packet}
 use Rattle.cdc_message.specs.declared.packets.Packet.TheVariants.{Connect, Publish}
 use Rattle.cdc_publisher.specs.declared.session.Poll.{Poll}
 use Rattle.cdc_publisher.specs.Courses.{Course, all_sent, confirmed_timestamp, has_ended, is_confirmed, is_done, is_sent, may_end, next_packet, next_poll, numbers_from, publish_packet, tags_sent, takes_confirm, unconfirmed}
-use Rattle.cdc_publisher.specs.Kept.{Kept, confirmed_of, holds_tag, is_nil, poll_of}
+use Rattle.cdc_publisher.specs.SessionState.{SessionState, confirmed_of, holds_tag, is_nil, poll_of}
 use Rattle.cdc_publisher.specs.Stands.{StandsFor, entry_of, flag_count}
 use Rattle.cdc_publisher.specs.Turns.{ends, packet_of, publish_of}
 use Rattle.cdc_publisher.proofs.Tags.{confirmed_by, holds_among, none_fail, numbers_from-suc}
@@ -28,7 +28,7 @@ past_sent course sent tag past = by (is_confirmed course tag) (sent tag)
     by true up = let is : IsTrue (nat_lt 0 tag && nat_le tag (tags_sent course)) = up refl in grind (arith, nat_tests)
 
 -- as many tags wait as are kept
-pub waiting_is : (kept : Kept) (course : Course) → StandsFor kept course
+pub waiting_is : (kept : SessionState) (course : Course) → StandsFor kept course
     → length kept.unconfirmed ≡ length (unconfirmed course)
 waiting_is kept course stands =
     ap length stands.unconfirmed ∙ length-map (unconfirmed course) (entry_of course.base course.offered)
@@ -39,7 +39,7 @@ ended_by : (n tags u : ℕ) (ended : Bool) → tags + u ≡ n + flag_count ended
 ended_by n tags u true count last = let none : u ≡ 0 = last refl in grind (arith, nat_tests)
 ended_by n tags u false count last = grind (arith, nat_tests)
 
-pub ended_is : (kept : Kept) (course : Course) → StandsFor kept course → kept.ended ≡ has_ended course
+pub ended_is : (kept : SessionState) (course : Course) → StandsFor kept course → kept.ended ≡ has_ended course
 ended_is kept course stands =
     ended_by (length course.offered) (tags_sent course) (length kept.unsent) kept.ended stands.count stands.end_last
 
@@ -59,7 +59,7 @@ poll_same : (after after' : ℕ) (sent sent' : Bool) (count count' window window
 poll_same after after' sent sent' count count' window window' complete complete' a b c d e = cc
 
 -- the events that are wanted
-pub poll_of_is : (kept : Kept) (course : Course) → StandsFor kept course → poll_of kept ≡ next_poll course
+pub poll_of_is : (kept : SessionState) (course : Course) → StandsFor kept course → poll_of kept ≡ next_poll course
 poll_of_is kept course stands =
     poll_same kept.last _ (is_nil kept.unsent) (all_sent course) (length kept.unconfirmed)
     (length (unconfirmed course)) kept.window course.window kept.complete course.complete stands.last
@@ -77,14 +77,14 @@ ends_by tags n complete false none all count same =
     ap (λ b. complete && b) (same refl) ∙ sym (ap (λ b. (complete && all) && b) here ∙ and-true (complete && all))
 
 -- no tag waits just where all are confirmed
-pub none_waits : (kept : Kept) (course : Course) → StandsFor kept course
+pub none_waits : (kept : SessionState) (course : Course) → StandsFor kept course
     → is_nil kept.unconfirmed ≡ list_all (is_confirmed course) (numbers_from 1 (tags_sent course))
 none_waits kept course stands =
     ap (λ n. n == 0) (waiting_is kept course stands)
     ∙ sym (none_fail (is_confirmed course) (numbers_from 1 (tags_sent course)))
 
 -- the end mark comes next
-pub ends_is : (kept : Kept) (course : Course) → StandsFor kept course → length kept.unsent ≡ 0
+pub ends_is : (kept : SessionState) (course : Course) → StandsFor kept course → length kept.unsent ≡ 0
     → ends kept ≡ (may_end course && (tags_sent course == length course.offered))
 ends_is kept course stands none =
     let count = stands.count in
@@ -111,7 +111,8 @@ none_left (x ∷ events) zero left = cc
 none_left (x ∷ events) (suc i) left = none_left events i left
 
 -- after the connect, session and course send the same: the oldest unsent event, else the end mark if it may go
-publish_is : (kept : Kept) (course : Course) → StandsFor kept course → (unsent : List Event) → kept.unsent ≡ unsent
+publish_is : (kept : SessionState) (course : Course) → StandsFor kept course → (unsent : List Event)
+    → kept.unsent ≡ unsent
     → publish_of kept unsent ≡ publish_packet course (slice_get course.offered (tags_sent course))
 publish_is kept course stands (event ∷ events) is =
     ap₂ (λ number sent. Some (Publish number sent (OfEvent event))) stands.number stands.sent
@@ -131,7 +132,7 @@ packet_same : (sent sent' number number' : ℕ) (next next' : Option Packet) →
 packet_same sent sent' number number' next next' a b c = cc
 
 -- the next packet
-pub packet_is : (kept : Kept) (course : Course) → StandsFor kept course → packet_of kept ≡ next_packet course
+pub packet_is : (kept : SessionState) (course : Course) → StandsFor kept course → packet_of kept ≡ next_packet course
 packet_is kept course stands =
     packet_same kept.sent course.sent kept.number course.number _ _ stands.sent stands.number
     (publish_is kept course stands kept.unsent refl)
@@ -159,7 +160,7 @@ done_by course u complete true none past waits count last known all =
     ∙ ap (λ b. b && p (n + 1)) (sym (known refl))
 
 -- the end mark is confirmed
-pub done_is : (kept : Kept) (course : Course) → StandsFor kept course
+pub done_is : (kept : SessionState) (course : Course) → StandsFor kept course
     → (kept.ended && is_nil kept.unconfirmed) ≡ is_done course
 done_is kept course stands =
     done_by course (length kept.unsent) kept.complete kept.ended (is_nil kept.unconfirmed)
@@ -172,7 +173,7 @@ sent_among : (tags tag : ℕ) → (nat_le 1 tag && nat_lt tag (1 + tags)) ≡ (n
 sent_among tags tag = grind (arith, nat_tests)
 
 -- a tag that waits is one that was sent and isn't confirmed
-pub holds_is : (kept : Kept) (course : Course) (tag : ℕ) → StandsFor kept course
+pub holds_is : (kept : SessionState) (course : Course) (tag : ℕ) → StandsFor kept course
     → holds_tag tag kept.unconfirmed ≡ (is_sent course tag && not (is_confirmed course tag))
 holds_is kept course tag stands =
     ap (holds_tag tag) stands.unconfirmed
@@ -180,13 +181,13 @@ holds_is kept course tag stands =
     ∙ ap (λ b. b && not (is_confirmed course tag)) (sent_among (tags_sent course) tag)
 
 -- a confirm counts where it is for a tag that waits
-pub takes_is : (kept : Kept) (course : Course) (session tag : ℕ) → StandsFor kept course
+pub takes_is : (kept : SessionState) (course : Course) (session tag : ℕ) → StandsFor kept course
     → ((session == kept.number) && holds_tag tag kept.unconfirmed) ≡ takes_confirm course session tag
 takes_is kept course session tag stands =
     ap₂ (λ number b. (session == number) && b) stands.number (holds_is kept course tag stands)
 
 -- how far all is confirmed
-pub confirmed_is : (kept : Kept) (course : Course) → StandsFor kept course
+pub confirmed_is : (kept : SessionState) (course : Course) → StandsFor kept course
     → confirmed_of kept.last_sent kept.unconfirmed ≡ confirmed_timestamp course
 confirmed_is kept course stands =
     ap (confirmed_of kept.last_sent) stands.unconfirmed

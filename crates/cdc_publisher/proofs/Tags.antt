@@ -8,7 +8,7 @@ use Rattle.cdc_types.specs.declared.events.Event.{Event}
 use Rattle.cdc_types.specs.Timestamps.{last_timestamp_from}
 use Rattle.cdc_publisher.specs.declared.session.Unconfirmed.{Unconfirmed}
 use Rattle.cdc_publisher.specs.Courses.{Course, confirmed_from, is_confirmed, numbers_from}
-use Rattle.cdc_publisher.specs.Kept.{confirmed_of, holds_tag, without_tag}
+use Rattle.cdc_publisher.specs.SessionState.{confirmed_of, holds_tag, without_tag}
 use Rattle.cdc_publisher.specs.Stands.{entry_of, timestamp_after}
 
 -- one number more, at the end

@@ -10,7 +10,7 @@ use Rattle.cdc_message.specs.declared.packets.Answer.TheVariants.{Connected, Con
 use Rattle.cdc_message.specs.declared.packets.Packet.{Packet}
 use Rattle.cdc_message.specs.declared.packets.Packet.TheVariants.{Connect, Publish}
 use Rattle.cdc_types.specs.Timestamps.{last_timestamp_from}
-use Rattle.cdc_progress.specs.Records.{Saved}
+use Rattle.cdc_progress.specs.Records.{Saved, saved_from}
 use Rattle.cdc_publisher.specs.declared.errors.StartError.{StartError}
 use Rattle.cdc_publisher.specs.declared.errors.StartError.TheVariants.{SessionsExhausted, StartNotAllowed}
 use Rattle.cdc_publisher.specs.declared.session.Poll.{Poll}
@@ -48,7 +48,7 @@ last_session = SESSION
 -- what is saved when the first session starts, after this moment, or after 0 where none is asked for: all up to there
 -- counts as confirmed
 abbrev pub first_saved : Option ℕ → Saved
-first_saved at = record { session = 1; timestamp = unwrap_or at 0; start = unwrap_or at 0 }
+first_saved at = saved_from (unwrap_or at 0) 1 (unwrap_or at 0)
 
 -- what is saved when a later session starts: the next number, with the same timestamp and start; there has to be a
 -- further number
@@ -177,11 +177,7 @@ confirmed_timestamp course = confirmed_from course course.base 1 course.offered
 
 -- what is saved of a session
 abbrev pub progress_of : Course → Saved
-progress_of course = record {
-  session = course.number;
-  timestamp = confirmed_timestamp course;
-  start = course.start;
-}
+progress_of course = saved_from course.start course.number (confirmed_timestamp course)
 
 -- the end mark is confirmed
 abbrev pub is_done : Course → Bool

@@ -1,6 +1,6 @@
 pub mod Courses
 pub mod Errors
-pub mod Kept
+pub mod SessionState
 pub mod Offers
 pub mod Polls
 pub mod Stands

@@ -6,7 +6,7 @@ use Rattle.cdc_types.specs.declared.events.Event.{Event}
 use Rattle.cdc_types.specs.Timestamps.{last_timestamp_from}
 use Rattle.cdc_publisher.specs.declared.session.Unconfirmed.{Unconfirmed}
 use Rattle.cdc_publisher.specs.Courses.{Course, is_confirmed, is_sent, numbers_from, tags_sent, unconfirmed}
-use Rattle.cdc_publisher.specs.Kept.{Kept}
+use Rattle.cdc_publisher.specs.SessionState.{SessionState}
 
 -- a flag as a number
 abbrev pub flag_count : Bool → ℕ
@@ -23,7 +23,7 @@ entry_of base offered tag = record { tag = tag; before = timestamp_after base of
 -- what is kept stands for this course: the numbers are the course's, the unsent events are those of the course that
 -- have no tag yet, and the tags that wait are those that it has sent and that aren't confirmed; only what was sent is
 -- confirmed, and the end mark is sent once all events are
-pub record StandsFor (kept : Kept) (course : Course) : Type 0 where
+pub record StandsFor (kept : SessionState) (course : Course) : Type 0 where
   pub number : kept.number ≡ course.number
   pub start : kept.start ≡ course.start
   pub base : kept.base ≡ course.base
@@ -47,7 +47,7 @@ IsFrom start moment = (start ≤ moment) × (moment ≤ TIMESTAMP)
 
 -- what bounds the numbers that are kept: timestamps by the start and the greatest one, packets by how far timestamps
 -- have risen, and what waits by the window
-pub record HasBounds (kept : Kept) : Type 0 where
+pub record HasBounds (kept : SessionState) : Type 0 where
   pub base : kept.base ≤ TIMESTAMP
   pub last : IsFrom kept.start kept.last
   pub last_sent : IsFrom kept.start kept.last_sent

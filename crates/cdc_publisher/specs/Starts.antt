@@ -6,7 +6,7 @@ use Rattle.cdc_progress.specs.declared.errors.StoreError.TheVariants as error
 use Rattle.cdc_publisher.specs.declared.errors.StartError.{StartError}
 use Rattle.cdc_publisher.specs.declared.errors.StartError.TheVariants.{Store, SessionsExhausted, OutOfMemory, StartNotAllowed}
 use Rattle.cdc_publisher.specs.Courses.{begun, new_course}
-use Rattle.cdc_publisher.specs.Kept.{Kept}
+use Rattle.cdc_publisher.specs.SessionState.{SessionState}
 use Rattle.cdc_publisher.specs.Stands.{StandsFor}
 
 -- a failure of the store was counted
@@ -20,7 +20,7 @@ CountsNone store = store.failed_after ≡ store.failed_before
 -- a session has started on a store, after this moment where one was asked for, and this is what that made of the store:
 -- a record was loaded, the one after it was saved and is held now, no failure was counted, and the session stands for a
 -- new course from there
-pub record HasStarted (store : StoreChange) (at : Option ℕ) (window : ℕ) (kept : Kept) : Type 0 where
+pub record HasStarted (store : StoreChange) (at : Option ℕ) (window : ℕ) (kept : SessionState) : Type 0 where
   pub loaded : Option Saved
   pub saved : Saved
   pub given : IsTrue store.honest → loaded ≡ store.before

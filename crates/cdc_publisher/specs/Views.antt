@@ -1,11 +1,11 @@
 -- What a session's fields show, and what bounds them.
 use Rattle.std.specs.Prelude.{◌≡◌}
 use Rattle.cdc_publisher.specs.declared.session.Session.TheInside.{Inside}
-use Rattle.cdc_publisher.specs.Kept.{Kept}
+use Rattle.cdc_publisher.specs.SessionState.{SessionState}
 use Rattle.cdc_publisher.specs.Stands.{HasBounds}
 
 -- what is kept: the window is the room for tags that wait
-abbrev pub kept_of : Inside → Kept
+abbrev pub kept_of : Inside → SessionState
 kept_of session = record {
   number = session.number;
   start = session.start;

@@ -6,7 +6,7 @@ ghost use Rattle.cdc_progress.specs.Stores.{IsRisked, MayRefuseSave};
 ghost use Rattle.cdc_types.specs.Timestamps.{last_timestamp_from};
 ghost use Rattle.cdc_types.specs.Windows.{IsWindow};
 ghost use Rattle.cdc_publisher.specs.Courses.{Course, begun, confirmed_timestamp, first_saved, has_event, has_ended, is_done, next_packet, next_poll, next_saved, progress_of, tags_sent, takes_confirm, unconfirmed, unsent, with_confirm, with_offer, with_sent};
-ghost use Rattle.cdc_publisher.specs.Kept.{holds_tag, poll_of, without_tag};
+ghost use Rattle.cdc_publisher.specs.SessionState.{holds_tag, poll_of, without_tag};
 ghost use Rattle.cdc_publisher.specs.Offers.{IsOffered};
 ghost use Rattle.cdc_publisher.specs.Stands.{StandsFor};
 ghost use Rattle.cdc_publisher.specs.Starts.{HasStarted, IsStartRisked, MayRefuseStart};
@@ -82,9 +82,9 @@ impl Drop for Session {
 }
 
 impl Model for Session {
-    ghost use Rattle.cdc_publisher.specs.Kept.{Kept};
+    ghost use Rattle.cdc_publisher.specs.SessionState.{SessionState};
 
-    ghost Value = { Kept };
+    ghost Value = { SessionState };
 
     ghost use Rattle.cdc_publisher.specs.Views.{kept_of, IsBounded};
 

@@ -8,7 +8,7 @@ use Rattle.std.proofs.lemmas.List.Elements.{All-cons, All-map}
 use Rattle.std.proofs.lemmas.Simd.{map-map}
 use Rattle.cdc_ends.specs.Clients.{ArePartsOf, Talk}
 use Rattle.cdc_ends.specs.declared.conversations.ClientParts.{ClientParts}
-use Rattle.cdc_ends.specs.LedgerEnds.{IsDesk, is_over, Desk as LedgerDesk}
+use Rattle.cdc_ends.specs.LedgerEnds.{IsLedgerDesk, is_over, LedgerDesk}
 use Rattle.cdc_ends.specs.Ends.{EndState, has_finished}
 use Rattle.cdc_links.specs.Links.{CanSend, IsAccount, Outgoing}
 use Rattle.cdc_traffic.specs.Following.{FollowsToLedger}
@@ -61,7 +61,7 @@ finished_of system number (c ∷ clients) are =
 pub record AreTogether (ledger : EndState LedgerDesk) (polls : Outgoing ToLedger (Unit {0}))
     (clients : List (EndState Talk))
     : Type 0 where
-  pub desk : IsDesk ledger.work
+  pub desk : IsLedgerDesk ledger.work
   pub finished : HasFinishedWith ledger clients
   pub connector : ArePollsTo ledger polls
   pub wired : AreWiredTo ledger clients
@@ -107,7 +107,7 @@ module _ (ledger : EndState LedgerDesk) (polls : Outgoing ToLedger (Unit {0})) (
 
 -- what is known of them as they are put together
 pub together : (ledger : EndState LedgerDesk) (polls : Outgoing ToLedger (Unit {0})) (clients : List (EndState Talk))
-    (system : ℕ) → true ≡ has_finished is_over ledger → IsDesk ledger.work → AreClientsOf system 1 clients
+    (system : ℕ) → true ≡ has_finished is_over ledger → IsLedgerDesk ledger.work → AreClientsOf system 1 clients
     → system ≡ ledger.system → ArePollsTo ledger polls
     → (AreClientsOf ledger.system 1 clients → AreWiredTo ledger clients)
     → length clients ≡ length ledger.work.clients → AreTogether ledger polls clients

@@ -3,11 +3,11 @@ use Rattle.std.proofs.Common.{◌≡◌, ℕ, suc, ◌+◌, List, [], ◌∷◌,
 use Rattle.std.specs.Prelude.{Bool, Option}
 use Rattle.std.specs.List.{AllZip}
 use Rattle.std.proofs.lemmas.List.{length-map}
-use Rattle.cdc_ends.specs.BrokerEnds.{Desk as BrokerDesk}
+use Rattle.cdc_ends.specs.BrokerEnds.{BrokerDesk}
 use Rattle.cdc_ends.specs.Clients.{Talk}
 use Rattle.cdc_ends.specs.ConnectorEnds.{Publishing}
 use Rattle.cdc_ends.specs.Ends.{EndState}
-use Rattle.cdc_ends.specs.LedgerEnds.{Desk as LedgerDesk}
+use Rattle.cdc_ends.specs.LedgerEnds.{LedgerDesk}
 use Rattle.cdc_ends.specs.Seats.{ClientSeat, SubscriberSeat}
 use Rattle.cdc_ends.specs.SubscriberEnds.{Intake}
 use Rattle.cdc_ends.specs.declared.consumers.Consumer.{Consumer}

@@ -2,10 +2,10 @@
 use Rattle.std.proofs.Common.{◌≡◌, ◌∙◌, true, List, [], ◌∷◌, ◌++◌, refl, sym, ap, map, map-id}
 use Rattle.std.specs.Prelude.{Option, Some, None, is_some}
 use Rattle.std.proofs.lemmas.List.{append_assoc, append-nil}
-use Rattle.cdc_ends.specs.BrokerEnds.{Desk as BrokerDesk}
+use Rattle.cdc_ends.specs.BrokerEnds.{BrokerDesk}
 use Rattle.cdc_ends.specs.Clients.{Talk}
 use Rattle.cdc_ends.specs.ConnectorEnds.{Publishing}
-use Rattle.cdc_ends.specs.LedgerEnds.{Desk as LedgerDesk}
+use Rattle.cdc_ends.specs.LedgerEnds.{LedgerDesk}
 use Rattle.cdc_ends.specs.SubscriberEnds.{Intake}
 use Rattle.cdc_ends.specs.Ends.{EndState}
 use Rattle.cdc_run.specs.Tasks.{Placed, left_at}

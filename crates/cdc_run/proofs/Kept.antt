@@ -6,7 +6,7 @@ use Rattle.cdc_laws.specs.Faithful.{IsFaithful}
 use Rattle.cdc_laws.specs.Line.{feed_after, line_after, told}
 use Rattle.cdc_laws.proofs.Faithful.{ends-told, hears-told}
 use Rattle.cdc_laws.proofs.Feeds.{events_told, queue-line_after}
-use Rattle.cdc_laws.proofs.Places.{none_there}
+use Rattle.cdc_laws.proofs.ListElements.{none_there}
 use Rattle.cdc_ledger.specs.History.{History}
 use Rattle.cdc_match.specs.Arguments.{Arguments}
 use Rattle.cdc_match.specs.Queue.{queue}
@@ -14,7 +14,7 @@ use Rattle.cdc_message.specs.Items.{TimestampsRise, events_of, rises}
 use Rattle.cdc_message.proofs.LineLaws.{rises-rising}
 use Rattle.cdc_subscriber.specs.Book.{book_of}
 use Rattle.cdc_subscriber.specs.Heard.{Heard, applied_of, has_ended, kept_of, next, nothing}
-use Rattle.cdc_subscriber.specs.Kept.{Kept}
+use Rattle.cdc_subscriber.specs.SubscriberState.{SubscriberState}
 use Rattle.cdc_types.specs.declared.events.Event.{Event}
 use Rattle.cdc_types.specs.Timestamps.{last_timestamp}
 use Rattle.cdc_types.specs.Widths.{max_64}
@@ -26,7 +26,7 @@ use Rattle.cdc_run.proofs.Firsts.{rises-of_firsts}
 -- ---- a subscriber
 
 -- what is kept of events that were applied
-abbrev kept : List Event → Bool → Bool → Kept
+abbrev kept : List Event → Bool → Bool → SubscriberState
 kept es ended closed = record {
   book = book_of es;
   last = last_timestamp es;
@@ -75,6 +75,6 @@ all_keep number h start [] (close ∷ rest) subscribers closes are = absurd are
 all_keep number h start (binding ∷ bindings) [] subscribers closes are = absurd are
 all_keep number h start (binding ∷ bindings) (close ∷ rest) [] closes are = absurd are
 all_keep number h start (binding ∷ bindings) (close ∷ rest) (subscriber ∷ subscribers) closes are =
-    ap₂ (λ (k : Kept) (ks : List Kept). k ∷ ks)
+    ap₂ (λ (k : SubscriberState) (ks : List SubscriberState). k ∷ ks)
     (unasked_keep h start binding close subscriber (none_asked number close closes.0) are.0)
     (all_keep (number + 1) h start bindings rest subscribers closes.1 are.1)

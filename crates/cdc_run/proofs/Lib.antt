@@ -1,7 +1,7 @@
 mod Alone
 mod Apart
 mod Applied
-mod Booked
+mod SettledBooks
 mod ClientsParted
 mod Closes
 mod Counted

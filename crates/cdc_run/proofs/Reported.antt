@@ -4,9 +4,9 @@ use Rattle.std.specs.Prelude.{Option, Some, is_none, slice_get, unwrap_or}
 use Rattle.std.proofs.lemmas.Bool.{and_parts}
 use Rattle.cdc_broker.specs.Broker.{nobody, queue_of}
 use Rattle.cdc_broker.specs.Queues.{QueueState, empty_queue}
-use Rattle.cdc_ends.specs.BrokerEnds.{Desk as BrokerDesk}
+use Rattle.cdc_ends.specs.BrokerEnds.{BrokerDesk}
 use Rattle.cdc_ends.specs.ConnectorEnds.{IsAtStart, Origin, origin_of, Publishing}
-use Rattle.cdc_ends.specs.LedgerEnds.{Desk as LedgerDesk, IsDesk}
+use Rattle.cdc_ends.specs.LedgerEnds.{LedgerDesk, IsLedgerDesk}
 use Rattle.cdc_ends.specs.SubscriberEnds.{Intake}
 use Rattle.cdc_run.specs.ClientMail.{HasFinishedWith as LedgerHasFinishedWith}
 use Rattle.cdc_run.specs.Parted.{works_of}
@@ -35,7 +35,7 @@ start_known ends start known =
     ap (λ (o : Origin). o.start) (began work.honest (origin_of work) (at_start start) known).1
 
 -- the connector, with the ends of its links, where the run is known to have begun at its start
-pub left_by : {S : Type 0} (ends : Ends S) (m : Middle) → AreBetween ends m → IsDesk ends.ledger.work
+pub left_by : {S : Type 0} (ends : Ends S) (m : Middle) → AreBetween ends m → IsLedgerDesk ends.ledger.work
     → has_finished (λ (c : Publishing). c.finished) ends.connector ≡ true → (start : ℕ)
     → (connector_seat ends.connector.work).origin ≡ Some (at_start start)
     → AreLeftBy ends.ledger.work ends.connector.work m

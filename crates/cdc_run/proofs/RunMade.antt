@@ -4,10 +4,10 @@ use Rattle.std.specs.Prelude.{Option, None, All}
 use Rattle.std.proofs.lemmas.List.{length-map}
 use Rattle.std.proofs.lemmas.List.Elements.{All-cons, All-nil}
 use Rattle.cdc_broker.specs.Broker.{empty_broker}
-use Rattle.cdc_ends.specs.BrokerEnds.{Desk as BrokerDesk}
+use Rattle.cdc_ends.specs.BrokerEnds.{BrokerDesk}
 use Rattle.cdc_ends.specs.BrokerTurns.{first_desk as first_broker}
 use Rattle.cdc_ends.specs.ConnectorEnds.{first_work, Publishing}
-use Rattle.cdc_ends.specs.LedgerEnds.{first_desk as first_ledger, Desk as LedgerDesk}
+use Rattle.cdc_ends.specs.LedgerEnds.{first_desk as first_ledger, LedgerDesk}
 use Rattle.cdc_ends.specs.declared.broker_plans.BrokerPlan.{BrokerPlan}
 use Rattle.cdc_ends.specs.Ends.{EndState}
 use Rattle.cdc_links.specs.Links.{Incoming, LinkId, Outgoing, fresh_end}

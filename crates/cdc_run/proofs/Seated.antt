@@ -10,10 +10,10 @@ use Rattle.std.proofs.lemmas.Simd.{map-map}
 use Rattle.cdc_ends.specs.BrokerTurns.{first_consumer}
 use Rattle.cdc_ends.specs.Clients.{Talk}
 use Rattle.cdc_ends.specs.ConnectorEnds.{IsConnectorEnd, Publishing}
-use Rattle.cdc_ends.specs.LedgerEnds.{links_of, Desk as LedgerDesk}
+use Rattle.cdc_ends.specs.LedgerEnds.{links_of, LedgerDesk}
 use Rattle.cdc_ends.specs.SubscriberEnds.{Intake}
 use Rattle.cdc_ends.specs.declared.consumers.Consumer.{Consumer}
-use Rattle.cdc_laws.proofs.Places.{slice_get-behind}
+use Rattle.cdc_laws.proofs.ListElements.{slice_get-behind}
 use Rattle.cdc_links.specs.Links.{Incoming, LinkId, Outgoing, fresh_end}
 use Rattle.cdc_progress.specs.Records.{Saved}
 use Rattle.cdc_progress.specs.Stores.{Risks}
@@ -30,7 +30,7 @@ use Rattle.cdc_run.specs.Made.{AreMade, made_clients, made_subscribers}
 use Rattle.cdc_run.specs.Parted.{works_of}
 use Rattle.cdc_ends.specs.Seats.{broker_seat, client_seat, connector_seat, ledger_seat, subscriber_seat}
 use Rattle.cdc_ends.specs.Ends.{EndState}
-use Rattle.cdc_ends.specs.BrokerEnds.{Desk as BrokerDesk}
+use Rattle.cdc_ends.specs.BrokerEnds.{BrokerDesk}
 use Rattle.cdc_run.specs.Streams.{AreJoined, Middle}
 use Rattle.cdc_run.specs.SubscriberMail.{AreSubscribersOf}
 use Rattle.cdc_run.specs.Tasks.{AreLeft, ClientLeaves, SubscriberLeaves, places_of, with_scripts}

@@ -4,9 +4,9 @@ use Rattle.std.specs.Prelude.{All, Option, Some, is_none, slice_get}
 use Rattle.std.proofs.lemmas.Bool.{and_parts}
 use Rattle.std.specs.List.{AllZip}
 use Rattle.std.proofs.lemmas.List.Elements.{All-head, All-tail}
-use Rattle.cdc_ends.specs.BrokerEnds.{Desk as BrokerDesk, IsBrokerEnd}
+use Rattle.cdc_ends.specs.BrokerEnds.{BrokerDesk, IsBrokerEnd}
 use Rattle.cdc_ends.specs.ConnectorEnds.{Publishing, origin_of}
-use Rattle.cdc_ends.specs.LedgerEnds.{Desk as LedgerDesk}
+use Rattle.cdc_ends.specs.LedgerEnds.{LedgerDesk}
 use Rattle.cdc_ends.specs.SubscriberEnds.{Intake}
 use Rattle.cdc_ends.specs.declared.consumers.Consumer.{Consumer}
 use Rattle.cdc_ends.specs.Ends.{EndState}

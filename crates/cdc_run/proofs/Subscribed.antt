@@ -23,7 +23,7 @@ use Rattle.cdc_laws.specs.StepLaws.{ConnectorsMakeRuns}
 use Rattle.cdc_laws.proofs.Deliveries.{items_in-deliveries, length-deliveries}
 use Rattle.cdc_laws.proofs.Feeds.{queue-line_after, rises-told}
 use Rattle.cdc_laws.proofs.Hearing.{IsReplay-of_queue, IsReplay-of_run}
-use Rattle.cdc_laws.proofs.Places.{Contains-cons_cases, none_there, slice_get-behind}
+use Rattle.cdc_laws.proofs.ListElements.{Contains-cons_cases, none_there, slice_get-behind}
 use Rattle.cdc_laws.proofs.Replays.{Contains-map, Contains-unmap}
 use Rattle.cdc_laws.proofs.Rising.{feed_after_rises}
 use Rattle.cdc_laws.proofs.Sessions.{IsPublished, IsPublished-sent, one_session}

@@ -2,7 +2,7 @@
 use Rattle.std.specs.Prelude.{◌≡◌, ℕ, ◌+◌, true, List, [], ◌∷◌, All, length, map}
 use Rattle.std.specs.List.{AllZip}
 use Rattle.cdc_ends.specs.Clients.{IsClient, Talk}
-use Rattle.cdc_ends.specs.LedgerEnds.{Desk, IsDesk, is_over, order_of}
+use Rattle.cdc_ends.specs.LedgerEnds.{LedgerDesk, IsLedgerDesk, is_over, order_of}
 use Rattle.cdc_ends.specs.Orders.{batches_in}
 use Rattle.cdc_ledger.specs.History.{History}
 use Rattle.cdc_links.specs.Links.{CanSend, IsAccount, Outgoing}
@@ -22,8 +22,8 @@ HaveFinished number (c ∷ clients) =
 
 -- a ledger's end and the clients that are wired to it, the connector's end of the ledger's link, and what was left in
 -- that link; all have finished, and the ends of each link were put together
-pub record AreSettled (d : Desk) (polls : Outgoing ToLedger (Unit {0})) (clients : List Talk) : Type 0 where
-  pub desk : IsDesk d
+pub record AreSettled (d : LedgerDesk) (polls : Outgoing ToLedger (Unit {0})) (clients : List Talk) : Type 0 where
+  pub desk : IsLedgerDesk d
   pub over : is_over d ≡ true
   pub finished : HaveFinished 1 clients
   pub connector : polls.number ≡ 0
@@ -45,5 +45,5 @@ pub record AreBooks (order : List (ℕ × Batch)) (ledger : History) (replies : 
   pub of_clients : IsOfClients (length replies) order
 
 abbrev pub BooksSettle : Type 0
-BooksSettle = (d : Desk) (polls : Outgoing ToLedger (Unit {0})) (clients : List Talk) → AreSettled d polls clients
+BooksSettle = (d : LedgerDesk) (polls : Outgoing ToLedger (Unit {0})) (clients : List Talk) → AreSettled d polls clients
     → AreBooks (order_of d.inbox.received) d.ledger (map (λ c. c.replies) clients)

@@ -2,7 +2,7 @@
 use Rattle.std.specs.Prelude.{◌≡◌, ℕ, ◌+◌, true, List, [], ◌∷◌, ◌++◌, All, length, map}
 use Rattle.std.specs.List.{AllZip}
 use Rattle.cdc_ends.specs.Clients.{IsClient, Talk}
-use Rattle.cdc_ends.specs.LedgerEnds.{Desk as LedgerDesk, is_over}
+use Rattle.cdc_ends.specs.LedgerEnds.{LedgerDesk, is_over}
 use Rattle.cdc_ends.specs.declared.conversations.ClientParts.{ClientParts}
 use Rattle.cdc_ends.specs.Ends.{EndState, has_finished}
 use Rattle.cdc_links.specs.Links.{Outgoing}

@@ -8,7 +8,7 @@ use Rattle.cdc_ledger.specs.Submit.{history_or, submit}
 use Rattle.cdc_match.specs.Arguments.{Arguments}
 use Rattle.cdc_match.specs.Queue.{queue}
 use Rattle.cdc_subscriber.specs.Heard.{kept_of, next, nothing}
-use Rattle.cdc_subscriber.specs.Kept.{Kept}
+use Rattle.cdc_subscriber.specs.SubscriberState.{SubscriberState}
 use Rattle.cdc_traffic.specs.Answering.{answer_to}
 use Rattle.cdc_traffic.specs.Pasts.{history_of}
 use Rattle.cdc_traffic.specs.declared.requests.Reply.{Reply}
@@ -31,7 +31,7 @@ pub record IsServedAlone (ledger : History) (replies : List Reply) : Type 0 wher
 
 -- what a subscriber keeps that takes its queue of all that the ledger has to tell after this start, each item once and
 -- in order
-abbrev pub kept_of_line : History → ℕ → Arguments → Kept
+abbrev pub kept_of_line : History → ℕ → Arguments → SubscriberState
 kept_of_line h start binding = kept_of (fold next nothing (queue (line_after h start) binding))
 
 -- clients that were replied nothing
@@ -48,12 +48,14 @@ LoneClientsAreServedAlone = (order : List (ℕ × Batch)) (ledger : History) (be
 
 -- a subscriber that wasn't asked to close keeps just that
 abbrev pub UnaskedKeepTheLine : Type 0
-UnaskedKeepTheLine = (h : History) (start : ℕ) (binding : Arguments) (close_after : Option ℕ) (subscriber : Kept)
+UnaskedKeepTheLine = (h : History) (start : ℕ) (binding : Arguments) (close_after : Option ℕ)
+    (subscriber : SubscriberState)
     → is_asked close_after ≡ false → IsSubscribed h start binding close_after subscriber
     → subscriber ≡ kept_of_line h start binding
 
 -- so do all subscribers from a number on, where none of them was asked to
 abbrev pub AllKeepTheLine : Type 0
 AllKeepTheLine = (number : ℕ) (h : History) (start : ℕ) (bindings : List Arguments) (closes : List (Option ℕ))
-    (subscribers : List Kept) → AreCloses number [] closes → AreSubscribed h start bindings closes subscribers
+    (subscribers : List SubscriberState) → AreCloses number [] closes
+    → AreSubscribed h start bindings closes subscribers
     → subscribers ≡ map (kept_of_line h start) bindings

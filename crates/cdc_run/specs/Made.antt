@@ -1,11 +1,11 @@
 -- The ends of a run before the first turn of any.
 use Rattle.std.specs.Prelude.{◌≡◌, ℕ, ◌+◌, Bool, Option, None, List, [], ◌∷◌, length, map}
 use Rattle.cdc_broker.specs.Broker.{empty_broker}
-use Rattle.cdc_ends.specs.BrokerEnds.{Desk as BrokerDesk}
+use Rattle.cdc_ends.specs.BrokerEnds.{BrokerDesk}
 use Rattle.cdc_ends.specs.BrokerTurns.{first_desk as first_broker}
 use Rattle.cdc_ends.specs.Clients.{first_words, Talk}
 use Rattle.cdc_ends.specs.ConnectorEnds.{first_work, Publishing}
-use Rattle.cdc_ends.specs.LedgerEnds.{first_desk as first_ledger, Desk as LedgerDesk}
+use Rattle.cdc_ends.specs.LedgerEnds.{first_desk as first_ledger, LedgerDesk}
 use Rattle.cdc_ends.specs.SubscriberEnds.{new_intake, Intake}
 use Rattle.cdc_ends.specs.declared.broker_plans.BrokerPlan.{BrokerPlan}
 use Rattle.cdc_ends.specs.Ends.{EndState}

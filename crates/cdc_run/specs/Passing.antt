@@ -2,9 +2,9 @@
 -- settled.
 use Rattle.std.specs.Prelude.{◌≡◌, ℕ, ◌+◌, true, Option, Some, List, ◌++◌, slice_get}
 use Rattle.cdc_broker.specs.Broker.{queue_of}
-use Rattle.cdc_ends.specs.BrokerEnds.{Desk as BrokerDesk, IsBrokerEnd, dealings_of}
+use Rattle.cdc_ends.specs.BrokerEnds.{BrokerDesk, IsBrokerEnd, dealings_of}
 use Rattle.cdc_ends.specs.ConnectorEnds.{IsAtStart, IsConnectorEnd, Publishing, connector_of, origin_of}
-use Rattle.cdc_ends.specs.LedgerEnds.{Desk as LedgerDesk, IsDesk, past_of_inbox}
+use Rattle.cdc_ends.specs.LedgerEnds.{LedgerDesk, IsLedgerDesk, past_of_inbox}
 use Rattle.cdc_ends.specs.SubscriberEnds.{Intake, IsSubscriberEnd}
 use Rattle.cdc_ends.specs.declared.consumers.Consumer.{Consumer}
 use Rattle.cdc_links.specs.Links.{CanSend, of_sender}
@@ -20,7 +20,7 @@ use Rattle.cdc_run.specs.Subscribing.{HasCome, HasPassed, Passage}
 -- a ledger's end, a connector and a broker that have finished, wired together, with what was left in the links to the
 -- connector and to the broker; and the connector's store is honest, and the run began at its start
 pub record AreThrough (d : LedgerDesk) (c : Publishing) (b : BrokerDesk) : Type 0 where
-  pub desk : IsDesk d
+  pub desk : IsLedgerDesk d
   pub connector : IsConnectorEnd c
   pub over : c.finished ≡ true
   pub honest : c.honest ≡ true

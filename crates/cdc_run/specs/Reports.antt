@@ -6,7 +6,7 @@ use Rattle.cdc_laws.specs.Faithful.{kept_from}
 use Rattle.cdc_ledger.specs.History.{History}
 use Rattle.cdc_match.specs.declared.binding.Binding.{Binding}
 use Rattle.cdc_subscriber.specs.Heard.{Heard}
-use Rattle.cdc_subscriber.specs.Kept.{Kept}
+use Rattle.cdc_subscriber.specs.SubscriberState.{SubscriberState}
 use Rattle.cdc_traffic.specs.declared.requests.Reply.{Reply}
 use Rattle.cdc_types.specs.declared.batches.Batch.{Batch}
 use Rattle.cdc_run.specs.Accounts.{IsRefused}
@@ -14,7 +14,7 @@ use Rattle.cdc_run.specs.Books.{AreBooks}
 use Rattle.cdc_run.specs.ClientMail.{AreClientsOf}
 use Rattle.cdc_ends.specs.Seats.{at_start, broker_seat, connector_seat}
 use Rattle.cdc_ends.specs.Ends.{has_finished}
-use Rattle.cdc_ends.specs.BrokerEnds.{Desk as BrokerDesk}
+use Rattle.cdc_ends.specs.BrokerEnds.{BrokerDesk}
 use Rattle.cdc_ends.specs.ConnectorEnds.{Publishing}
 use Rattle.cdc_run.specs.SubscriberMail.{AreSubscribersOf}
 use Rattle.cdc_run.specs.Subscribing.{HasCome}
@@ -28,13 +28,13 @@ replies_of report = map (λ v. v.items) report.replies.items
 -- against this ledger a subscriber has come to what it may rely on after this start, and this is what it keeps, told by
 -- what it has applied: its book is that of just these events
 pub record IsSubscribed (h : History) (start : ℕ) (binding : Binding) (close_after : Option ℕ)
-    (subscriber : Kept) : Type 0 where
+    (subscriber : SubscriberState) : Type 0 where
   pub heard : Heard
   pub come : HasCome h start binding close_after heard
   pub keeps : subscriber ≡ kept_from heard
 
 -- so has each subscriber; there is one for each binding
-abbrev pub AreSubscribed : History → ℕ → List Binding → List (Option ℕ) → List Kept → Type 0
+abbrev pub AreSubscribed : History → ℕ → List Binding → List (Option ℕ) → List SubscriberState → Type 0
 AreSubscribed h start [] [] [] = Unit {0}
 AreSubscribed h start [] [] (subscriber ∷ subscribers) = ⊥
 AreSubscribed h start [] (close ∷ closes) subscribers = ⊥

@@ -1,9 +1,9 @@
 -- What goes from the ledger to the subscribers of a run, put together once all have finished.
 use Rattle.std.specs.Prelude.{◌≡◌, ℕ, ◌+◌, true, Option, List, [], ◌∷◌, All, length, map}
 use Rattle.std.specs.List.{AllZip}
-use Rattle.cdc_ends.specs.BrokerEnds.{Desk as BrokerDesk}
+use Rattle.cdc_ends.specs.BrokerEnds.{BrokerDesk}
 use Rattle.cdc_ends.specs.ConnectorEnds.{IsAtStart, IsConnectorEnd, Publishing, origin_of}
-use Rattle.cdc_ends.specs.LedgerEnds.{Desk as LedgerDesk, IsDesk}
+use Rattle.cdc_ends.specs.LedgerEnds.{LedgerDesk, IsLedgerDesk}
 use Rattle.cdc_ends.specs.SubscriberEnds.{Intake}
 use Rattle.cdc_ends.specs.Ends.{EndState}
 use Rattle.cdc_links.specs.Links.{Incoming, Outgoing}
@@ -34,7 +34,7 @@ pub record AreJoined (m : Middle) (b : BrokerDesk) (subscribers : List (EndState
 -- they are what a ledger's end and a connector that has finished had of them; and the connector's store is honest, and
 -- the run began at its start
 pub record AreLeftBy (d : LedgerDesk) (c : Publishing) (m : Middle) : Type 0 where
-  pub desk : IsDesk d
+  pub desk : IsLedgerDesk d
   pub connector : IsConnectorEnd c
   pub over : c.finished ≡ true
   pub honest : c.honest ≡ true

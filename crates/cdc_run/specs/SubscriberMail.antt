@@ -1,6 +1,6 @@
 -- What the subscribers of a run leave behind, once they have finished.
 use Rattle.std.specs.Prelude.{◌≡◌, ◌&&◌, ℕ, ◌+◌, true, List, [], ◌∷◌, ◌++◌, length, map}
-use Rattle.cdc_ends.specs.BrokerEnds.{Desk as BrokerDesk}
+use Rattle.cdc_ends.specs.BrokerEnds.{BrokerDesk}
 use Rattle.cdc_ends.specs.SubscriberEnds.{Intake, IsSubscriberEnd}
 use Rattle.cdc_ends.specs.declared.subscriber_parts.SubscriberParts.{SubscriberParts}
 use Rattle.cdc_ends.specs.Ends.{EndState, has_finished}

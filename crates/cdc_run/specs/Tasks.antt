@@ -1,11 +1,11 @@
 -- What each end of a run leaves once it has worked.
 use Rattle.std.specs.Prelude.{◌≡◌, ℕ, ◌+◌, Bool, true, Some, List, [], ◌∷◌, ◌++◌, map}
 use Rattle.std.specs.List.{AllZip}
-use Rattle.cdc_ends.specs.BrokerEnds.{Desk as BrokerDesk, IsBrokerEnd}
+use Rattle.cdc_ends.specs.BrokerEnds.{BrokerDesk, IsBrokerEnd}
 use Rattle.cdc_ends.specs.Clients.{IsClient, Talk}
 use Rattle.cdc_ends.specs.ConnectorEnds.{IsConnectorEnd, Publishing}
 use Rattle.cdc_ends.specs.ConnectorSoFar.{IsFaultOf}
-use Rattle.cdc_ends.specs.LedgerEnds.{Desk as LedgerDesk, IsDesk, is_over}
+use Rattle.cdc_ends.specs.LedgerEnds.{LedgerDesk, IsLedgerDesk, is_over}
 use Rattle.cdc_ends.specs.SubscriberEnds.{Intake, IsSubscriberEnd}
 use Rattle.cdc_ends.specs.declared.faults.RunFault.{RunFault}
 use Rattle.cdc_run.specs.Scripted.{ScriptedState}
@@ -73,7 +73,7 @@ pub record HasLeft {W Seat : Type 0} (seat_of : W → Seat) (keeps : W → Type 
   pub done : has_finished is_over new ≡ true
 
 abbrev pub LedgerLeaves : EndState LedgerDesk → EndState LedgerDesk → Type 0
-LedgerLeaves = HasLeft ledger_seat IsDesk is_over
+LedgerLeaves = HasLeft ledger_seat IsLedgerDesk is_over
 
 -- it has submitted its script, in its order, and nothing else
 pub record ClientLeaves (old : ScriptedState) (new : EndState Talk) : Type 0 where

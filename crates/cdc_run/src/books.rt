@@ -1,7 +1,7 @@
 //! The ledger and the clients of a run, put together once they have finished.
 
 ghost use Rattle.std.specs.Prelude.{◌≡◌, ◌++◌, ◌∷◌, [], All, IfErr, IfOk, OnOk, length, map};
-ghost use Rattle.cdc_ends.specs.LedgerEnds.{IsDesk, order_of};
+ghost use Rattle.cdc_ends.specs.LedgerEnds.{IsLedgerDesk, order_of};
 ghost use Rattle.cdc_run.specs.Accounts.{IsRefused};
 ghost use Rattle.cdc_run.specs.Books.{AreBooks};
 ghost use Rattle.cdc_run.specs.ClientMail.{AreClientsOf, ArePollsTo, AreWiredTo, HasAllOf, HasFinishedWith, IsMailOf, IsMoreMail};
@@ -110,7 +110,7 @@ pub(crate) fn settle_books(
     ensures replies { IfOk result (λ books.
         map (λ v. v.items) books.replies.items ≡ map (λ c. c.work.replies) clients.items) }
     ensures connector { IfOk result (λ books. books.connector ≡ ledger.work.connector) }
-    ensures desk { IfOk result (λ _. IsDesk ledger.work) }
+    ensures desk { IfOk result (λ _. IsLedgerDesk ledger.work) }
     ensures finished { IfOk result (λ _. HasFinishedWith ledger clients.items) }
     ensures refused { IfErr result (IsRefused (HasFinishedWith ledger clients.items)) }
 {

@@ -3,7 +3,7 @@
 ghost use Rattle.std.specs.Prelude.{◌≡◌, IfErr, IfOk, map};
 ghost use Rattle.cdc_ends.specs.BrokerEnds.{IsBrokerEnd};
 ghost use Rattle.cdc_ends.specs.ConnectorEnds.{Publishing, origin_of};
-ghost use Rattle.cdc_ends.specs.LedgerEnds.{Desk as LedgerDesk};
+ghost use Rattle.cdc_ends.specs.LedgerEnds.{LedgerDesk};
 ghost use Rattle.cdc_run.specs.Accounts.{IsRefused};
 ghost use Rattle.cdc_run.specs.Parted.{works_of};
 ghost use Rattle.cdc_run.specs.Streams.{AllCome, AreJoined, AreLeftBy};

@@ -22,7 +22,7 @@ use Rattle.cdc_run.specs.Made.{AreCloses}
 use Rattle.cdc_run.specs.Reports.{AreSubscribed, replies_of}
 use Rattle.cdc_script.specs.declared.scripts.ClientBatch.{ClientBatch}
 use Rattle.cdc_script.specs.declared.scripts.Script.{Script}
-use Rattle.cdc_subscriber.specs.Kept.{Kept}
+use Rattle.cdc_subscriber.specs.SubscriberState.{SubscriberState}
 use Rattle.cdc_subscriber.specs.Lines.{subscriber_text}
 use Rattle.cdc_traffic.specs.declared.requests.Reply.{Reply}
 use Rattle.cdc_types.specs.declared.batches.Batch.{Batch}
@@ -217,7 +217,7 @@ sound_ledger script =
 
 -- replies that have the answers to a script's batches, and subscribers that keep the line of its history
 text_of-books : (script : Script) (ledger : History) (share : List Reply) (entries : List (ℕ × Reply))
-    (subscribers : List Kept) → IsServedAlone ledger share
+    (subscribers : List SubscriberState) → IsServedAlone ledger share
     → map (λ (r : Reply). r.batch) share ≡ map (λ (b : ClientBatch). b.batch) script.batches
     → map (λ (e : ℕ × Reply). e.1) entries ≡ share
     → subscribers ≡ map (kept_of_line ledger 0) script.bindings

@@ -10,7 +10,7 @@ use Rattle.cdc_run.specs.Reports.{AreSubscribed}
 use Rattle.cdc_script.specs.Scripts.{script_of}
 use Rattle.cdc_script.specs.declared.scripts.ClientBatch.{ClientBatch}
 use Rattle.cdc_script.specs.declared.scripts.Script.{Script}
-use Rattle.cdc_subscriber.specs.Kept.{Kept}
+use Rattle.cdc_subscriber.specs.SubscriberState.{SubscriberState}
 use Rattle.cdc_traffic.specs.declared.requests.Reply.{Reply}
 use Rattle.cdc_types.specs.declared.batches.Batch.{Batch}
 use Rattle.cdc_types.specs.declared.bounds.TheConstants.Limits.{CLIENTS}
@@ -22,7 +22,7 @@ use Rattle.cdc_run_command.specs.ClientOrders.{IsOrderOf, times_in}
 use Rattle.cdc_run_command.specs.Runnable.{IsClient, IsRunnable}
 use Rattle.cdc_run_command.specs.RunPrinted.{RunCommandPrints}
 use Rattle.cdc_run_command.specs.Runs.{Setting, client_count, entries_of, own_of, owners_of, shares_from}
-use Rattle.cdc_commands.proofs.Places.{found_at}
+use Rattle.cdc_commands.proofs.FoundElements.{found_at}
 use Rattle.cdc_run_command.proofs.ShareLemmas.{length-own_of, length-shares_from, slice_get-shares_from}
 
 -- ---- how many clients there are
@@ -102,7 +102,7 @@ order_of_shares batches replies lawful same = record {
 }
 
 -- subscribers of some bindings are those of equal ones
-pub subscribed_same : (h : History) (start : ℕ) (closes : List (Option ℕ)) (subscribers : List Kept)
+pub subscribed_same : (h : History) (start : ℕ) (closes : List (Option ℕ)) (subscribers : List SubscriberState)
     (these those : List Binding) → these ≡ those
     → AreSubscribed h start these closes subscribers → AreSubscribed h start those closes subscribers
 subscribed_same h start closes subscribers these those same are =

@@ -8,7 +8,7 @@ use Rattle.cdc_run.specs.Reports.{AreSubscribed, HasRun, replies_of}
 use Rattle.cdc_run.specs.declared.reports.Report.{Report}
 use Rattle.cdc_script.specs.declared.scripts.ClientBatch.{ClientBatch}
 use Rattle.cdc_script.specs.declared.scripts.Script.{Script}
-use Rattle.cdc_subscriber.specs.Kept.{Kept}
+use Rattle.cdc_subscriber.specs.SubscriberState.{SubscriberState}
 use Rattle.cdc_subscriber.specs.Lines.{subscriber_text}
 use Rattle.cdc_traffic.specs.declared.requests.Reply.{Reply}
 use Rattle.cdc_types.specs.declared.batches.Batch.{Batch}
@@ -50,7 +50,7 @@ reply_lines n [] = []
 reply_lines n (entry ∷ rest) = batch_line n entry.1.answer ++ reply_lines (n + 1) rest
 
 -- the lines of subscribers that keep this, the first of which has this number
-abbrev pub kept_text : ℕ → List Kept → List ℕ
+abbrev pub kept_text : ℕ → List SubscriberState → List ℕ
 kept_text n [] = []
 kept_text n (kept ∷ rest) = subscriber_text n kept ++ kept_text (n + 1) rest
 

@@ -5,11 +5,11 @@ use Rattle.std.proofs.Math.ListN.{get_or-map}
 use Rattle.std.proofs.lemmas.List.{append_assoc, length_push, length-map}
 use Rattle.std.proofs.lemmas.List.Elements.{All-cons, All-nil, All-weaker}
 use Rattle.std.proofs.lemmas.Result.{IfOk-at_ok}
-use Rattle.cdc_ends.specs.BrokerEnds.{Desk as BrokerDesk}
+use Rattle.cdc_ends.specs.BrokerEnds.{BrokerDesk}
 use Rattle.cdc_ends.specs.BrokerTurns.{first_consumer}
 use Rattle.cdc_ends.specs.Clients.{Talk, finished_talk}
 use Rattle.cdc_ends.specs.ConnectorEnds.{Publishing}
-use Rattle.cdc_ends.specs.LedgerEnds.{Desk as LedgerDesk, links_of}
+use Rattle.cdc_ends.specs.LedgerEnds.{LedgerDesk, links_of}
 use Rattle.cdc_ends.specs.declared.faults.RunFault.{RunFault}
 use Rattle.cdc_links.specs.Links.{LinkId, fresh_end, with_sent}
 use Rattle.cdc_progress.specs.Records.{Saved}

@@ -16,7 +16,7 @@ use Rattle.cdc_subscriber.specs.declared.subscriber.Taking.{Taking}
 use Rattle.cdc_subscriber.specs.Answers.{settled_answer}
 use Rattle.cdc_subscriber.specs.Book.{book_of}
 use Rattle.cdc_subscriber.specs.Heard.{Heard, applied_of, has_ended, is_end, kept_of, next}
-use Rattle.cdc_subscriber.specs.Kept.{Kept}
+use Rattle.cdc_subscriber.specs.SubscriberState.{SubscriberState}
 
 -- one more item is heard
 abbrev more : Heard → Item → Heard
@@ -27,12 +27,12 @@ abbrev settled : Bool → Bool → Option Taking
 settled closed ended = cond closed (Some Taking.AfterClose) (cond ended (Some Taking.Repeat) None)
 
 -- a subscriber is neither closed nor ended
-pub record Listens (kept : Kept) : Type 0 where
+pub record Listens (kept : SubscriberState) : Type 0 where
   pub open_yet : kept.closed ≡ false
   pub before_end : kept.ended ≡ false
 
 -- a subscriber with no settled answer listens
-pub Listens-unsettled : (kept : Kept) → settled_answer kept ≡ None → Listens kept
+pub Listens-unsettled : (kept : SubscriberState) → settled_answer kept ≡ None → Listens kept
 Listens-unsettled kept none = record {
   open_yet = at_close kept.closed kept.ended none;
   before_end = at_end kept.closed kept.ended none;
@@ -86,7 +86,7 @@ kept_of-repeat heard e listens late =
     rw (heard_it, stays, has_ended-more heard (item.Event e), listens.before_end) refl
 
 -- what is kept of one more event applied, of a book that took it in
-abbrev pub kept_more : Kept → Event → List BookEntry → Kept
+abbrev pub kept_more : SubscriberState → Event → List BookEntry → SubscriberState
 kept_more kept e book =
     record kept { book = book; last = e.timestamp; applied = min (kept.applied + 1) max_64 }
 
@@ -102,7 +102,7 @@ kept_of-applied heard e book listens later held =
     (rw (last_timestamp_from-push 0 (applied_of heard) e, length-append (applied_of heard) (e ∷ []))
     (ap with_count (counted (length (applied_of heard)) max_64)))
   where
-    with_count : ℕ → Kept
+    with_count : ℕ → SubscriberState
     with_count n = record {
       book = book_of (applied_of heard ++ e ∷ []);
       last = e.timestamp;

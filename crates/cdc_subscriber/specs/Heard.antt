@@ -9,7 +9,7 @@ use Rattle.cdc_message.specs.declared.items.Item.{Item}
 use Rattle.cdc_message.specs.declared.items.Item.TheVariants as item
 use Rattle.cdc_message.specs.Items.{events_of, rises}
 use Rattle.cdc_subscriber.specs.Book.{book_of}
-use Rattle.cdc_subscriber.specs.Kept.{Kept}
+use Rattle.cdc_subscriber.specs.SubscriberState.{SubscriberState}
 
 -- the items that a subscriber was handed while it was neither closed nor ended, in order, and whether it is closed
 pub record Heard : Type 0 where
@@ -45,7 +45,7 @@ abbrev pub applied_of : Heard → List Event
 applied_of heard = rises (events_of heard.items)
 
 -- what a subscriber keeps of what it has heard; it counts up to 2^64-1
-abbrev pub kept_of : Heard → Kept
+abbrev pub kept_of : Heard → SubscriberState
 kept_of heard = record {
   book = book_of (applied_of heard);
   last = last_timestamp (applied_of heard);

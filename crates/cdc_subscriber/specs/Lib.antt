@@ -1,6 +1,6 @@
 pub mod Answers
 pub mod Book
 pub mod Heard
-pub mod Kept
+pub mod SubscriberState
 pub mod Lines
 pub mod TakeErrors

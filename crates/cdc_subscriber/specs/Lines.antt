@@ -2,7 +2,7 @@
 use Rattle.std.specs.Prelude.{ℕ, Bool, List, ◌++◌, codes, decimal, if◌then◌else◌}
 use Rattle.std.specs.List.{flat_map}
 use Rattle.cdc_subscriber.specs.declared.book.BookEntry.{BookEntry}
-use Rattle.cdc_subscriber.specs.Kept.{Kept}
+use Rattle.cdc_subscriber.specs.SubscriberState.{SubscriberState}
 
 -- a number behind a space
 abbrev pub spaced : ℕ → List ℕ
@@ -23,11 +23,11 @@ account_line entry =
     ++ (spaced entry.balances.credits_pending ++ (spaced entry.balances.credits_posted ++ codes "\n"))))
 
 -- the line of the subscriber of this number
-abbrev pub subscriber_line : ℕ → Kept → List ℕ
+abbrev pub subscriber_line : ℕ → SubscriberState → List ℕ
 subscriber_line number kept =
     named (codes "subscriber") number ++ (named (codes " applied") kept.applied ++ (named (codes " last") kept.last
     ++ (flagged (codes " ended") kept.ended ++ (flagged (codes " closed") kept.closed ++ codes "\n"))))
 
 -- that line, and one for each account of its book
-abbrev pub subscriber_text : ℕ → Kept → List ℕ
+abbrev pub subscriber_text : ℕ → SubscriberState → List ℕ
 subscriber_text number kept = subscriber_line number kept ++ flat_map account_line kept.book

@@ -55,9 +55,9 @@ impl Drop for Subscriber {
 }
 
 impl Model for Subscriber {
-    ghost use Rattle.cdc_subscriber.specs.Kept.{Kept};
+    ghost use Rattle.cdc_subscriber.specs.SubscriberState.{SubscriberState};
 
-    ghost Value = { Kept };
+    ghost Value = { SubscriberState };
 
     ghost view = { λ s. record {
       book = s.book;

@@ -20,7 +20,7 @@ pub(crate) enum Cargo {
 
 /// What a session sends to the broker.
 #[derive(Clone, Copy)]
-pub(crate) enum Packet {
+pub(crate) enum ToldPacket {
     /// The session begins.
     Connect {
         /// Its number.
@@ -39,7 +39,7 @@ pub(crate) enum Packet {
 
 /// What the broker sends to the connector for a publish that it took.
 #[derive(Clone, Copy)]
-pub(crate) struct Confirm {
+pub(crate) struct ToldConfirm {
     /// The number of the session that published.
     pub session: u64,
     /// The tag that it published under.
@@ -70,11 +70,11 @@ impl Cargo {
     }
 }
 
-impl Confirm {
+impl ToldConfirm {
     /// A confirm of a publish.
-    pub(crate) fn of(confirm: &cdc_message::Confirm) -> Option<Confirm> {
+    pub(crate) fn of(confirm: &cdc_message::Confirm) -> Option<ToldConfirm> {
         match confirm.answer {
-            Answer::Confirmed(tag) => Some(Confirm {
+            Answer::Confirmed(tag) => Some(ToldConfirm {
                 session: confirm.session,
                 tag,
             }),
@@ -83,12 +83,17 @@ impl Confirm {
     }
 }
 
-impl Packet {
+impl ToldPacket {
     /// A packet that was sent.
-    pub(crate) fn of(alloc: Global, packet: &cdc_message::Packet) -> Result<Packet, AllocError> {
+    pub(crate) fn of(
+        alloc: Global,
+        packet: &cdc_message::Packet,
+    ) -> Result<ToldPacket, AllocError> {
         match packet {
-            cdc_message::Packet::Connect { session } => Ok(Packet::Connect { session: *session }),
-            cdc_message::Packet::Publish { session, tag, item } => Ok(Packet::Publish {
+            cdc_message::Packet::Connect { session } => Ok(ToldPacket::Connect {
+                session: *session,
+            }),
+            cdc_message::Packet::Publish { session, tag, item } => Ok(ToldPacket::Publish {
                 session: *session,
                 tag: *tag,
                 cargo: Cargo::of(alloc, item)?,
@@ -99,8 +104,8 @@ impl Packet {
     /// The money of the event that is published.
     pub(crate) fn movement(self) -> Option<Movement> {
         match self {
-            Packet::Connect { .. } => None,
-            Packet::Publish { cargo, .. } => cargo.movement(),
+            ToldPacket::Connect { .. } => None,
+            ToldPacket::Publish { cargo, .. } => cargo.movement(),
         }
     }
 }

@@ -1,6 +1,6 @@
 //! What a step of a simulation did, and how that is said.
 
-use crate::cargo::{Cargo, Confirm, Packet};
+use crate::cargo::{Cargo, ToldConfirm, ToldPacket};
 use crate::movements::Movement;
 use crate::sentences::Sentence;
 use crate::texts::Text;
@@ -60,12 +60,12 @@ pub(crate) enum ConnectorDeed {
     /// The session sent a packet, which has this number.
     Published {
         number: usize,
-        packet: Packet,
+        packet: ToldPacket,
     },
     /// A packet came to the broker, which took it.
     Arrived {
         number: u64,
-        packet: Packet,
+        packet: ToldPacket,
     },
     /// A packet came to the broker, which passed it over.
     PassedOver {
@@ -75,7 +75,7 @@ pub(crate) enum ConnectorDeed {
     /// A confirm came to the session of this number.
     Answered {
         number: u64,
-        confirm: Confirm,
+        confirm: ToldConfirm,
         session: u64,
         counted: bool,
     },
@@ -268,9 +268,9 @@ fn events_sentence(count: usize, first: u64, last: u64, after: &'static str) -> 
 }
 
 /// A packet of this number.
-pub(crate) fn packet_sentence(number: u64, packet: Packet) -> Sentence {
+pub(crate) fn packet_sentence(number: u64, packet: ToldPacket) -> Sentence {
     match packet {
-        Packet::Connect { session } => {
+        ToldPacket::Connect { session } => {
             Sentence::Two(
                 "packet ",
                 number.into(),
@@ -279,7 +279,7 @@ pub(crate) fn packet_sentence(number: u64, packet: Packet) -> Sentence {
                 "",
             )
         }
-        Packet::Publish {
+        ToldPacket::Publish {
             session,
             tag,
             cargo: Cargo::Event { timestamp, .. },
@@ -293,7 +293,7 @@ pub(crate) fn packet_sentence(number: u64, packet: Packet) -> Sentence {
             " of session ",
             session.into(),
         ),
-        Packet::Publish {
+        ToldPacket::Publish {
             session: _,
             tag,
             cargo: Cargo::EndMark,
@@ -308,21 +308,21 @@ pub(crate) fn packet_sentence(number: u64, packet: Packet) -> Sentence {
 }
 
 /// A packet that the broker took.
-fn arrival_sentence(packet: Packet) -> Sentence {
+fn arrival_sentence(packet: ToldPacket) -> Sentence {
     match packet {
-        Packet::Connect { session } => {
+        ToldPacket::Connect { session } => {
             Sentence::One("taken, session ", session.into(), " is connected")
         }
-        Packet::Publish {
+        ToldPacket::Publish {
             cargo: Cargo::Event { timestamp, .. },
             ..
         } => Sentence::One("taken, event ", timestamp.into(), ""),
-        Packet::Publish { .. } => Sentence::Plain("taken, end mark"),
+        ToldPacket::Publish { .. } => Sentence::Plain("taken, end mark"),
     }
 }
 
 /// Why a confirm doesn't count for the session of this number.
-fn uncounted_sentence(confirm: Confirm, session: u64) -> Sentence {
+fn uncounted_sentence(confirm: ToldConfirm, session: u64) -> Sentence {
     if confirm.session == session {
         return Sentence::One(
             "passed over, its tag ",

@@ -2,7 +2,7 @@
 
 ghost use Rattle.std.specs.Prelude.{◌<◌, ◌≤◌, IfSome, length};
 
-use crate::cargo::{Cargo, Confirm, Packet};
+use crate::cargo::{Cargo, ToldConfirm, ToldPacket};
 use crate::deeds::{ConnectorDeed, Deed, QueueDeed};
 use crate::movements::Movement;
 use crate::results::{accepted_count, item_count};
@@ -213,7 +213,7 @@ fn publish_deed(
     match world.packet(number as u64) {
         Some(packet) => Ok(Some(ConnectorDeed::Published {
             number,
-            packet: Packet::of(alloc, packet)?,
+            packet: ToldPacket::of(alloc, packet)?,
         })),
         None => Ok(None),
     }
@@ -229,7 +229,7 @@ fn arrival_deed(
     let Some(packet) = world.packet(number) else {
         return Ok(None);
     };
-    let packet = Packet::of(alloc, packet)?;
+    let packet = ToldPacket::of(alloc, packet)?;
     Ok(Some(if matches!(did, Did::Arrived(true)) {
         ConnectorDeed::Arrived { number, packet }
     } else {
@@ -241,11 +241,11 @@ fn arrival_deed(
 }
 
 /// Why the broker passes a packet over.
-fn lateness(packet: Packet, world: &World<MemoryStore>) -> Sentence {
+fn lateness(packet: ToldPacket, world: &World<MemoryStore>) -> Sentence {
     let connection = world.broker().connection();
     match packet {
         _ if connection == 0 => Sentence::Plain("passed over, no session is connected"),
-        Packet::Publish { session, tag, .. } if session == connection => {
+        ToldPacket::Publish { session, tag, .. } if session == connection => {
             match world.broker().next_tag() {
                 Some(next) if next <= tag => {
                     Sentence::One("passed over, tag ", next.into(), " comes first")
@@ -264,7 +264,7 @@ fn answer_deed(
     session: &Session,
     world: &World<MemoryStore>,
 ) -> Option<ConnectorDeed> {
-    let confirm = Confirm::of(world.confirm(number)?)?;
+    let confirm = ToldConfirm::of(world.confirm(number)?)?;
     Some(ConnectorDeed::Answered {
         number,
         confirm,

@@ -2,6 +2,7 @@
 -- of results (TigerBeetle, `create_accounts` and `create_transfers`).
 use Rattle.std.specs.Prelude.{Bool, not, ◌==◌, ◌&&◌, ◌||◌, Option, List, [], ◌∷◌}
 use Rattle.cdc_types.specs.declared.accounts.NewAccount.{NewAccount}
+use Rattle.cdc_types.specs.declared.accounts.TheConstants.AccountFlags.{CREDITS_MUST_NOT_EXCEED_DEBITS, DEBITS_MUST_NOT_EXCEED_CREDITS}
 use Rattle.cdc_types.specs.declared.transfers.NewTransfer.{NewTransfer}
 use Rattle.cdc_types.specs.declared.results.AccountResult.{AccountResult}
 use Rattle.cdc_types.specs.declared.results.AccountResult.TheVariants as account
@@ -17,8 +18,10 @@ abbrev pub account_shape_lines : Features → NewAccount → List (Bool × Accou
 account_shape_lines offered a =
     (has_other_flag a.flags offered.account_flags, account.ReservedFlag) ∷
     (a.id == 0, account.IdMustNotBeZero) ∷
-    (a.id == max_128, account.IdMustNotBeIntMax) ∷
-    (has_flag a.flags 2 && has_flag a.flags 4, account.FlagsAreMutuallyExclusive) ∷
+    (a.id == max_128, account.IdMustNotBeIntMax) ∷ (
+      has_flag a.flags DEBITS_MUST_NOT_EXCEED_CREDITS && has_flag a.flags CREDITS_MUST_NOT_EXCEED_DEBITS,
+      account.FlagsAreMutuallyExclusive,
+    ) ∷
     (a.ledger == 0, account.LedgerMustNotBeZero) ∷
     (a.code == 0, account.CodeMustNotBeZero) ∷
     []

@@ -11,7 +11,7 @@ use Rattle.cdc_progress.specs.Stores.{IsRisked, MayRefuseSave, Risks}
 use Rattle.cdc_progress.specs.declared.errors.StoreError.{StoreError}
 use Rattle.cdc_progress.specs.declared.errors.StoreError.TheVariants as store
 use Rattle.cdc_publisher.specs.Courses.{Course, after_answer, begun, last_session, new_course, next_packet, next_poll, progress_of, with_offer, with_sent}
-use Rattle.cdc_publisher.specs.Kept.{Kept}
+use Rattle.cdc_publisher.specs.SessionState.{SessionState}
 use Rattle.cdc_publisher.specs.Stands.{StandsFor}
 use Rattle.cdc_publisher.specs.Starts.{HasStarted, IsStartRisked, MayRefuseStart}
 use Rattle.cdc_publisher.specs.declared.errors.StartError.{StartError}
@@ -32,21 +32,22 @@ use Rattle.cdc_world.specs.Worlds.{WorldState, numbered}
 use Rattle.cdc_world.proofs.ActorMoves.{Moves-risked, unable}
 
 -- the course of a session that is there
-pub record IsCourse (kept : Kept) (session : Option Course) : Type 0 where
+pub record IsCourse (kept : SessionState) (session : Option Course) : Type 0 where
   pub course : Course
   pub is : session ≡ Some course
   pub stands : StandsFor kept course
 
 -- a session that is kept stands for a course that is there
-course_found : (kept : Kept) (session : Option Course) → SessionStands (Some kept) session → IsCourse kept session
+course_found : (kept : SessionState) (session : Option Course) → SessionStands (Some kept) session
+    → IsCourse kept session
 course_found kept None stands = absurd stands
 course_found kept (Some course) stands = record { course = course; is = refl; stands = stands }
 
 -- so a step finds the course that the kept session stands for
-course_of : (a : ActorParts) (w : WorldState) (kept : Kept) → ActorsStand a w → a.session ≡ Some kept
+course_of : (a : ActorParts) (w : WorldState) (kept : SessionState) → ActorsStand a w → a.session ≡ Some kept
     → IsCourse kept w.session
 course_of a w kept st is =
-    course_found kept w.session (subst (λ (s : Option Kept). SessionStands s w.session) is st.connector.session)
+    course_found kept w.session (subst (λ (s : Option SessionState). SessionStands s w.session) is st.connector.session)
 
 -- no session, no course
 no_course_found : (session : Option Course) → SessionStands None session → session ≡ None
@@ -56,7 +57,7 @@ no_course_found (Some course) stands = absurd stands
 -- so a step finds that the connector is down where no session is kept
 no_course : (a : ActorParts) (w : WorldState) → ActorsStand a w → a.session ≡ None → w.session ≡ None
 no_course a w st is =
-    no_course_found w.session (subst (λ (s : Option Kept). SessionStands s w.session) is st.connector.session)
+    no_course_found w.session (subst (λ (s : Option SessionState). SessionStands s w.session) is st.connector.session)
 
 -- nothing that isn't something
 pub none_of : {A : Type 0} (o : Option A) → is_some o ≡ false → o ≡ None
@@ -64,7 +65,7 @@ none_of None is = refl
 none_of (Some x) is = cc
 
 -- the events that a session was offered
-offered_found : (h : History) (kept kept' : Kept) (course : Course) (found : Option Poll)
+offered_found : (h : History) (kept kept' : SessionState) (course : Course) (found : Option Poll)
     → OffersAt h kept course found (Ok tt) kept'
     → (poll : Poll) × ((found ≡ Some poll)
     × StandsFor kept' (with_offer (take poll.limit (events_after poll.after (events h))) (none_follow h poll) course))
@@ -72,7 +73,8 @@ offered_found h kept kept' course None offers = cc (offers.0)
 offered_found h kept kept' course (Some poll) offers = (poll, (refl, offers))
 
 -- the session is offered events
-pub poll_done : (a : ActorParts) (kept kept' : Kept) → a.session ≡ Some kept → Offers a.history kept (Ok tt) kept'
+pub poll_done : (a : ActorParts) (kept kept' : SessionState) → a.session ≡ Some kept
+    → Offers a.history kept (Ok tt) kept'
     → ActorsMove a PollStep (Ok Done) (record a { session = Some kept' })
 poll_done a kept kept' is offers = (
   tt,
@@ -105,7 +107,7 @@ poll_done a kept kept' is offers = (
 )
 
 -- the packet that a session sent
-sent_found : (kept kept' : Kept) (packets packets' : List Packet) (course : Course) (found : Option Packet)
+sent_found : (kept kept' : SessionState) (packets packets' : List Packet) (course : Course) (found : Option Packet)
     → SendsAt kept packets course found (Ok tt) kept' packets'
     → (packet : Packet) × ((found ≡ Some packet)
     × (StandsFor kept' (with_sent (Some packet) course) × (packets' ≡ packets ++ packet ∷ [])))
@@ -113,7 +115,7 @@ sent_found kept kept' packets packets' course None sends = cc (sends.0)
 sent_found kept kept' packets packets' course (Some packet) sends = (packet, (refl, sends))
 
 -- the session sends a packet
-pub publish_done : (a : ActorParts) (kept kept' : Kept) (packets' : List Packet) → a.session ≡ Some kept
+pub publish_done : (a : ActorParts) (kept kept' : SessionState) (packets' : List Packet) → a.session ≡ Some kept
     → Sends kept a.packets (Ok tt) kept' packets'
     → ActorsMove a PublishStep (Ok Done) (record a { session = Some kept'; packets = packets' })
 publish_done a kept kept' packets' is sends = (
@@ -182,7 +184,7 @@ answers_next a w k course found st is there =
     (ap (λ b. numbered b.confirms k) (sym st.broker) ∙ there)
 
 -- whether it counts, the session says
-pub answer_done : (a : ActorParts) (kept kept' : Kept) (k : ℕ) (confirm : Confirm) (counted : Bool)
+pub answer_done : (a : ActorParts) (kept kept' : SessionState) (k : ℕ) (confirm : Confirm) (counted : Bool)
     → a.session ≡ Some kept → numbered a.confirms k ≡ Some confirm
     → ((course : Course) → StandsFor kept course → counted ≡ counts course confirm.session confirm.answer)
     → ((course : Course) → StandsFor kept course → StandsFor kept' (after_answer course confirm.session confirm.answer))
@@ -242,7 +244,7 @@ saves_next : (w : WorldState) (course : Course) → w.session ≡ Some course
 saves_next w course is = ap (λ (s : Option Course). s >>= (λ course. success (with_progress w course))) is
 
 -- the session saves
-pub save_done : (p : Parts) (kept : Kept) (held : Option Saved) (honest : Bool) (risks : Risks) (failed' : ℕ)
+pub save_done : (p : Parts) (kept : SessionState) (held : Option Saved) (honest : Bool) (risks : Risks) (failed' : ℕ)
     → p.actors.session ≡ Some kept
     → ((course : Course) → StandsFor kept course → held ≡ Some (progress_of course))
     → MovesBy Next p Save (Ok Done) (record p { held = held; honest = honest; failed = failed'; risks = risks })
@@ -260,7 +262,8 @@ save_tried : (w : WorldState) (course : Course) → w.session ≡ Some course �
 save_tried w course is = subst IsTried (sym (saves_next w course is)) tt
 
 -- a save that fails
-pub save_failed : (p : Parts) (kept : Kept) (held : Option Saved) (honest : Bool) (risks : Risks) (why : StoreError)
+pub save_failed : (p : Parts) (kept : SessionState) (held : Option Saved) (honest : Bool) (risks : Risks)
+    (why : StoreError)
     (failed failed' : ℕ) → p.actors.session ≡ Some kept
     → ((course : Course) → StandsFor kept course → (held ≡ p.held) ⊎ (held ≡ Some (progress_of course)))
     → (why ≡ store.OutOfMemory → held ≡ p.held) → MayRefuseSave failed failed' why
@@ -356,7 +359,7 @@ begins_held held loaded before at answer stands given begins =
     ap (λ h. begun h at) (sym (given ∙ stands)) ∙ begins
 
 -- a session starts over an honest store: it stands for a new course under the record that is now held
-pub start_done : (p : Parts) (at : Option ℕ) (actors' : ActorParts) (kept : Kept) (held : Option Saved)
+pub start_done : (p : Parts) (at : Option ℕ) (actors' : ActorParts) (kept : SessionState) (held : Option Saved)
     (honest : Bool) (risks : Risks) (failed' window : ℕ) → p.actors.session ≡ None
     → actors' ≡ record p.actors { session = Some kept }
     → window ≡ p.actors.window

@@ -6,13 +6,13 @@ use Rattle.cdc_types.specs.declared.batches.Batch.TheVariants as batch
 use Rattle.cdc_types.specs.declared.transfers.NewTransfer.{NewTransfer}
 use Rattle.cdc_ledger.specs.declared.errors.BatchError.TheVariants.{LedgerClosed}
 use Rattle.cdc_match.specs.declared.pairs.Mode.TheVariants.{All}
-use Rattle.cdc_progress.specs.Records.{Saved, saved}
+use Rattle.cdc_progress.specs.Records.{Saved, saved, saved_from}
 use Rattle.cdc_progress.specs.Stores.{Risks}
 use Rattle.cdc_progress.specs.declared.errors.StoreError.TheVariants.{WriteFault}
 use Rattle.cdc_publisher.specs.Courses.{new_course}
 use Rattle.cdc_subscriber.specs.declared.book.BookEntry.{BookEntry}
 use Rattle.cdc_subscriber.specs.Heard.{kept_of}
-use Rattle.cdc_subscriber.specs.Kept.{Kept}
+use Rattle.cdc_subscriber.specs.SubscriberState.{SubscriberState}
 use Rattle.cdc_types.specs.declared.steps.Step.{Step}
 use Rattle.cdc_types.specs.declared.steps.Step.TheVariants.{Submit, CloseLedger, Start, StartAt, Crash, Poll, Publish, Arrive, Answer, Save, Send, Rewind, Break, Take, Ack, Close}
 use Rattle.cdc_world.specs.declared.steps.Did.TheVariants.{Done}
@@ -68,7 +68,7 @@ abbrev told : ℕ → ℕ → List Step
 told packet confirm = taken packet ++ Answer confirm ∷ []
 
 -- what a run shows: how many steps were done, the refusal, what the store holds, and what each subscriber keeps
-abbrev shown : Run → (ℕ × Option StepError) × Option Saved × List Kept
+abbrev shown : Run → (ℕ × Option StepError) × Option Saved × List SubscriberState
 shown run = (run.0, run.1.held, map (λ s. kept_of s.heard) run.1.subscriptions)
 
 -- an account of a book
@@ -252,7 +252,7 @@ joins_late =
 -- moment that was asked for is held as where all is confirmed up to, and as the start
 tells_what_follows : shown (run_of start (joins_late ++ Publish ∷ Arrive 1 ∷ taken 2 ++ Send 1 ∷ Take 1 ∷ [])) ≡ (
   (10, None),
-  Some (record { session = 1; timestamp = 2000; start = 2000 }),
+  Some (saved_from 2000 1 2000),
   record { book = moved 12; last = 2001; applied = 1; ended = false; closed = false } ∷ [],
 )
 tells_what_follows = refl
@@ -260,7 +260,7 @@ tells_what_follows = refl
 -- once it is held, no other start may be asked for: nothing is saved then
 no_second_start : shown (run_of start (joins_late ++ Crash ∷ StartAt 5 ∷ [])) ≡ (
   (4, Some StartNotAllowed),
-  Some (record { session = 1; timestamp = 2000; start = 2000 }),
+  Some (saved_from 2000 1 2000),
   record { book = []; last = 0; applied = 0; ended = false; closed = false } ∷ [],
 )
 no_second_start = refl
@@ -268,7 +268,7 @@ no_second_start = refl
 -- a session that starts without asking goes on where the first one was, and every save keeps the start
 keeps_its_start : shown (run_of start (joins_late ++ Publish ∷ Arrive 1 ∷ told 2 1 ++ Save ∷ Crash ∷ Start ∷ [])) ≡ (
   (12, None),
-  Some (record { session = 2; timestamp = 2001; start = 2000 }),
+  Some (saved_from 2000 2 2001),
   record { book = []; last = 0; applied = 0; ended = false; closed = false } ∷ [],
 )
 keeps_its_start = refl

@@ -4,7 +4,7 @@ use Rattle.std.specs.Prelude.{Contains, nat_lt, option_map, if◌then◌else◌}
 use Rattle.std.specs.List.{slice_get}
 use Rattle.std.proofs.lemmas.Bool.{cases_Bool, eqb-true, eqb-false}
 use Rattle.std.proofs.lemmas.Option.{none-some, slice_get-map, slice_get_read}
-use Rattle.cdc_laws.proofs.Places.{Contains_slice_get}
+use Rattle.cdc_laws.proofs.ListElements.{Contains_slice_get}
 use Rattle.cdc_world.specs.declared.subscriptions.Subscription.{Subscription}
 use Rattle.cdc_world.specs.Parts.{subscription_parts}
 use Rattle.cdc_world.specs.Turns.{place_in}

@@ -23,7 +23,7 @@ use Rattle.cdc_laws.proofs.Brokers.{AreOfTaken-confirmed, AreOfTaken-taken, take
 use Rattle.cdc_laws.proofs.Connectors.{IsConnectorRun-keeps, KeepsTo-begin, KeepsTo-confirm, KeepsTo-end, KeepsTo-goes_on, KeepsTo-half_started, KeepsTo-save, KeepsTo-sent, KeepsTo-start}
 use Rattle.cdc_laws.proofs.GoingOn.{GoesOn-closed, GoesOn-submit}
 use Rattle.cdc_laws.proofs.Offers.{KeepsTo-offer}
-use Rattle.cdc_laws.proofs.Places.{none_there}
+use Rattle.cdc_laws.proofs.ListElements.{none_there}
 use Rattle.cdc_laws.proofs.Taking.{taken_after-true}
 use Rattle.cdc_log.specs.Log.{events_after}
 use Rattle.cdc_match.specs.Arguments.{Arguments}

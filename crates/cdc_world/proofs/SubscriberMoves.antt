@@ -8,14 +8,14 @@ use Rattle.std.proofs.lemmas.Option.{same_Some, slice_get-map}
 use Rattle.cdc_broker.specs.Broker.{BrokerState, nobody, queue_of, with_queue}
 use Rattle.cdc_broker.specs.Cursors.{Cursor, after_ack, after_delivery, delivery_at, rewound}
 use Rattle.cdc_broker.specs.Queues.{QueueState, acknowledged, empty_queue, is_unknown, next_delivery as next_of_queue, rewound_queue, with_delivery as with_delivery_of}
-use Rattle.cdc_laws.proofs.Places.{none_there}
+use Rattle.cdc_laws.proofs.ListElements.{none_there}
 use Rattle.cdc_message.specs.declared.items.Delivery.{Delivery}
 use Rattle.cdc_message.specs.declared.items.Item.{Item}
 use Rattle.cdc_subscriber.specs.Answers.{TakesItem, answer_to}
 use Rattle.cdc_subscriber.specs.declared.errors.TakeError.{TakeError}
 use Rattle.cdc_subscriber.specs.declared.subscriber.Taking.{Taking}
 use Rattle.cdc_subscriber.specs.Heard.{Heard, kept_of, next as next_heard}
-use Rattle.cdc_subscriber.specs.Kept.{Kept}
+use Rattle.cdc_subscriber.specs.SubscriberState.{SubscriberState}
 use Rattle.cdc_types.specs.declared.steps.Step.{Step}
 use Rattle.cdc_types.specs.declared.steps.Step.TheVariants.{Send, Rewind, Break, Take, Ack, Close}
 use Rattle.cdc_world.specs.declared.steps.Did.{Did}
@@ -26,7 +26,7 @@ use Rattle.cdc_world.specs.declared.subscriptions.Subscription.{Subscription as 
 use Rattle.cdc_world.specs.Next.{Outcome, ◌>>=◌, acknowledgement, first_flight, next, next_delivery, success, taking, with_ack, with_break, with_close, with_delivery, with_rewind, with_subscription, with_taking}
 use Rattle.cdc_world.specs.Parts.{ActorParts, SubscriptionParts, subscription_parts}
 use Rattle.cdc_world.specs.Stands.{ActorsStand, HasHandedOut, IsHandedOut, QueueView, parts_of, queue_for, view_of}
-use Rattle.cdc_world.specs.Turns.{ActorsMove, HandsAt, HasClosed, HasTaken, TakesAt, place_in}
+use Rattle.cdc_world.specs.Turns.{ActorsMove, HandsAt, HasClosed, HasTakenFirst, TakesAt, place_in}
 use Rattle.cdc_world.specs.Worlds.{Subscription, WorldState, numbered, taken_items}
 use Rattle.cdc_world.proofs.NumberedElements.{Contains_numbered, IsPlace, numbered_place, place_is, slice_get_made, subscription_here}
 use Rattle.cdc_world.proofs.QueueViews.{handed_here, handed_set, set_found, set_same}
@@ -348,14 +348,14 @@ break_done a i s s' above here lost = (
 -- what a subscriber takes
 taken_found : (s s' : SubscriptionParts) (flight : List Delivery) (taking : Taking) → TakesAt s flight (Ok taking) s'
     → (delivery : Delivery) × ((rest : List Delivery) × ((flight ≡ delivery ∷ rest)
-    × HasTaken s delivery rest taking s'))
+    × HasTakenFirst s delivery rest taking s'))
 taken_found s s' [] taking takes = cc (takes.0)
 taken_found s s' (delivery ∷ rest) taking takes = (delivery, (rest, (refl, takes)))
 
 -- equal parts
 parts_same : (s s' : SubscriptionParts) → s.kept ≡ s'.kept → s.flight ≡ s'.flight → s.acks ≡ s'.acks → s ≡ s'
 parts_same s s' k f acks =
-    ap (λ (x : Kept). record s { kept = x }) k
+    ap (λ (x : SubscriberState). record s { kept = x }) k
     ∙ (ap (λ (x : List Delivery). record s { kept = s'.kept; flight = x }) f
     ∙ ap (λ (x : List ℕ). record s' { acks = x }) acks)
 
@@ -415,7 +415,7 @@ take_done a i s s' answer above here takes =
               (
                 takes_next w i sub (delivery ∷ rest) of.numbered_so flight
                     ∙ ap (λ (t : Taking). Ok (Took t, with_subscription i sub' w))
-                    (ap (λ (k : Kept). answer_to k delivery.item) (sym kept) ∙ sym has.answers),
+                    (ap (λ (k : SubscriberState). answer_to k delivery.item) (sym kept) ∙ sym has.answers),
                 refl,
               ),
             ),
@@ -757,7 +757,8 @@ mapped_ok F (Ok y) x Q mapped ok = cc mapped
 mapped_ok F (Err e) x Q mapped ok = cc
 
 -- what is answered
-pub answered_is : (kept : Kept) (item : Item) (answer : Taking) (r : Result Taking TakeError) → TakesItem kept item r
+pub answered_is : (kept : SubscriberState) (item : Item) (answer : Taking) (r : Result Taking TakeError)
+    → TakesItem kept item r
     → r ≡ Ok answer → answer ≡ answer_to kept item
 answered_is kept item answer r takes is =
     elim takes [ inl same ↦ cc | inr lacks ↦ cc (lacks.1) ]

@@ -7,14 +7,14 @@ use Rattle.cdc_message.specs.declared.packets.Confirm.{Confirm}
 use Rattle.cdc_message.specs.declared.packets.Packet.{Packet}
 use Rattle.cdc_progress.specs.Records.{Saved}
 use Rattle.cdc_progress.specs.Stores.{Risks}
-use Rattle.cdc_publisher.specs.Kept.{Kept as SessionKept}
-use Rattle.cdc_subscriber.specs.Kept.{Kept}
+use Rattle.cdc_publisher.specs.SessionState.{SessionState}
+use Rattle.cdc_subscriber.specs.SubscriberState.{SubscriberState}
 use Rattle.cdc_world.specs.declared.subscriptions.Subscription.{Subscription}
 
 -- what is kept of a subscription: what the subscriber's readers give, the deliveries that are on their way to it, and
 -- the positions that it has acknowledged
 pub record SubscriptionParts : Type 0 where
-  pub kept : Kept
+  pub kept : SubscriberState
   pub flight : List Delivery
   pub acks : List ℕ
 
@@ -27,7 +27,7 @@ subscription_parts s = record { kept = s.subscriber; flight = s.flight.items; ac
 pub record ActorParts : Type 0 where
   pub history : History
   pub window : ℕ
-  pub session : Option SessionKept
+  pub session : Option SessionState
   pub packets : List Packet
   pub broker : BrokerState
   pub confirms : List Confirm

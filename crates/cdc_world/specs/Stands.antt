@@ -10,7 +10,7 @@ use Rattle.cdc_message.specs.declared.items.Item.{Item}
 use Rattle.cdc_message.specs.declared.packets.Confirm.{Confirm}
 use Rattle.cdc_message.specs.declared.packets.Packet.{Packet}
 use Rattle.cdc_publisher.specs.Courses.{Course}
-use Rattle.cdc_publisher.specs.Kept.{Kept as SessionKept}
+use Rattle.cdc_publisher.specs.SessionState.{SessionState}
 use Rattle.cdc_publisher.specs.Stands.{StandsFor}
 use Rattle.cdc_subscriber.specs.Heard.{kept_of}
 use Rattle.cdc_world.specs.Parts.{ActorParts, Parts, SubscriptionParts}
@@ -19,7 +19,7 @@ use Rattle.cdc_world.specs.Worlds.{Subscription, WorldState}
 -- ---- the connector's side
 
 -- the session stands for the connector's course: both are there, or neither
-abbrev pub SessionStands : Option SessionKept → Option Course → Type 0
+abbrev pub SessionStands : Option SessionState → Option Course → Type 0
 SessionStands None None = Unit {0}
 SessionStands None (Some course) = ⊥
 SessionStands (Some kept) None = ⊥
@@ -32,7 +32,7 @@ pub record ConnectorSide (A : Type 0) : Type 0 where
   pub packets : List Packet
 
 -- the connector's side of what is kept
-abbrev pub connector_parts : ActorParts → ConnectorSide SessionKept
+abbrev pub connector_parts : ActorParts → ConnectorSide SessionState
 connector_parts a = record { window = a.window; session = a.session; packets = a.packets }
 
 -- and of a world
@@ -40,7 +40,7 @@ abbrev pub connector_of : WorldState → ConnectorSide Course
 connector_of w = record { window = w.window; session = w.session; packets = w.packets }
 
 -- the one stands for the other
-pub record ConnectorStands (kept : ConnectorSide SessionKept) (side : ConnectorSide Course) : Type 0 where
+pub record ConnectorStands (kept : ConnectorSide SessionState) (side : ConnectorSide Course) : Type 0 where
   pub window : kept.window ≡ side.window
   pub session : SessionStands kept.session side.session
   pub packets : kept.packets ≡ side.packets

@@ -11,7 +11,7 @@ use Rattle.cdc_message.specs.declared.items.Delivery.{Delivery}
 use Rattle.cdc_message.specs.declared.packets.Confirm.{Confirm}
 use Rattle.cdc_message.specs.declared.packets.Packet.{Packet}
 use Rattle.cdc_publisher.specs.Courses.{Course, next_packet, next_poll, with_offer, with_sent}
-use Rattle.cdc_publisher.specs.Kept.{Kept}
+use Rattle.cdc_publisher.specs.SessionState.{SessionState}
 use Rattle.cdc_publisher.specs.Stands.{StandsFor}
 use Rattle.cdc_publisher.specs.declared.session.Poll.{Poll}
 use Rattle.cdc_subscriber.specs.Answers.{answer_to}
@@ -65,19 +65,21 @@ empty_actors bindings window = record {
 }
 
 -- a session that stands for a course is offered the events that it wants of a ledger's, where it wants any
-abbrev pub OffersAt : History → Kept → Course → Option Poll → Result (Unit {0}) StepError → Kept → Type 0
+abbrev pub OffersAt : History → SessionState → Course → Option Poll → Result (Unit {0}) StepError → SessionState
+    → Type 0
 OffersAt h kept course None answer kept' = (answer ≡ Err NotEnabled) × (kept' ≡ kept)
 OffersAt h kept course (Some poll) (Ok _) kept' =
     StandsFor kept' (with_offer (take poll.limit (events_after poll.after (events h))) (none_follow h poll) course)
 OffersAt h kept course (Some poll) (Err why) kept' = (why ≡ OutOfMemory) × (kept' ≡ kept)
 
 -- the same, whatever course it stands for
-abbrev pub Offers : History → Kept → Result (Unit {0}) StepError → Kept → Type 0
+abbrev pub Offers : History → SessionState → Result (Unit {0}) StepError → SessionState → Type 0
 Offers h kept answer kept' = (course : Course) → StandsFor kept course
     → OffersAt h kept course (next_poll course) answer kept'
 
 -- a session that stands for a course sends its next packet, if there is one, to the back of those that were sent
-abbrev pub SendsAt : Kept → List Packet → Course → Option Packet → Result (Unit {0}) StepError → Kept → List Packet
+abbrev pub SendsAt : SessionState → List Packet → Course → Option Packet → Result (Unit {0}) StepError → SessionState
+    → List Packet
     → Type 0
 SendsAt kept packets course None answer kept' packets' = (answer ≡ Err NotEnabled) × ((kept' ≡ kept)
     × (packets' ≡ packets))
@@ -87,7 +89,7 @@ SendsAt kept packets course (Some packet) (Err why) kept' packets' =
     (why ≡ OutOfMemory) × ((kept' ≡ kept) × (packets' ≡ packets))
 
 -- the same, whatever course it stands for
-abbrev pub Sends : Kept → List Packet → Result (Unit {0}) StepError → Kept → List Packet → Type 0
+abbrev pub Sends : SessionState → List Packet → Result (Unit {0}) StepError → SessionState → List Packet → Type 0
 Sends kept packets answer kept' packets' =
     (course : Course) → StandsFor kept course → SendsAt kept packets course (next_packet course) answer kept' packets'
 
@@ -111,7 +113,7 @@ HandsAt i b s (Some delivery) (Ok _) b' s' =
 HandsAt i b s (Some delivery) (Err why) b' s' = (why ≡ OutOfMemory) × ((b' ≡ b) × (s' ≡ s))
 
 -- a subscriber has taken a delivery, and left these: it answers, acknowledges the position and hears the item
-pub record HasTaken (s : SubscriptionParts) (delivery : Delivery) (rest : List Delivery) (answer : Taking)
+pub record HasTakenFirst (s : SubscriptionParts) (delivery : Delivery) (rest : List Delivery) (answer : Taking)
     (s' : SubscriptionParts) : Type 0 where
   pub answers : answer ≡ answer_to s.kept delivery.item
   pub flight : s'.flight ≡ rest
@@ -121,7 +123,7 @@ pub record HasTaken (s : SubscriptionParts) (delivery : Delivery) (rest : List D
 -- a subscriber takes the first of the deliveries on their way to it, if there is one
 abbrev pub TakesAt : SubscriptionParts → List Delivery → Result Taking StepError → SubscriptionParts → Type 0
 TakesAt s [] answer s' = (answer ≡ Err NotEnabled) × (s' ≡ s)
-TakesAt s (delivery ∷ rest) (Ok taking) s' = HasTaken s delivery rest taking s'
+TakesAt s (delivery ∷ rest) (Ok taking) s' = HasTakenFirst s delivery rest taking s'
 TakesAt s (delivery ∷ rest) (Err why) s' = (why ≡ OutOfMemory) × (s' ≡ s)
 
 -- a subscriber closes, and nothing else changes

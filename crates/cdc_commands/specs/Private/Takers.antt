@@ -4,7 +4,7 @@ use Rattle.cdc_broker.specs.Broker.{BrokerState, queue_of, with_queue}
 use Rattle.cdc_broker.specs.Queues.{QueueState, next_delivery, with_delivery}
 use Rattle.cdc_message.specs.declared.items.Delivery.{Delivery}
 use Rattle.cdc_subscriber.specs.Heard.{Heard, next, kept_of}
-use Rattle.cdc_subscriber.specs.Kept.{Kept}
+use Rattle.cdc_subscriber.specs.SubscriberState.{SubscriberState}
 use Rattle.cdc_subscriber.specs.Lines.{subscriber_text}
 use Rattle.cdc_commands.specs.Feeds.{hearing}
 
@@ -19,7 +19,7 @@ hearing_delivery None heard = heard
 hearing_delivery (Some delivery) heard = next heard delivery.item
 
 -- a subscriber that stands for what it has heard takes what a queue hands out next, if there is something
-abbrev pub TakesDelivery : ℕ → BrokerState → BrokerState → Kept → Kept → Type 0
+abbrev pub TakesDelivery : ℕ → BrokerState → BrokerState → SubscriberState → SubscriberState → Type 0
 TakesDelivery i old new before after =
     (new ≡ with_queue i (with_delivery (next_delivery (queue_of old i)) (queue_of old i)) old)
     × ((heard : Heard) → before ≡ kept_of heard

@@ -3,13 +3,13 @@ use Rattle.std.specs.Prelude.{ℕ, ◌+◌, List, [], ◌∷◌}
 use Rattle.serde_json.specs.Data.{Data}
 use Rattle.cdc_broker.specs.Queues.{QueueState}
 use Rattle.cdc_subscriber.specs.Heard.{kept_of}
-use Rattle.cdc_subscriber.specs.Kept.{Kept}
+use Rattle.cdc_subscriber.specs.SubscriberState.{SubscriberState}
 use Rattle.cdc_traffic.specs.declared.requests.Reply.{Reply}
 use Rattle.cdc_commands.specs.Feeds.{hearing}
 use Rattle.cdc_json.specs.Lines.{batch_value}
 
 -- what the subscriber keeps that takes this queue
-abbrev pub kept_of_queue : QueueState → Kept
+abbrev pub kept_of_queue : QueueState → SubscriberState
 kept_of_queue q = kept_of (hearing q.items)
 
 -- the values of replies, the first of which is that to the batch of this number

@@ -4,7 +4,7 @@ use Rattle.cdc_broker.specs.Broker.{published}
 use Rattle.cdc_message.specs.declared.items.Item.TheVariants.{Event as OfEvent}
 use Rattle.cdc_types.specs.declared.events.Event.{Event}
 use Rattle.cdc_commands.proofs.FeedLemmas.{IsFilled-connected, IsFilled-more, queues_whole}
-use Rattle.cdc_commands.proofs.Places.{found_within}
+use Rattle.cdc_commands.proofs.FoundElements.{found_within}
 use Rattle.cdc_commands.proofs.feeding.publish_log.Goals as goal
 use Rattle.cdc_commands.proofs.feeding.publish_log.Goals.{in-Some+in_ok-message+in_ok-publish, in_default}
 

@@ -2,7 +2,7 @@ use Rattle.std.proofs.Common.{◌-◌, ◌<◌, ap, length, arith}
 use Rattle.std.proofs.lemmas.List.{length-set}
 use Rattle.cdc_broker.specs.Broker.{BrokerState, queue_of}
 use Rattle.cdc_commands.proofs.FeedLemmas.{IsTaking-none, IsTaking-more}
-use Rattle.cdc_commands.proofs.Places.{found_at}
+use Rattle.cdc_commands.proofs.FoundElements.{found_at}
 use Rattle.cdc_commands.proofs.feeding.take_queue.Goals as goal
 
 pub loop-init : goal.loop-init

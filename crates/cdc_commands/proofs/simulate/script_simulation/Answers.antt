@@ -15,7 +15,8 @@ returns-clause-output c = λ bytes said.
     let so_many : c.len.result ≡ length acts = omega (arith, c.len.ensures, c.as_slice.ensures.len) in
     let printed = c.in_ok-print_simulated.ensures come.end come.report
     ∙ ap (λ n. simulation_text n simulated.played.refusal come.end) so_many in
-    prints_after Simulates IsFaultLine c.args.window bytes c.args.steps.now simulated.played.refusal c.of_refusal.result _
+    prints_after Simulates IsFaultLine c.args.window bytes c.args.steps.now simulated.played.refusal
+    c.of_refusal.result _
     c.of_refusal.ensures (
       plan,
       (

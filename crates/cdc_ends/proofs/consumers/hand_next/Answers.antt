@@ -1,6 +1,6 @@
 use Rattle.std.proofs.Common.{◌≡◌, ◌-◌, ◌<◌, ◌∙◌, true, length, sym, arith}
 use Rattle.cdc_ends.specs.BrokerTurns.{goes_back}
-use Rattle.cdc_ends.proofs.Lanes.{both_hold, has_handed}
+use Rattle.cdc_ends.proofs.BrokerLanes.{both_hold, has_handed}
 use Rattle.cdc_ends.proofs.consumers.hand_next.Goals as goal
 
 pub returns-then-is_repeated-clause-becomes : goal.returns-then-is_repeated-clause-becomes

@@ -4,7 +4,7 @@ use Rattle.cdc_broker.specs.Queues.{next_delivery}
 use Rattle.cdc_ends.specs.BrokerFails.{IsStuck}
 use Rattle.cdc_ends.proofs.BrokerFailing.{still_first, still_next, stuck_so}
 use Rattle.cdc_ends.proofs.HandedOn.{handed_on}
-use Rattle.cdc_ends.proofs.Lanes.{hands_first, hands_more, hands_none}
+use Rattle.cdc_ends.proofs.BrokerLanes.{hands_first, hands_more, hands_none}
 use Rattle.cdc_ends.proofs.consumers.hand_out.Goals as goal
 
 pub loop-consumer-init : goal.loop-consumer-init

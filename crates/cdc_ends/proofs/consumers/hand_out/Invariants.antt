@@ -1,6 +1,6 @@
 use Rattle.std.proofs.Common.{◌-◌}
 use Rattle.cdc_ends.proofs.BrokerFailing.{StillServed}
-use Rattle.cdc_ends.proofs.Lanes.{HandsOn}
+use Rattle.cdc_ends.proofs.BrokerLanes.{HandsOn}
 use Rattle.cdc_ends.proofs.consumers.hand_out.Given as goal
 
 abbrev pub invariant-loop-consumer : goal.invariant-loop-consumer

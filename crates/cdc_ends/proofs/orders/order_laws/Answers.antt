@@ -1,4 +1,4 @@
-use Rattle.cdc_ends.proofs.Said.{replies_are_said, replies_have_their_batches, replies_may_follow}
+use Rattle.cdc_ends.proofs.ClientReplies.{replies_are_said, replies_have_their_batches, replies_may_follow}
 use Rattle.cdc_ends.proofs.orders.order_laws.Goals as goal
 
 pub returns-clause-batches : goal.returns-clause-batches

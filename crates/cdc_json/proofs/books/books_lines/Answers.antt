@@ -1,7 +1,7 @@
 use Rattle.std.proofs.Common.{◌≡◌, ◌++◌, ◌∙◌, List, ℕ, ap, ap₂, map, sym}
 use Rattle.cdc_ledger.specs.History.{empty_history}
 use Rattle.cdc_laws.specs.Line.{line}
-use Rattle.cdc_subscriber.specs.Kept.{Kept}
+use Rattle.cdc_subscriber.specs.SubscriberState.{SubscriberState}
 use Rattle.cdc_commands.specs.declared.batches.Answered.{Answered}
 use Rattle.cdc_commands.specs.Feeds.{kept_by}
 use Rattle.cdc_commands.specs.Printed.{answers_to, history_of}
@@ -29,5 +29,5 @@ returns c =
     let takers : map kept_of_queue c.in_ok-answers.field-0.broker.queues ≡ map (kept_by items) script.bindings =
     ap (map kept_of_queue) c.in_ok-answers.ensures.queues ∙ kept_of_filled items script.bindings in
     c.in_ok-push_takers.ensures
-    ∙ ap₂ (λ (text : List ℕ) (kept : List Kept). text ++ json_lines (kept_values 1 kept)) told takers
+    ∙ ap₂ (λ (text : List ℕ) (kept : List SubscriberState). text ++ json_lines (kept_values 1 kept)) told takers
     ∙ sym (json_lines-append (answered_values answers) (kept_values 1 (map (kept_by items) script.bindings)))

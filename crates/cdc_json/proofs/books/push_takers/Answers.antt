@@ -5,7 +5,7 @@ use Rattle.std.proofs.lemmas.List.{length-map}
 use Rattle.std.proofs.lemmas.Option.{slice_get-get_or, slice_get-map}
 use Rattle.cdc_broker.specs.Broker.{nobody}
 use Rattle.cdc_broker.specs.Queues.{QueueState, empty_queue}
-use Rattle.cdc_subscriber.specs.Kept.{Kept}
+use Rattle.cdc_subscriber.specs.SubscriberState.{SubscriberState}
 use Rattle.cdc_commands.proofs.TakerLemmas.{ArePrinted-more, ArePrinted-none, IsUntaken_next, queue_of_next}
 use Rattle.cdc_json.specs.Lines.{json_lines, subscriber_values}
 use Rattle.cdc_json.specs.Private.Taking.{kept_of_queue}
@@ -45,7 +45,7 @@ loop-place-preserved c =
     record {
       told = kept_more (map kept_of_queue all) place (kept_of_queue q) _ _ _ there
           (c.in_ok-push_subscriber.ensures
-          ∙ ap (λ (kept : Kept). c.loop-place.lines.text.items
+          ∙ ap (λ (kept : SubscriberState). c.loop-place.lines.text.items
           ++ json_lines (subscriber_values (place + 1) kept)) whose)
           c.loop-place.invariant.told;
       taken = (

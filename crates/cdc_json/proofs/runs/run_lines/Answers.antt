@@ -1,7 +1,7 @@
 use Rattle.std.proofs.Common.{◌≡◌, ◌++◌, ◌∙◌, List, ℕ, ap, ap₂, map, subst, sym}
 use Rattle.cdc_run.specs.Reports.{replies_of}
 use Rattle.cdc_run_command.specs.Runs.{AreMerged}
-use Rattle.cdc_subscriber.specs.Kept.{Kept}
+use Rattle.cdc_subscriber.specs.SubscriberState.{SubscriberState}
 use Rattle.cdc_traffic.specs.declared.requests.Reply.{Reply}
 use Rattle.cdc_json.specs.Lines.{json_lines, kept_values}
 use Rattle.cdc_json.specs.Private.Taking.{numbered_values}
@@ -29,7 +29,7 @@ returns c =
       replies = found.0;
       merged = merged;
       prints = c.in_ok-push_kept.ensures
-          ∙ ap₂ (λ (text : List ℕ) (kept : List Kept). text ++ json_lines (kept_values 1 kept)) told
+          ∙ ap₂ (λ (text : List ℕ) (kept : List SubscriberState). text ++ json_lines (kept_values 1 kept)) told
           c.as_slice-2.ensures.value
           ∙ sym (json_lines-append (reply_values 1 found.0) (kept_values 1 ran.report.subscribers.items));
     }

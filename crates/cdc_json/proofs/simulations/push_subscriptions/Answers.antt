@@ -4,9 +4,9 @@ use Rattle.std.specs.Prelude.{slice_get}
 use Rattle.std.proofs.lemmas.List.{length-map}
 use Rattle.std.proofs.lemmas.Option.{slice_get-map}
 use Rattle.cdc_subscriber.specs.Heard.{kept_of}
-use Rattle.cdc_subscriber.specs.Kept.{Kept}
+use Rattle.cdc_subscriber.specs.SubscriberState.{SubscriberState}
 use Rattle.cdc_world.specs.Worlds.{Subscription}
-use Rattle.cdc_commands.proofs.Places.{found_at}
+use Rattle.cdc_commands.proofs.FoundElements.{found_at}
 use Rattle.cdc_commands.proofs.SimulationLemmas.{numbered_found}
 use Rattle.cdc_json.specs.Lines.{json_lines, subscriber_values}
 use Rattle.cdc_json.proofs.LineLemmas.{kept_more, kept_whole}
@@ -14,7 +14,7 @@ use Rattle.cdc_json.proofs.simulations.push_subscriptions.Goals as goal
 
 pub loop-place-preserved : goal.loop-place-preserved
 loop-place-preserved c = λ w stands.
-    let keeps : Subscription → Kept = λ s. kept_of s.heard in
+    let keeps : Subscription → SubscriberState = λ s. kept_of s.heard in
     let place = c.loop-place.place in
     let inside : place < length w.subscriptions =
     omega (arith, c.subscriber_count-place-end.ensures.subscriptions w stands) in
@@ -24,12 +24,13 @@ loop-place-preserved c = λ w stands.
     let heard = c.subscriber.ensures.heard w stands found.0 (numbered_found w.subscriptions place found.0 found.1) in
     kept_more (map keeps w.subscriptions) place (kept_of found.0.heard) _ _ _ there
     (c.in_ok-push_subscriber.ensures
-    ∙ ap (λ (kept : Kept). c.loop-place.lines.text.items ++ json_lines (subscriber_values (place + 1) kept)) heard)
+    ∙ ap (λ (kept : SubscriberState). c.loop-place.lines.text.items ++ json_lines (subscriber_values (place + 1) kept))
+    heard)
     (c.loop-place.invariant w stands)
 
 pub returns : goal.returns
 returns c = λ w stands.
-    let keeps : Subscription → Kept = λ s. kept_of s.heard in
+    let keeps : Subscription → SubscriberState = λ s. kept_of s.heard in
     let past : length (map keeps w.subscriptions) ≤ c.loop-place.place =
     omega (arith, length-map w.subscriptions keeps, c.subscriber_count-place-end.ensures.subscriptions w stands) in
     kept_whole (map keeps w.subscriptions) c.loop-place.place _ _ past (c.loop-place.invariant w stands)

@@ -1,6 +1,6 @@
 use Rattle.std.proofs.Common.{arith, ap, ◌∙◌}
 use Rattle.std.specs.List.{slice_get}
-use Rattle.cdc_commands.proofs.Places.{found_within}
+use Rattle.cdc_commands.proofs.FoundElements.{found_within}
 use Rattle.cdc_json.specs.Lines.{account_value}
 use Rattle.cdc_json.specs.declared.lines.Lines.{Lines}
 use Rattle.cdc_json.proofs.LineLemmas.{entry_there, lines_more, none_there}

@@ -1,5 +1,5 @@
 use Rattle.std.proofs.Common.{◌≡◌, ◌++◌, take, drop}
-use Rattle.cdc_publisher.specs.Kept.{holds_tag, without_tag}
+use Rattle.cdc_publisher.specs.SessionState.{holds_tag, without_tag}
 use Rattle.cdc_publisher.proofs.session.take_out.Given as goal
 
 abbrev pub invariant-loop-turn : goal.invariant-loop-turn

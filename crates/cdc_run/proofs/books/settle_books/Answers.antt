@@ -3,7 +3,7 @@ use Rattle.std.specs.Prelude.{All}
 use Rattle.std.specs.List.{AllZip}
 use Rattle.std.proofs.lemmas.Simd.{map-map}
 use Rattle.cdc_ends.specs.Clients.{Talk}
-use Rattle.cdc_ends.specs.LedgerEnds.{order_of, Desk as LedgerDesk, is_over}
+use Rattle.cdc_ends.specs.LedgerEnds.{order_of, LedgerDesk, is_over}
 use Rattle.cdc_ends.specs.Ends.{EndState, has_finished}
 use Rattle.cdc_ledger.specs.History.{History}
 use Rattle.cdc_links.specs.Links.{CanSend, Incoming, IsAccount, Outgoing}

@@ -2,7 +2,7 @@ use Rattle.std.proofs.Common.{◌≡◌, ◌∙◌, ℕ, true, false, List, refl
 use Rattle.std.proofs.lemmas.Bool.{false≢true}
 use Rattle.cdc_ends.specs.SubscriberEnds.{Intake}
 use Rattle.cdc_ledger.specs.History.{History}
-use Rattle.cdc_subscriber.specs.Kept.{Kept}
+use Rattle.cdc_subscriber.specs.SubscriberState.{SubscriberState}
 use Rattle.cdc_run.specs.ClientMail.{HasFinishedWith as LedgerHasFinishedWith}
 use Rattle.cdc_run.specs.Parted.{works_of}
 use Rattle.cdc_run.specs.Reports.{AreFinished, AreSubscribed}
@@ -84,7 +84,7 @@ returns-clause-report g c =
           subst (λ (h : History). AreSubscribed h start (broker_seat ends.broker.work).bindings
           (map (λ (s : EndState Intake). s.work.close_after) subscribers)
           c.in_ok-subscribers.subscribers.items) (sym books.ledger)
-          (subst (λ (kept : List Kept).
+          (subst (λ (kept : List SubscriberState).
           AreSubscribed ends.ledger.work.ledger start (broker_seat ends.broker.work).bindings
           (map (λ (s : EndState Intake). s.work.close_after) subscribers) kept) (sym streams.keeps)
           (all_subscribed ends.ledger.work start ends.broker.work subscribers come

@@ -1,4 +1,4 @@
-use Rattle.cdc_run.proofs.Booked.{books_settle}
+use Rattle.cdc_run.proofs.SettledBooks.{books_settle}
 use Rattle.cdc_run.proofs.Counted.{orders_are_of_clients}
 use Rattle.cdc_run.proofs.Replied.{clients_are_replied}
 use Rattle.cdc_run.proofs.Subscribed.{StandsOn, subscribers_come}

@@ -3,7 +3,7 @@ use Rattle.std.specs.Prelude.{All, Some, is_none, slice_get}
 use Rattle.std.specs.List.{AllZip}
 use Rattle.std.proofs.lemmas.Bool.{and_parts}
 use Rattle.std.proofs.lemmas.List.Elements.{All-cons, All-map}
-use Rattle.cdc_ends.specs.BrokerEnds.{Desk as BrokerDesk}
+use Rattle.cdc_ends.specs.BrokerEnds.{BrokerDesk}
 use Rattle.cdc_ends.specs.SubscriberEnds.{Intake}
 use Rattle.cdc_ends.specs.declared.consumers.Consumer.{Consumer}
 use Rattle.cdc_ends.specs.Ends.{EndState, has_finished}

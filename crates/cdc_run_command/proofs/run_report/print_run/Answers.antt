@@ -1,6 +1,6 @@
 use Rattle.std.proofs.Common.{◌≡◌, ◌++◌, ◌∙◌, List, ℕ, ap, ap₂, map, subst}
 use Rattle.cdc_run.specs.Reports.{replies_of}
-use Rattle.cdc_subscriber.specs.Kept.{Kept}
+use Rattle.cdc_subscriber.specs.SubscriberState.{SubscriberState}
 use Rattle.cdc_traffic.specs.declared.requests.Reply.{Reply}
 use Rattle.cdc_run_command.specs.Private.Merging.{numbered_lines}
 use Rattle.cdc_run_command.specs.Runs.{AreMerged, kept_text, reply_lines}
@@ -25,5 +25,6 @@ returns c =
       replies = found.0;
       merged = merged;
       prints = c.in_ok-push_kept.ensures
-          ∙ ap₂ (λ (text : List ℕ) (kept : List Kept). text ++ kept_text 1 kept) lines c.as_slice-2.ensures.value;
+          ∙ ap₂ (λ (text : List ℕ) (kept : List SubscriberState). text ++ kept_text 1 kept) lines
+          c.as_slice-2.ensures.value;
     }

@@ -1,9 +1,9 @@
 use Rattle.std.proofs.Common.{◌+◌, ◌++◌, ◌∙◌, List, ℕ, ap, append_assoc, drop, refl, sym}
 use Rattle.std.proofs.lemmas.Option.{slice_get_read}
-use Rattle.cdc_subscriber.specs.Kept.{Kept}
+use Rattle.cdc_subscriber.specs.SubscriberState.{SubscriberState}
 use Rattle.cdc_subscriber.specs.Lines.{subscriber_text}
 use Rattle.cdc_run_command.specs.Runs.{kept_text}
-use Rattle.cdc_commands.proofs.Places.{drop_found}
+use Rattle.cdc_commands.proofs.FoundElements.{drop_found}
 use Rattle.cdc_run_command.proofs.run_report.push_kept.Goals as goal
 
 pub loop-place-preserved : goal.loop-place-preserved
@@ -14,7 +14,7 @@ loop-place-preserved c =
     let rest = kept_text (place + 1 + 1) (drop (place + 1) all) in
     ap (λ (text : List ℕ). text ++ rest) c.in_ok-print_subscriber.ensures
     ∙ append_assoc c.loop-place.text.items (subscriber_text (place + 1) kept) rest
-    ∙ sym (ap (λ (left : List Kept). c.loop-place.text.items ++ kept_text (place + 1) left)
+    ∙ sym (ap (λ (left : List SubscriberState). c.loop-place.text.items ++ kept_text (place + 1) left)
     (drop_found all place kept
     (slice_get_read all _ place kept refl c.loop-place-test.true c.index-subscribers-place.is)))
     ∙ c.loop-place.invariant

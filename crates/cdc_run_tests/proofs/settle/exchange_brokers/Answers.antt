@@ -1,5 +1,5 @@
 use Rattle.std.proofs.Common.{subst, sym}
-use Rattle.cdc_ends.specs.BrokerEnds.{Desk as BrokerDesk}
+use Rattle.cdc_ends.specs.BrokerEnds.{BrokerDesk}
 use Rattle.cdc_ends.specs.Ends.{EndState}
 use Rattle.cdc_run_tests.specs.Systems.{MayBeSettled}
 use Rattle.cdc_run_tests.proofs.Sitting.{first_seated, second_seated}

@@ -1,6 +1,6 @@
 use Rattle.std.proofs.Common.{◌≡◌, ℕ, suc, ◌+◌, ◌<◌, ◌∙◌, sym, ap, subst, length, arith}
 use Rattle.cdc_ends.specs.BrokerDesks.{desk_of}
-use Rattle.cdc_ends.specs.BrokerEnds.{Desk}
+use Rattle.cdc_ends.specs.BrokerEnds.{BrokerDesk}
 use Rattle.cdc_ends.specs.BrokerTurns.{all_served, with_served}
 use Rattle.cdc_ends.proofs.Hearing.{IsServedTo, IsServedTo-next}
 use Rattle.cdc_ends.specs.BrokerFails.{IsCutOff}
@@ -11,7 +11,7 @@ use Rattle.cdc_ends.proofs.broker_desks.BrokerDesk.serve_all.Goals as goal
 pub loop-place-preserved : goal.loop-place-preserved
 loop-place-preserved g c =
     let at = c.loop-place in
-    let first : Desk = desk_of c.args.self.now in
+    let first : BrokerDesk = desk_of c.args.self.now in
     let count : ℕ = length c.args.self.now.consumers.items in
     let inside : at.place < count = omega arith in
     let one : suc at.place ≡ at.place + 1 = omega arith in

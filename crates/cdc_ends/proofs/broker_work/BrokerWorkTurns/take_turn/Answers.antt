@@ -1,7 +1,7 @@
 use Rattle.std.proofs.Common.{subst}
 use Rattle.std.proofs.lemmas.Result.{IfErr-weaker, IfOk-weaker}
 use Rattle.cdc_ends.specs.BrokerDesks.{desk_of}
-use Rattle.cdc_ends.specs.BrokerEnds.{Desk}
+use Rattle.cdc_ends.specs.BrokerEnds.{BrokerDesk}
 use Rattle.cdc_ends.specs.BrokerSoFar.{HasFailed}
 use Rattle.cdc_ends.specs.BrokerTurns.{HasTurned}
 use Rattle.cdc_ends.proofs.Finishing.{turned_is}
@@ -14,12 +14,12 @@ returns-clause-kept g c =
     IfOk-weaker c.turn.result _ _
     (λ x has.
     turned_is c.args.self.now (desk_of c.turn.new.self) c.requires.kept c.requires.goes_on
-    (subst (λ (d : Desk). HasTurned d (desk_of c.turn.new.self)) c.self.view_is has)) c.turn.ensures.turned
+    (subst (λ (d : BrokerDesk). HasTurned d (desk_of c.turn.new.self)) c.self.view_is has)) c.turn.ensures.turned
 
 pub returns-clause-failed : goal.returns-clause-failed
 returns-clause-failed g c =
     IfErr-weaker c.turn.result _ _
-    (λ fault has. subst (λ (d : Desk). HasFailed d fault (desk_of c.turn.new.self)) c.self.view_is has)
+    (λ fault has. subst (λ (d : BrokerDesk). HasFailed d fault (desk_of c.turn.new.self)) c.self.view_is has)
     c.turn.ensures.failed
 
 pub returns-clause-seat : goal.returns-clause-seat
@@ -27,6 +27,6 @@ returns-clause-seat g c =
     let old = c.args.self.now in
     let new = desk_of c.turn.new.self in
     stays_by c.turn.result _ _
-    (λ x has. turned_same old new (subst (λ (d : Desk). HasTurned d new) c.self.view_is has))
-    (λ fault has. links_seat old new (subst (λ (d : Desk). HasFailed d fault new) c.self.view_is has).links)
+    (λ x has. turned_same old new (subst (λ (d : BrokerDesk). HasTurned d new) c.self.view_is has))
+    (λ fault has. links_seat old new (subst (λ (d : BrokerDesk). HasFailed d fault new) c.self.view_is has).links)
     c.turn.ensures.turned c.turn.ensures.failed

@@ -2,7 +2,7 @@ use Rattle.std.proofs.Common.{Some, sym, ap, ◌∙◌, subst, Option}
 use Rattle.cdc_ends.specs.ConnectorEnds.{Publishing, SessionStands}
 use Rattle.cdc_ends.specs.ConnectorMoves.{IsConfirmTaken, IsReplyTaken, wanted_by}
 use Rattle.cdc_links.specs.Links.{Takes}
-use Rattle.cdc_publisher.specs.Kept.{Kept}
+use Rattle.cdc_publisher.specs.SessionState.{SessionState}
 use Rattle.cdc_publisher.specs.Offers.{IsOffered}
 use Rattle.cdc_traffic.specs.Following.{FollowsToConnector}
 use Rattle.cdc_traffic.specs.declared.messages.ToConnector.TheVariants as to_connector
@@ -22,7 +22,7 @@ take_reply-requires g c =
     took c.self.inside.inbox now.inbox c.receive.new.inbox c.in_ok-reply.field-0 (to_connector.PollReply reply)
     (ap (λ (w : Publishing). w.inbox) c.self.view_is) c.in-PollReply.is c.in_ok-reply.ensures.taken in
     λ asked.
-    subst (λ (s : Option Kept). IsOffered (wanted_by s) reply.events)
+    subst (λ (s : Option SessionState). IsOffered (wanted_by s) reply.events)
     (ap (λ (w : Publishing). w.session) (sym c.self.view_is))
     (offered_lawful now c.requires.course c.requires.publishing c.receive.new.inbox reply
     (reply_came now.inbox c.receive.new.inbox reply takes)

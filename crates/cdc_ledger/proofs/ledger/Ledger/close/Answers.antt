@@ -1,6 +1,6 @@
 use Rattle.std.proofs.Common.{true, ◌∙◌, ap, subst, sym}
 use Rattle.cdc_ledger.specs.History.{History}
-use Rattle.cdc_ledger.specs.Told.{IsTold}
+use Rattle.cdc_ledger.specs.ToldHistory.{IsTold}
 use Rattle.cdc_ledger.proofs.ledger.Ledger.close.Goals as goal
 
 pub invariant_of-self : goal.invariant_of-self

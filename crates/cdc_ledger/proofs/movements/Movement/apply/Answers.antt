@@ -4,7 +4,7 @@ use Rattle.cdc_ledger.specs.Accounts.{no_balances}
 use Rattle.cdc_ledger.specs.Effects.{Effect}
 use Rattle.cdc_ledger.specs.Events.{account_with, nobody}
 use Rattle.cdc_ledger.specs.Movements.{debited_account, credited_account, effect_of_movement}
-use Rattle.cdc_ledger.proofs.Places.{place-inside, place-id, credit-unchanged, both-changed}
+use Rattle.cdc_ledger.proofs.AccountPlaces.{place-inside, place-id, credit-unchanged, both-changed}
 use Rattle.cdc_ledger.proofs.movements.Movement.apply.Goals as goal
 
 pub debit-requires : goal.debit-requires

@@ -6,7 +6,7 @@ use Rattle.cdc_ledger.specs.Accounts.{no_balances}
 use Rattle.cdc_ledger.specs.Events.{account_now, account_with, accounts_now, nobody}
 use Rattle.cdc_ledger.proofs.Found.{find-accounts_now}
 use Rattle.cdc_ledger.proofs.Judged.{unopened-no_place}
-use Rattle.cdc_ledger.proofs.Places.{place-find}
+use Rattle.cdc_ledger.proofs.AccountPlaces.{place-find}
 use Rattle.cdc_ledger.proofs.tables.Tables.account.Goals as goal
 
 pub returns-in_err-place-clause-account : goal.returns-in_err-place-clause-account

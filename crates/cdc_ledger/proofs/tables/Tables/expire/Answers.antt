@@ -6,7 +6,7 @@ use Rattle.cdc_ledger.specs.Changes.{expiry}
 use Rattle.cdc_ledger.specs.Effects.{settled_by}
 use Rattle.cdc_ledger.specs.Follows.{Follows}
 use Rattle.cdc_ledger.specs.History.{History}
-use Rattle.cdc_ledger.specs.Told.{IsTold}
+use Rattle.cdc_ledger.specs.ToldHistory.{IsTold}
 use Rattle.cdc_ledger.proofs.ToldLaws.{CanTell, IsTold-told, tell-later}
 use Rattle.cdc_ledger.proofs.tables.Tables.expire.Goals as goal
 

@@ -23,7 +23,7 @@ use Rattle.cdc_ledger.specs.Follows.{Follows}
 use Rattle.cdc_ledger.specs.History.{History, opened}
 use Rattle.cdc_ledger.specs.Kinds.{holds, stores}
 use Rattle.cdc_ledger.specs.Movements.{IsStoredAt}
-use Rattle.cdc_ledger.specs.Places.{stored_place}
+use Rattle.cdc_ledger.specs.PlacesById.{stored_place}
 use Rattle.cdc_ledger.specs.Sound.{Stands}
 use Rattle.cdc_ledger.specs.Submit.{entry_of}
 use Rattle.cdc_ledger.specs.Verdict.{max_timestamp, field_lines, transfer_lines}

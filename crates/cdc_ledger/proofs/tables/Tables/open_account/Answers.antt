@@ -5,7 +5,7 @@ use Rattle.cdc_ledger.specs.declared.tables.Tables.TheInside.{Inside}
 use Rattle.cdc_ledger.specs.Changes.{with_account}
 use Rattle.cdc_ledger.specs.Contents.{Contents}
 use Rattle.cdc_ledger.specs.History.{opened}
-use Rattle.cdc_ledger.specs.Places.{place_of}
+use Rattle.cdc_ledger.specs.PlacesById.{place_of}
 use Rattle.cdc_ledger.specs.Submit.{opened_by}
 use Rattle.cdc_ledger.proofs.Kept.{IsKept-opened, history-opened}
 use Rattle.cdc_ledger.proofs.tables.Tables.open_account.Goals as goal

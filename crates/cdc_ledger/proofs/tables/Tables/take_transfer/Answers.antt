@@ -2,7 +2,7 @@ use Rattle.std.proofs.Common.{◌≡◌, ap, length, subst, sym, arith}
 use Rattle.cdc_types.specs.declared.events.Entry.{Entry}
 use Rattle.cdc_ledger.specs.Contents.{Contents}
 use Rattle.cdc_ledger.specs.History.{History}
-use Rattle.cdc_ledger.specs.Told.{IsTold}
+use Rattle.cdc_ledger.specs.ToldHistory.{IsTold}
 use Rattle.cdc_ledger.proofs.ToldLaws.{CanTell, IsTold-timed, IsTold-told, tell-fresh, tell-later, tell-settled}
 use Rattle.cdc_ledger.proofs.tables.Tables.take_transfer.Goals as goal
 

@@ -6,7 +6,7 @@ use Rattle.cdc_ledger.specs.Contents.{Contents}
 use Rattle.cdc_ledger.specs.Fits.{NewTransferFits}
 use Rattle.cdc_ledger.specs.History.{History}
 use Rattle.cdc_ledger.specs.Recorded.{AreRecorded, grown}
-use Rattle.cdc_ledger.specs.Told.{IsTold}
+use Rattle.cdc_ledger.specs.ToldHistory.{IsTold}
 use Rattle.cdc_ledger.proofs.BatchLaws.{AllByRecursion_parts}
 use Rattle.cdc_ledger.proofs.RecordedLaws.{AreRecorded_pop}
 use Rattle.cdc_ledger.proofs.TakenBack.{CanTell-tail, IsLastRecorded-tail, IsTold-tail, grown-taken_back, tail-later}

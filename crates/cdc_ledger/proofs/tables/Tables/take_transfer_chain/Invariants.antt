@@ -1,6 +1,6 @@
 use Rattle.std.proofs.Common.{◌≡◌, ◌+◌, ◌≤◌, length, take, vec_len, vec_capacity}
 use Rattle.cdc_ledger.specs.Recorded.{AreRecorded, grown}
-use Rattle.cdc_ledger.specs.Told.{IsTold}
+use Rattle.cdc_ledger.specs.ToldHistory.{IsTold}
 use Rattle.cdc_ledger.proofs.tables.Tables.take_transfer_chain.Given as goal
 
 -- so many of the tail were told

@@ -3,7 +3,7 @@ use Rattle.std.specs.List.{AllByRecursion}
 use Rattle.cdc_types.specs.Features.{features}
 use Rattle.cdc_ledger.specs.Fits.{NewTransferFits}
 use Rattle.cdc_ledger.specs.Submit.{transfer_rules}
-use Rattle.cdc_ledger.specs.Told.{IsTold}
+use Rattle.cdc_ledger.specs.ToldHistory.{IsTold}
 use Rattle.cdc_ledger.proofs.BatchLaws.{ItemsGoOn}
 use Rattle.cdc_ledger.proofs.tables.Tables.take_transfers.Given as goal
 

@@ -2,7 +2,7 @@ use Rattle.std.proofs.Common.{◌==◌, ◌∙◌, ◌&&◌, sym, ap, subst}
 use Rattle.circular_buffer.specs.Buffer.{Buffer}
 use Rattle.cdc_publisher.specs.declared.session.Unconfirmed.{Unconfirmed}
 use Rattle.cdc_publisher.specs.Courses.{with_confirm}
-use Rattle.cdc_publisher.specs.Kept.{Kept, holds_tag}
+use Rattle.cdc_publisher.specs.SessionState.{SessionState, holds_tag}
 use Rattle.cdc_publisher.specs.Stands.{HasBounds, StandsFor}
 use Rattle.cdc_publisher.specs.Views.{kept_of}
 use Rattle.cdc_publisher.proofs.Bounds.{confirmed_bounds}
@@ -26,7 +26,8 @@ returns-then-session-self-clause-answer c = λ course stands.
     c.take_out.ensures.taken
     ∙ sym (own_number c.args.session c.self.inside.number (holds_tag c.args.tag c.self.inside.unconfirmed.items)
     c.if-session-self.true)
-    ∙ ap (λ (kept : Kept). (c.args.session == kept.number) && holds_tag c.args.tag kept.unconfirmed) c.self.view_is
+    ∙ ap (λ (kept : SessionState). (c.args.session == kept.number) && holds_tag c.args.tag kept.unconfirmed)
+    c.self.view_is
     ∙ takes_is c.args.self.now course c.args.session c.args.tag stands
 
 pub returns-then-session-self-clause-stands : goal.returns-then-session-self-clause-stands
@@ -37,4 +38,4 @@ returns-then-session-self-clause-stands c = λ course stands.
     (with_confirm c.args.session c.args.tag course))
     (sym c.take_out.ensures.others)
     (confirm_stands (kept_of inside) course c.args.session c.args.tag
-    (subst (λ (kept : Kept). StandsFor kept course) (sym c.self.view_is) stands) c.if-session-self.true)
+    (subst (λ (kept : SessionState). StandsFor kept course) (sym c.self.view_is) stands) c.if-session-self.true)

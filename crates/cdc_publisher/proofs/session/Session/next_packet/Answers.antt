@@ -1,6 +1,6 @@
 use Rattle.std.proofs.Common.{◌∙◌, ap, sym, subst}
 use Rattle.cdc_publisher.specs.Courses.{has_event, next_packet, with_sent}
-use Rattle.cdc_publisher.specs.Kept.{Kept}
+use Rattle.cdc_publisher.specs.SessionState.{SessionState}
 use Rattle.cdc_publisher.specs.Stands.{StandsFor}
 use Rattle.cdc_publisher.proofs.Moves.{advanced_stands}
 use Rattle.cdc_publisher.proofs.Standing.{packet_is, whatever_answered}
@@ -16,5 +16,5 @@ returns-in_err-packet-clause-memory c = λ course stands.
 
 pub returns-clause-stands : goal.returns-clause-stands
 returns-clause-stands c = λ course stands.
-    subst (λ (kept : Kept). StandsFor kept (with_sent (next_packet course) course)) (sym c.advance.ensures)
+    subst (λ (kept : SessionState). StandsFor kept (with_sent (next_packet course) course)) (sym c.advance.ensures)
     (advanced_stands c.args.self.now course stands)

@@ -2,7 +2,7 @@ use Rattle.std.proofs.Common.{◌≡◌, ◌≤◌, ◌∙◌, ◌++◌, List, s
 use Rattle.circular_buffer.specs.Buffer.{Buffer}
 use Rattle.cdc_types.specs.declared.events.Event.{Event}
 use Rattle.cdc_publisher.specs.Courses.{with_offer}
-use Rattle.cdc_publisher.specs.Kept.{Kept, poll_of}
+use Rattle.cdc_publisher.specs.SessionState.{SessionState, poll_of}
 use Rattle.cdc_publisher.specs.Offers.{IsOffered}
 use Rattle.cdc_publisher.specs.Stands.{HasBounds, StandsFor}
 use Rattle.cdc_publisher.specs.Views.{kept_of}
@@ -16,7 +16,7 @@ invariant_of-self c =
     let inside = c.self.inside in
     let events = c.args.events.now in
     let bounds = c.self.invariant.bounds in
-    let offer = subst (λ (kept : Kept). IsOffered (poll_of kept) events) (sym c.self.view_is) c.requires in
+    let offer = subst (λ (kept : SessionState). IsOffered (poll_of kept) events) (sym c.self.view_is) c.requires in
     let unsent : c.extend_from_slice.new.self.items ≡ inside.unsent.items ++ events =
     ap (λ (b : Buffer Event). b.items) c.extend_from_slice.ensures
     ∙ keep_all inside.unsent.capacity (inside.unsent.items ++ events)
@@ -41,7 +41,7 @@ pub returns : goal.returns
 returns c = λ course stands.
     let inside = c.self.inside in
     let events = c.args.events.now in
-    let offer = subst (λ (kept : Kept). IsOffered (poll_of kept) events) (sym c.self.view_is) c.requires in
+    let offer = subst (λ (kept : SessionState). IsOffered (poll_of kept) events) (sym c.self.view_is) c.requires in
     let unsent : c.extend_from_slice.new.self.items ≡ inside.unsent.items ++ events =
     ap (λ (b : Buffer Event). b.items) c.extend_from_slice.ensures
     ∙ keep_all inside.unsent.capacity (inside.unsent.items ++ events)
@@ -58,4 +58,4 @@ returns c = λ course stands.
       complete = c.args.complete;
     }) (with_offer events c.args.complete course)) (sym c.last_of-self-inside.ensures)
     (offered_stands (kept_of inside) course events c.args.complete
-    (subst (λ (kept : Kept). StandsFor kept course) (sym c.self.view_is) stands) offer))
+    (subst (λ (kept : SessionState). StandsFor kept course) (sym c.self.view_is) stands) offer))

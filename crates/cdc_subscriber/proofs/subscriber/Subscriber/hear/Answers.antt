@@ -1,7 +1,7 @@
 use Rattle.std.proofs.Common.{◌≡◌, ◌<◌, ◌≤◌, ◌∷◌, ◌++◌, [], ap, arith, sym, ◌∙◌}
 use Rattle.cdc_subscriber.specs.Book.{book_of}
 use Rattle.cdc_subscriber.specs.Heard.{applied_of, kept_of}
-use Rattle.cdc_subscriber.specs.Kept.{Kept}
+use Rattle.cdc_subscriber.specs.SubscriberState.{SubscriberState}
 use Rattle.cdc_subscriber.proofs.HeardLemmas.{Listens-unsettled, kept_more, kept_of-applied, kept_of-repeat}
 use Rattle.cdc_subscriber.proofs.subscriber.Subscriber.hear.Goals as goal
 
@@ -9,16 +9,17 @@ pub returns-then-event-self-clause-stands : goal.returns-then-event-self-clause-
 returns-then-event-self-clause-stands c heard is =
     let listens = Listens-unsettled (kept_of heard) (rw is at c.requires) in
     let late : c.args.event.now.timestamp ≤ (kept_of heard).last =
-    omega (arith, ap (λ (k : Kept). k.last) (c.self.view_is ∙ is)) in
+    omega (arith, ap (λ (k : SubscriberState). k.last) (c.self.view_is ∙ is)) in
     is ∙ sym (kept_of-repeat heard c.args.event.now listens late)
 
 pub returns-clause-stands : goal.returns-clause-stands
 returns-clause-stands c heard is =
     let was = c.self.view_is ∙ is in
     let listens = Listens-unsettled (kept_of heard) (rw is at c.requires) in
-    let later : (kept_of heard).last < c.args.event.now.timestamp = omega (arith, ap (λ (k : Kept). k.last) was) in
+    let later : (kept_of heard).last < c.args.event.now.timestamp =
+    omega (arith, ap (λ (k : SubscriberState). k.last) was) in
     let held : c.apply.new.self ≡ book_of (applied_of heard ++ c.args.event.now ∷ []) =
-    c.in_ok-apply.ensures.ok (applied_of heard) (ap (λ (k : Kept). k.book) was) in
+    c.in_ok-apply.ensures.ok (applied_of heard) (ap (λ (k : SubscriberState). k.book) was) in
     rw c.saturating_add-self-inside.ensures
-    (ap (λ (k : Kept). kept_more k c.args.event.now c.apply.new.self) was
+    (ap (λ (k : SubscriberState). kept_more k c.args.event.now c.apply.new.self) was
     ∙ sym (kept_of-applied heard c.args.event.now c.apply.new.self listens later held))

@@ -1,15 +1,15 @@
 use Rattle.std.proofs.Common.{sym, subst}
 use Rattle.std.proofs.lemmas.Result.{IfOk-weaker}
-use Rattle.cdc_ends.specs.LedgerEnds.{IsServed}
-use Rattle.cdc_ends.proofs.Booked.{served_so}
+use Rattle.cdc_ends.specs.LedgerEnds.{IsLedgerTurn}
+use Rattle.cdc_ends.proofs.LedgerDesks.{served_so}
 use Rattle.cdc_ends.proofs.LedgerFails.{looked_failed}
-use Rattle.cdc_ends.proofs.desks.Desk.turn.Goals as goal
+use Rattle.cdc_ends.proofs.ledger_desks.LedgerDesk.turn.Goals as goal
 
 pub returns-clause-turned : goal.returns-clause-turned
 returns-clause-turned g c =
     IfOk-weaker c.look_again.result _ _
     (λ x looked.
-    subst (IsServed c.args.self.now) (sym looked)
+    subst (IsLedgerTurn c.args.self.now) (sym looked)
     (served_so c.args.self.now c.take.new.self c.in_ok-take.ensures.taken))
     c.look_again.ensures.looked
 

@@ -7,7 +7,7 @@ use Rattle.std.proofs.lemmas.Option.{slice_get-map, slice_get_within}
 use Rattle.cdc_broker.specs.Broker.{BrokerState, nobody, queue_of, with_queue}
 use Rattle.cdc_broker.specs.Queues.{QueueState, empty_queue}
 use Rattle.cdc_ends.specs.declared.consumers.Consumer.{Consumer}
-use Rattle.cdc_ends.proofs.Lanes.{queue_of-with}
+use Rattle.cdc_ends.proofs.BrokerLanes.{queue_of-with}
 use Rattle.cdc_traffic.specs.Following.{has_ended}
 
 -- what stands at a place that was written

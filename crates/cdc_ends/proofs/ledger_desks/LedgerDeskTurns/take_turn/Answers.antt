@@ -1,6 +1,6 @@
 use Rattle.std.proofs.lemmas.Result.{IfErr-weaker, IfOk-weaker}
 use Rattle.cdc_ends.proofs.Seated.{come_seat, served_seat, stays_by}
-use Rattle.cdc_ends.proofs.desks.DeskTurns.take_turn.Goals as goal
+use Rattle.cdc_ends.proofs.ledger_desks.LedgerDeskTurns.take_turn.Goals as goal
 
 pub returns-clause-kept : goal.returns-clause-kept
 returns-clause-kept g c = IfOk-weaker c.turn.result _ _ (λ x is. is.is) c.turn.ensures.turned

@@ -1,5 +1,5 @@
 use Rattle.cdc_ends.specs.LedgerEnds.{order_of, past_of_inbox}
-use Rattle.cdc_ends.proofs.desks.Desk.turn.Given as goal
+use Rattle.cdc_ends.proofs.ledger_desks.LedgerDesk.turn.Given as goal
 
 abbrev pub ghosts-take : goal.ghosts-take
 ghosts-take g a = record { order = order_of a.self.now.inbox.received; past = past_of_inbox a.self.now.inbox }

@@ -4,7 +4,7 @@ use Rattle.std.specs.Prelude.{if◌then◌else◌, slice_set}
 use Rattle.std.proofs.lemmas.List.{map-append}
 use Rattle.cdc_ends.specs.LedgerEnds.{AreTold, links_of}
 use Rattle.cdc_ends.specs.Orders.{batches_by, batches_in, past_of, reply_after, said_to}
-use Rattle.cdc_ends.proofs.Said.{replies_are_said, replies_may_follow}
+use Rattle.cdc_ends.proofs.ClientReplies.{replies_are_said, replies_may_follow}
 use Rattle.cdc_ledger.specs.History.{History, empty_history}
 use Rattle.cdc_ledger.specs.Submit.{IsLegal, after_batches, history_or, submit, submit_by}
 use Rattle.cdc_links.specs.Links.{LinkId, Outgoing, with_sent}

@@ -4,7 +4,7 @@ use Rattle.cdc_subscriber.specs.declared.book.BookEntry.{BookEntry}
 
 -- the book and the number of the events that it has applied, the timestamp of the last of them, whether it has heard
 -- the end, and whether it is closed
-pub record Kept : Type 0 where
+pub record SubscriberState : Type 0 where
   pub book : List BookEntry
   pub last : ℕ
   pub applied : ℕ

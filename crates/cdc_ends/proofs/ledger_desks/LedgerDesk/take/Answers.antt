@@ -3,7 +3,7 @@ use Rattle.std.specs.Prelude.{IfOk, Result, Ok, Err}
 use Rattle.std.specs.Vec.{with_items}
 use Rattle.std.proofs.lemmas.List.{with_items_is}
 use Rattle.std.proofs.lemmas.Result.{on_err_weaker}
-use Rattle.cdc_ends.specs.LedgerEnds.{AreTold, Desk, IsDesk, links_of, order_of, past_of_inbox}
+use Rattle.cdc_ends.specs.LedgerEnds.{AreTold, LedgerDesk, IsLedgerDesk, links_of, order_of, past_of_inbox}
 use Rattle.cdc_ends.specs.LedgerSteps.{IsNext, IsTaken}
 use Rattle.cdc_ends.specs.Orders.{batches_by, past_of}
 use Rattle.cdc_links.specs.Links.{Outgoing}
@@ -13,14 +13,14 @@ use Rattle.cdc_traffic.specs.declared.messages.ToLedger.TheVariants as to_ledger
 use Rattle.cdc_traffic.specs.declared.pasts.Past.{Past}
 use Rattle.cdc_traffic.specs.declared.requests.Reply.{Reply}
 use Rattle.cdc_types.specs.declared.batches.Batch.{Batch}
-use Rattle.cdc_ends.proofs.Booked.{history_before, left_before, number_of, taken_done, taken_finish, taken_poll, taken_request}
+use Rattle.cdc_ends.proofs.LedgerDesks.{history_before, left_before, number_of, taken_done, taken_finish, taken_poll, taken_request}
 use Rattle.std.proofs.Common.{inl, inr}
 use Rattle.std.specs.Prelude.{◌⊎◌, IfErr}
 use Rattle.cdc_ends.specs.LedgerSoFar.{IsUntaken}
 use Rattle.cdc_ends.specs.declared.faults.RunFault.TheVariants.{PeerGone}
 use Rattle.cdc_ends.proofs.HandedOn.{handed_on}
 use Rattle.cdc_ends.proofs.LedgerFails.{poll_failed, request_failed, unheard_so}
-use Rattle.cdc_ends.proofs.desks.Desk.take.Goals as goal
+use Rattle.cdc_ends.proofs.ledger_desks.LedgerDesk.take.Goals as goal
 
 -- three clauses of a call that is answered as it is
 all_three : {X E : Type 0} {P Q R S : X → Type 0} (r : Result X E) → ((x : X) → P x → Q x → R x → S x) → IfOk r P
@@ -31,7 +31,7 @@ all_three (Err e) all p q r = tt
 pub answer-requires-clause-number : goal.answer-requires-clause-number
 answer-requires-clause-number g c =
     let inside = c.self.inside in
-    let d : Desk = record {
+    let d : LedgerDesk = record {
       inbox = inside.inbox;
       clients = inside.clients.items;
       connector = inside.connector;
@@ -40,11 +40,11 @@ answer-requires-clause-number g c =
       connector_done = inside.connector_done;
       kept = inside.kept;
     } in
-    let is : IsDesk d = subst IsDesk (sym c.self.view_is) c.requires.kept in
+    let is : IsLedgerDesk d = subst IsLedgerDesk (sym c.self.view_is) c.requires.kept in
     let next : IsNext inside.inbox (to_ledger.Request c.in-Request.request) c.hear.new.inbox =
     subst (λ (m : ToLedger). IsNext inside.inbox m c.hear.new.inbox) c.in-Request.is c.in_ok-message.ensures.next in
     let order : g.K.Heard.order ≡ order_of inside.inbox.received =
-    c.requires.order ∙ ap (λ (s : Desk). order_of s.inbox.received) (sym c.self.view_is) in
+    c.requires.order ∙ ap (λ (s : LedgerDesk). order_of s.inbox.received) (sym c.self.view_is) in
     let request = c.in-Request.request in
     number_of d is.booked next.sender next.below next.follows.may.0 next.follows.goes_on request next.follows.may.1
     next.follows.may.2 (c.in_ok-message.ensures.lawful next.sender)
@@ -53,7 +53,7 @@ answer-requires-clause-number g c =
 pub answer-requires-clause-history : goal.answer-requires-clause-history
 answer-requires-clause-history g c =
     let inside = c.self.inside in
-    let d : Desk = record {
+    let d : LedgerDesk = record {
       inbox = inside.inbox;
       clients = inside.clients.items;
       connector = inside.connector;
@@ -62,18 +62,18 @@ answer-requires-clause-history g c =
       connector_done = inside.connector_done;
       kept = inside.kept;
     } in
-    let is : IsDesk d = subst IsDesk (sym c.self.view_is) c.requires.kept in
+    let is : IsLedgerDesk d = subst IsLedgerDesk (sym c.self.view_is) c.requires.kept in
     let next : IsNext inside.inbox (to_ledger.Request c.in-Request.request) c.hear.new.inbox =
     subst (λ (m : ToLedger). IsNext inside.inbox m c.hear.new.inbox) c.in-Request.is c.in_ok-message.ensures.next in
     let order : g.K.Heard.order ≡ order_of inside.inbox.received =
-    c.requires.order ∙ ap (λ (s : Desk). order_of s.inbox.received) (sym c.self.view_is) in
+    c.requires.order ∙ ap (λ (s : LedgerDesk). order_of s.inbox.received) (sym c.self.view_is) in
     history_before d is.booked next.sender next.below next.follows.may.0 next.follows.goes_on
     ∙ ap (λ (o : List (ℕ × Batch)). history_of (past_of o)) (sym order)
 
 pub count_done-requires : goal.count_done-requires
 count_done-requires g c =
     let inside = c.self.inside in
-    let d : Desk = record {
+    let d : LedgerDesk = record {
       inbox = inside.inbox;
       clients = inside.clients.items;
       connector = inside.connector;
@@ -82,7 +82,7 @@ count_done-requires g c =
       connector_done = inside.connector_done;
       kept = inside.kept;
     } in
-    let is : IsDesk d = subst IsDesk (sym c.self.view_is) c.requires.kept in
+    let is : IsLedgerDesk d = subst IsLedgerDesk (sym c.self.view_is) c.requires.kept in
     let next : IsNext inside.inbox (to_ledger.Done c.in-Done.client) c.hear.new.inbox =
     subst (λ (m : ToLedger). IsNext inside.inbox m c.hear.new.inbox) c.in-Done.is c.in_ok-message.ensures.next in
     left_before d is.booked next.sender next.below next.follows.may.0 next.follows.goes_on
@@ -90,7 +90,7 @@ count_done-requires g c =
 pub returns-in-Request-clause-taken : goal.returns-in-Request-clause-taken
 returns-in-Request-clause-taken g c =
     let inside = c.self.inside in
-    let d : Desk = record {
+    let d : LedgerDesk = record {
       inbox = inside.inbox;
       clients = inside.clients.items;
       connector = inside.connector;
@@ -99,23 +99,23 @@ returns-in-Request-clause-taken g c =
       connector_done = inside.connector_done;
       kept = inside.kept;
     } in
-    let is : IsDesk d = subst IsDesk (sym c.self.view_is) c.requires.kept in
+    let is : IsLedgerDesk d = subst IsLedgerDesk (sym c.self.view_is) c.requires.kept in
     let next : IsNext inside.inbox (to_ledger.Request c.in-Request.request) c.hear.new.inbox =
     subst (λ (m : ToLedger). IsNext inside.inbox m c.hear.new.inbox) c.in-Request.is c.in_ok-message.ensures.next in
     let order : g.K.Heard.order ≡ order_of inside.inbox.received =
-    c.requires.order ∙ ap (λ (s : Desk). order_of s.inbox.received) (sym c.self.view_is) in
+    c.requires.order ∙ ap (λ (s : LedgerDesk). order_of s.inbox.received) (sym c.self.view_is) in
     let request = c.in-Request.request in
     let clients : List (Outgoing Reply Past) = c.answer.new.clients in
     let written : (with_items inside.clients clients).items ≡ clients =
     with_items_is inside.clients clients (c.answer.auto.clients ∙ c.as_mut_slice.ensures.len) in
-    let after : List (Outgoing Reply Past) → Desk = λ cs. record d {
+    let after : List (Outgoing Reply Past) → LedgerDesk = λ cs. record d {
       inbox = c.hear.new.inbox;
       clients = cs;
       ledger = c.answer.new.ledger;
     } in
     all_three c.answer.result
     (λ x told history links.
-    subst (λ (s : Desk). IsTaken s (after (with_items inside.clients clients).items)) c.self.view_is
+    subst (λ (s : LedgerDesk). IsTaken s (after (with_items inside.clients clients).items)) c.self.view_is
     (subst (λ (cs : List (Outgoing Reply Past)). IsTaken d (after cs)) (sym written)
     (taken_request d is request c.hear.new.inbox next clients c.answer.new.ledger
     (subst (λ (o : List (ℕ × Batch)). AreTold 1 (o ++ (request.client, request.batch) ∷ []) clients) order told)
@@ -126,7 +126,7 @@ returns-in-Request-clause-taken g c =
 pub returns-in-Done-clause-taken : goal.returns-in-Done-clause-taken
 returns-in-Done-clause-taken g c =
     let inside = c.self.inside in
-    let d : Desk = record {
+    let d : LedgerDesk = record {
       inbox = inside.inbox;
       clients = inside.clients.items;
       connector = inside.connector;
@@ -135,16 +135,16 @@ returns-in-Done-clause-taken g c =
       connector_done = inside.connector_done;
       kept = inside.kept;
     } in
-    let is : IsDesk d = subst IsDesk (sym c.self.view_is) c.requires.kept in
+    let is : IsLedgerDesk d = subst IsLedgerDesk (sym c.self.view_is) c.requires.kept in
     let next : IsNext inside.inbox (to_ledger.Done c.in-Done.client) c.hear.new.inbox =
     subst (λ (m : ToLedger). IsNext inside.inbox m c.hear.new.inbox) c.in-Done.is c.in_ok-message.ensures.next in
-    subst (λ (s : Desk). IsTaken s c.count_done.new.self) c.self.view_is
+    subst (λ (s : LedgerDesk). IsTaken s c.count_done.new.self) c.self.view_is
     (subst (IsTaken d) (sym c.count_done.ensures) (taken_done d is c.in-Done.client c.hear.new.inbox next))
 
 pub returns-in_ok-reply_kept-in-Poll-clause-taken : goal.returns-in_ok-reply_kept-in-Poll-clause-taken
 returns-in_ok-reply_kept-in-Poll-clause-taken g c =
     let inside = c.self.inside in
-    let d : Desk = record {
+    let d : LedgerDesk = record {
       inbox = inside.inbox;
       clients = inside.clients.items;
       connector = inside.connector;
@@ -153,12 +153,12 @@ returns-in_ok-reply_kept-in-Poll-clause-taken g c =
       connector_done = inside.connector_done;
       kept = inside.kept;
     } in
-    let is : IsDesk d = subst IsDesk (sym c.self.view_is) c.requires.kept in
+    let is : IsLedgerDesk d = subst IsLedgerDesk (sym c.self.view_is) c.requires.kept in
     let next : IsNext inside.inbox (to_ledger.Poll c.in-Poll.poll) c.hear.new.inbox =
     subst (λ (m : ToLedger). IsNext inside.inbox m c.hear.new.inbox) c.in-Poll.is c.in_ok-message.ensures.next in
     let past : g.K.Heard.past ≡ past_of_inbox inside.inbox =
-    c.requires.past ∙ ap (λ (s : Desk). past_of_inbox s.inbox) (sym c.self.view_is) in
-    subst (λ (s : Desk). IsTaken s (record d {
+    c.requires.past ∙ ap (λ (s : LedgerDesk). past_of_inbox s.inbox) (sym c.self.view_is) in
+    subst (λ (s : LedgerDesk). IsTaken s (record d {
       inbox = c.hear.new.inbox;
       connector = c.reply_kept.new.connector;
       kept = Some c.in-Poll.poll;
@@ -169,7 +169,7 @@ returns-in_ok-reply_kept-in-Poll-clause-taken g c =
 pub returns-in-Finish-clause-taken : goal.returns-in-Finish-clause-taken
 returns-in-Finish-clause-taken g c =
     let inside = c.self.inside in
-    let d : Desk = record {
+    let d : LedgerDesk = record {
       inbox = inside.inbox;
       clients = inside.clients.items;
       connector = inside.connector;
@@ -178,17 +178,17 @@ returns-in-Finish-clause-taken g c =
       connector_done = inside.connector_done;
       kept = inside.kept;
     } in
-    let is : IsDesk d = subst IsDesk (sym c.self.view_is) c.requires.kept in
+    let is : IsLedgerDesk d = subst IsLedgerDesk (sym c.self.view_is) c.requires.kept in
     let next : IsNext inside.inbox to_ledger.Finish c.hear.new.inbox =
     subst (λ (m : ToLedger). IsNext inside.inbox m c.hear.new.inbox) c.in-Finish.is c.in_ok-message.ensures.next in
-    subst (λ (s : Desk). IsTaken s (record d { inbox = c.hear.new.inbox; connector_done = true })) c.self.view_is
+    subst (λ (s : LedgerDesk). IsTaken s (record d { inbox = c.hear.new.inbox; connector_done = true })) c.self.view_is
     (taken_finish d is c.hear.new.inbox next)
 
 pub returns-in_err-message-clause-failed : goal.returns-in_err-message-clause-failed
 returns-in_err-message-clause-failed g c =
     let inside = c.self.inside in
     let now = c.args.self.now in
-    let d : Desk = record {
+    let d : LedgerDesk = record {
       inbox = inside.inbox;
       clients = inside.clients.items;
       connector = inside.connector;
@@ -206,7 +206,7 @@ pub returns-in-Request-clause-failed : goal.returns-in-Request-clause-failed
 returns-in-Request-clause-failed g c =
     let inside = c.self.inside in
     let now = c.args.self.now in
-    let d : Desk = record {
+    let d : LedgerDesk = record {
       inbox = inside.inbox;
       clients = inside.clients.items;
       connector = inside.connector;
@@ -218,7 +218,7 @@ returns-in-Request-clause-failed g c =
     let next : IsNext inside.inbox (to_ledger.Request c.in-Request.request) c.hear.new.inbox =
     subst (λ (m : ToLedger). IsNext inside.inbox m c.hear.new.inbox) c.in-Request.is c.in_ok-message.ensures.next in
     let order : g.K.Heard.order ≡ order_of inside.inbox.received =
-    c.requires.order ∙ ap (λ (s : Desk). order_of s.inbox.received) (sym c.self.view_is) in
+    c.requires.order ∙ ap (λ (s : LedgerDesk). order_of s.inbox.received) (sym c.self.view_is) in
     let clients : List (Outgoing Reply Past) = c.answer.new.clients in
     let written : (with_items inside.clients clients).items ≡ clients =
     with_items_is inside.clients clients (c.answer.auto.clients ∙ c.as_mut_slice.ensures.len) in
@@ -235,7 +235,7 @@ pub returns-in_err-reply_kept-in-Poll-clause-failed : goal.returns-in_err-reply_
 returns-in_err-reply_kept-in-Poll-clause-failed g c =
     let inside = c.self.inside in
     let now = c.args.self.now in
-    let d : Desk = record {
+    let d : LedgerDesk = record {
       inbox = inside.inbox;
       clients = inside.clients.items;
       connector = inside.connector;

@@ -10,7 +10,7 @@ use Rattle.cdc_publisher.specs.declared.session.Unconfirmed.{Unconfirmed}
 -- sent last; how many packets it has sent; the events that are still to be sent; the tags that were sent and aren't
 -- confirmed, each with the timestamp of the event before its own; whether no event follows; and whether the end mark
 -- was sent
-pub record Kept : Type 0 where
+pub record SessionState : Type 0 where
   pub number : ℕ
   pub start : ℕ
   pub base : ℕ
@@ -29,7 +29,7 @@ is_nil xs = length xs == 0
 
 -- the events that are wanted: none while one is unsent, as many as may wait are unconfirmed, or the end is known; else
 -- those after the last one, up to the number that may wait besides
-abbrev pub poll_of : Kept → Option Poll
+abbrev pub poll_of : SessionState → Option Poll
 poll_of kept =
     if is_nil kept.unsent && nat_lt (length kept.unconfirmed) kept.window && not kept.complete
     then Some (record { after = kept.last; limit = kept.window - length kept.unconfirmed })

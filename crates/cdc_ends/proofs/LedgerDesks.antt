@@ -3,11 +3,11 @@ use Rattle.std.proofs.Common.{◌≡◌, ◌≢◌, ◌==◌, ℕ, zero, suc, �
 use Rattle.std.specs.Prelude.{unwrap_or, if◌then◌else◌}
 use Rattle.std.proofs.lemmas.List.{length-map, map-append}
 use Rattle.std.proofs.lemmas.List.Sums.{fold-append}
-use Rattle.cdc_ends.specs.LedgerEnds.{AreTold, Desk, IsBooked, IsDesk, IsServed, Waits, asked, batch_in, clients_left, first_desk, has_to_wait, is_done, kept_of, links_of, order_of, past_of_inbox, replied_first, replied_of, replies_of, with_replies}
+use Rattle.cdc_ends.specs.LedgerEnds.{AreTold, LedgerDesk, IsBooked, IsLedgerDesk, IsLedgerTurn, Waits, asked, batch_in, clients_left, first_desk, has_to_wait, is_done, kept_of, links_of, order_of, past_of_inbox, replied_first, replied_of, replies_of, with_replies}
 use Rattle.cdc_ends.specs.LedgerSteps.{IsNext, IsTaken, looked_at, shut, with_one_done}
 use Rattle.cdc_ends.specs.Orders.{batches_by, batches_in, past_of}
 use Rattle.cdc_ends.proofs.Receipts.{Received, as_many_batches, done_now, done_other, done_same, left_fewer, left_other, left_same, left_some, order_push, with_message}
-use Rattle.cdc_ends.proofs.Said.{past_push}
+use Rattle.cdc_ends.proofs.ClientReplies.{past_push}
 use Rattle.cdc_ledger.specs.History.{History, empty_history}
 use Rattle.cdc_ledger.specs.Submit.{after_batches, closed_if}
 use Rattle.cdc_links.specs.Links.{CanSend, Incoming, LinkId, Outgoing, of_sender, with_received}
@@ -96,7 +96,7 @@ left_first (suc n) = let less = left_first n in omega (arith, less)
 pub desk_first : (inbox : Incoming ToLedger (Unit {0})) (clients : List (Outgoing Reply Past))
     (connector : Outgoing ToConnector (Option Past)) → 0 < length clients → inbox.senders ≡ length clients + 1
     → inbox.received ≡ [] → All (λ client. (client.number ≡ 0) × (client.sent ≡ [])) clients
-    → connector.number ≡ 0 → connector.sent ≡ [] → IsDesk (first_desk inbox clients connector)
+    → connector.number ≡ 0 → connector.sent ≡ [] → IsLedgerDesk (first_desk inbox clients connector)
 desk_first inbox clients connector some senders fresh untold own silent =
     let count : inbox.senders - 1 ≡ length clients = omega (arith, senders) in
     let left : clients_left (length clients) inbox.received ≡ length clients =
@@ -124,10 +124,10 @@ desk_first inbox clients connector some senders fresh untold own silent =
 -- ---- one message more
 
 -- the end, once it has received this message
-abbrev pub with_heard : Desk → ℕ → ToLedger → Desk
+abbrev pub with_heard : LedgerDesk → ℕ → ToLedger → LedgerDesk
 with_heard d sender message = record d { inbox = with_received d.inbox (sender, (message, tt)) }
 
-module _ (d : Desk) (is : IsBooked d) where
+module _ (d : LedgerDesk) (is : IsBooked d) where
   abbrev received : Received
   received = d.inbox.received
 
@@ -336,7 +336,7 @@ waits_kept h (Some poll) = cases (has_to_wait h poll) refl
     cases false waits = tt
 
 -- once it was looked at, all is kept
-pub looked_is : (d : Desk) → IsBooked d → IsDesk (looked_at d)
+pub looked_is : (d : LedgerDesk) → IsBooked d → IsLedgerDesk (looked_at d)
 looked_is d is = record {
   booked = record {
     some = is.some;
@@ -354,7 +354,7 @@ looked_is d is = record {
 -- ---- what it comes to that a message was received and taken
 
 -- a request
-pub taken_request : (d : Desk) → IsDesk d → (request : Request) (inbox : Incoming ToLedger (Unit {0}))
+pub taken_request : (d : LedgerDesk) → IsLedgerDesk d → (request : Request) (inbox : Incoming ToLedger (Unit {0}))
     → IsNext d.inbox (to_ledger.Request request) inbox → (clients : List (Outgoing Reply Past)) (h : History)
     → AreTold 1 (order_of d.inbox.received ++ (request.client, request.batch) ∷ []) clients
     → h ≡ history_of (past_of (order_of d.inbox.received ++ (request.client, request.batch) ∷ []))
@@ -378,7 +378,7 @@ taken_request d is request inbox next clients h told history links =
     })
 
 -- the last message of a client
-pub taken_done : (d : Desk) → IsDesk d → (number : ℕ) (inbox : Incoming ToLedger (Unit {0}))
+pub taken_done : (d : LedgerDesk) → IsLedgerDesk d → (number : ℕ) (inbox : Incoming ToLedger (Unit {0}))
     → IsNext d.inbox (to_ledger.Done number) inbox → IsTaken d (with_one_done (record d { inbox = inbox }))
 taken_done d is number inbox next =
     subst (λ (i : Incoming ToLedger (Unit {0})). IsTaken d (with_one_done (record d { inbox = i }))) (sym next.after)
@@ -408,7 +408,7 @@ from_connector inbox after message next own = (
 )
 
 -- a poll
-pub taken_poll : (d : Desk) → IsDesk d → (poll : Poll) (inbox : Incoming ToLedger (Unit {0}))
+pub taken_poll : (d : LedgerDesk) → IsLedgerDesk d → (poll : Poll) (inbox : Incoming ToLedger (Unit {0}))
     → IsNext d.inbox (to_ledger.Poll poll) inbox → (past : Past) → past ≡ past_of_inbox d.inbox
     → (connector : Outgoing ToConnector (Option Past))
     → connector ≡ with_replies d.connector past (replies_of d.ledger d.kept)
@@ -443,7 +443,7 @@ taken_poll d is poll inbox next past named connector told =
     }))
 
 -- the connector's last message
-pub taken_finish : (d : Desk) → IsDesk d → (inbox : Incoming ToLedger (Unit {0}))
+pub taken_finish : (d : LedgerDesk) → IsLedgerDesk d → (inbox : Incoming ToLedger (Unit {0}))
     → IsNext d.inbox to_ledger.Finish inbox → IsTaken d (record d { inbox = inbox; connector_done = true })
 taken_finish d is inbox next =
     let own = from_connector d.inbox inbox to_ledger.Finish next next.follows.may in
@@ -462,7 +462,7 @@ taken_finish d is inbox next =
     })
 
 -- so a message that was taken, and then a look, are a turn
-pub served_so : (old mid : Desk) → IsTaken old mid → IsServed old (looked_at mid)
+pub served_so : (old mid : LedgerDesk) → IsTaken old mid → IsLedgerTurn old (looked_at mid)
 served_so old mid taken = record {
   sender = taken.sender;
   message = taken.message;

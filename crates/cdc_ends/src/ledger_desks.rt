@@ -2,7 +2,7 @@
 
 ghost use Rattle.std.specs.Prelude.{◌≡◌, ◌⊎◌, ℕ, ◌+◌, ◌<◌, ◌≤◌, Option, None, Some, List, [], ◌∷◌, ◌++◌, All, IfErr, IfOk, OnErr, is_some, true, length, vec_len};
 ghost use Rattle.cdc_ends.specs.Faults.{IsTurnFault};
-ghost use Rattle.cdc_ends.specs.LedgerEnds.{AreTold, IsBooked, IsDesk, IsServed, first_desk, has_to_wait, links_of, order_of, past_of_inbox, replied_of, kept_of, replies_of, with_replies};
+ghost use Rattle.cdc_ends.specs.LedgerEnds.{AreTold, IsBooked, IsLedgerDesk, IsLedgerTurn, first_desk, has_to_wait, links_of, order_of, past_of_inbox, replied_of, kept_of, replies_of, with_replies};
 ghost use Rattle.cdc_ends.specs.LedgerSoFar.{AnswersSoFar, ComesSoFar, IsUntaken};
 ghost use Rattle.cdc_ends.specs.LedgerSteps.{IsNext, IsTaken, looked_at, with_one_done};
 ghost use Rattle.cdc_ends.specs.Orders.{past_of, batches_by};
@@ -38,7 +38,7 @@ pub struct LedgerParts {
 
 /// The ledger's end of each of its links, the ledger, how many clients aren't done, whether the connector is, and the
 /// poll that is kept until there is something to reply.
-pub struct Desk {
+pub struct LedgerDesk {
     inbox: LinkIn<ToLedger>,
     clients: Vec<LinkOut<Reply>>,
     connector: LinkOut<ToConnector>,
@@ -49,7 +49,7 @@ pub struct Desk {
 }
 
 // By hand, so that whoever lets go of it calls this, and doesn't take it apart anew.
-impl Drop for Desk {
+impl Drop for LedgerDesk {
     fn drop(self) {
         let Self {
             inbox: _,
@@ -63,10 +63,10 @@ impl Drop for Desk {
     }
 }
 
-impl Model for Desk {
-    ghost use Rattle.cdc_ends.specs.LedgerEnds.{Desk};
+impl Model for LedgerDesk {
+    ghost use Rattle.cdc_ends.specs.LedgerEnds.{LedgerDesk};
 
-    ghost Value = { Desk };
+    ghost Value = { LedgerDesk };
 
     ghost view = { λ desk. record {
       inbox = desk.inbox;
@@ -219,17 +219,17 @@ fn give_up_all<R: Wait>(clients: &mut [LinkOut<Reply>], rt: &R)
     }
 }
 
-impl Desk {
+impl LedgerDesk {
     /// Nothing was received yet, and the ledger has taken nothing.
     pub(crate) fn new(
         alloc: Global,
         inbox: LinkIn<ToLedger>,
         clients: Vec<LinkOut<Reply>>,
         connector: LinkOut<ToConnector>,
-    ) -> Desk
+    ) -> LedgerDesk
         ensures { result ≡ first_desk inbox clients.items connector }
     {
-        Desk {
+        LedgerDesk {
             inbox,
             clients_left: clients.len(),
             clients,
@@ -255,7 +255,7 @@ impl Desk {
     fn take<K: Heard, R: Wait>(&mut self, rt: &R, alloc: Global) -> Result<(), RunFault>
         requires order { K.order ≡ order_of self.old.inbox.received }
         requires past { K.past ≡ past_of_inbox self.old.inbox }
-        requires kept { IsDesk self.old }
+        requires kept { IsLedgerDesk self.old }
         ensures taken { IfOk result (λ _. IsTaken self.old self.new) }
         ensures failed { IfErr result (λ fault. ((fault ≡ PeerGone) × (self.new ≡ self.old))
             ⊎ IsUntaken self.old fault self.new) }
@@ -303,8 +303,8 @@ impl Desk {
 
     /// Receives one message, and sends what follows from it.
     fn turn<R: Wait>(&mut self, rt: &R, alloc: Global) -> Result<(), RunFault>
-        requires { IsDesk self.old }
-        ensures turned { IfOk result (λ _. IsServed self.old self.new) }
+        requires { IsLedgerDesk self.old }
+        ensures turned { IfOk result (λ _. IsLedgerTurn self.old self.new) }
         ensures failed { IfErr result (λ fault. ComesSoFar self.old fault self.new) }
         ensures kind { IfErr result IsTurnFault }
     {
@@ -313,9 +313,9 @@ impl Desk {
     }
 }
 
-impl Work for Desk {
+impl Work for LedgerDesk {
     ghost use Rattle.cdc_ends.specs.Faults.{IsTurnFault};
-    ghost use Rattle.cdc_ends.specs.LedgerEnds.{ArePartsOf, IsDesk, is_over};
+    ghost use Rattle.cdc_ends.specs.LedgerEnds.{ArePartsOf, IsLedgerDesk, is_over};
     ghost use Rattle.cdc_ends.specs.Seats.{LedgerSeat, ledger_seat};
 
     type Parts = LedgerParts;
@@ -324,7 +324,7 @@ impl Work for Desk {
 
     ghost seat = { ledger_seat };
 
-    ghost keeps = { IsDesk };
+    ghost keeps = { IsLedgerDesk };
 
     ghost is_over = { is_over };
 
@@ -361,11 +361,11 @@ impl Work for Desk {
     }
 }
 
-impl Turns for Desk {
-    ghost use Rattle.cdc_ends.specs.LedgerEnds.{IsServed};
+impl Turns for LedgerDesk {
+    ghost use Rattle.cdc_ends.specs.LedgerEnds.{IsLedgerTurn};
     ghost use Rattle.cdc_ends.specs.LedgerSoFar.{HasFailed};
 
-    ghost turns = { IsServed };
+    ghost turns = { IsLedgerTurn };
 
     ghost fails = { HasFailed };
 

@@ -12,8 +12,8 @@ use Rattle.cdc_traffic.specs.declared.pasts.Past.{Past}
 use Rattle.cdc_traffic.specs.declared.requests.Reply.{Reply}
 use Rattle.cdc_types.specs.declared.batches.Batch.{Batch}
 use Rattle.cdc_ends.proofs.LedgerFails.{untold_so}
-use Rattle.cdc_ends.proofs.Told.{history_push, links_set, may_reply, reply_is, told_at, told_push}
-use Rattle.cdc_ends.proofs.desks.answer.Goals as goal
+use Rattle.cdc_ends.proofs.RequestReplies.{history_push, links_set, may_reply, reply_is, told_at, told_push}
+use Rattle.cdc_ends.proofs.ledger_desks.answer.Goals as goal
 
 pub tell_client-requires : goal.tell_client-requires
 tell_client-requires g c =
