@@ -75,6 +75,8 @@ def load_rt():
 rt = load_rt()
 rtlib = rt.rtlib
 ONE_JOB = ["--jobs", "1"]
+# The most edits of a group, so that none takes a quarter of an hour of a processor while the others have nothing to do.
+AT_ONCE = 20
 
 # ---------------------------------------------------------------------------------------------------------------------
 # The functions of a source file, and what an edit changes of it.
@@ -529,8 +531,11 @@ class Trial:
         return [word for it in paths for word in ("--only", it)]
 
     def one_of_each(self, edits):
-        """Returns a group: the first edit of each function."""
-        return [*{it.change.function: it for it in reversed(edits)}.values()]
+        """Returns a group: the first edit of each function, of as many as are checked at once."""
+        first = {}
+        for it in edits:
+            first.setdefault(it.change.function, it)
+        return [*first.values()][:AT_ONCE]
 
     def controls(self, taken):
         """Returns the harmless change, in a function that calls none of those taken, and the false one, in another, which
