@@ -28,11 +28,11 @@ use cdc_commands::check::{check, check_files};
 use cdc_commands::messages::messages;
 use cdc_commands::{Ending, ProgramFault, print_fault, print_text, simulate_command};
 use cdc_json::{
-    JsonRun, books_json_command, check_files_json_command, check_json_command,
-    messages_json_command, run_json_command, simulate_json_command,
+    books_json_command, check_files_json_command, check_json_command, messages_json_command,
+    simulate_json_command,
 };
 use cdc_progress::{FileStore, MemoryStore, ProgressStore};
-use cdc_run_command::{RunPlan, run_command};
+use cdc_run_command::{JsonRun, RunPlan, run_command, run_json_command};
 use cdc_telling::{Tally, count_lines};
 use ended::Ended;
 use kept::{Kept, Seen};

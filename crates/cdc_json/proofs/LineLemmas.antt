@@ -7,10 +7,8 @@ use Rattle.std.proofs.lemmas.List.{drop_all, map-append}
 use Rattle.std.proofs.lemmas.Grind.{flat_map-append}
 use Rattle.serde_json.specs.Data.{Data}
 use Rattle.cdc_commands.proofs.FoundElements.{drop_found, take_found}
-use Rattle.cdc_json.specs.Lines.{batch_value, json_line, json_lines, kept_values, subscriber_values}
-use Rattle.cdc_json.specs.Private.Taking.{numbered_values}
+use Rattle.cdc_json.specs.Lines.{json_line, json_lines, kept_values, subscriber_values}
 use Rattle.cdc_subscriber.specs.SubscriberState.{SubscriberState}
-use Rattle.cdc_traffic.specs.declared.requests.Reply.{Reply}
 use Rattle.cdc_subscriber.specs.Book.{entry_for, id_and_balances}
 use Rattle.cdc_subscriber.specs.declared.book.BookEntry.{BookEntry}
 use Rattle.cdc_types.specs.declared.accounts.Balances.{Balances}
@@ -75,25 +73,4 @@ kept_whole all place now whole past before =
     sym (append-nil now)
     ∙ ap (λ (left : List SubscriberState). now ++ json_lines (kept_values (place + 1) left))
     (sym (drop_all place all past))
-    ∙ before
-
--- one reply more is told
-pub reply_more : (all : List Reply) (place : ℕ) (reply : Reply) (now next whole : List ℕ)
-    → slice_get all place ≡ Some reply → next ≡ now ++ json_line (batch_value (place + 1) reply.answer)
-    → now ++ json_lines (numbered_values (place + 1) (drop place all)) ≡ whole
-    → next ++ json_lines (numbered_values (place + 1 + 1) (drop (place + 1) all)) ≡ whole
-reply_more all place reply now next whole found added before =
-    let own = json_line (batch_value (place + 1) reply.answer) in
-    let rest = json_lines (numbered_values (place + 1 + 1) (drop (place + 1) all)) in
-    ap (λ (text : List ℕ). text ++ rest) added ∙ append_assoc now own rest
-    ∙ ap (λ (left : List Reply). now ++ json_lines (numbered_values (place + 1) left))
-    (sym (drop_found all place reply found))
-    ∙ before
-
--- no reply is left
-pub reply_whole : (all : List Reply) (place : ℕ) (now whole : List ℕ) → length all ≤ place
-    → now ++ json_lines (numbered_values (place + 1) (drop place all)) ≡ whole → now ≡ whole
-reply_whole all place now whole past before =
-    sym (append-nil now)
-    ∙ ap (λ (left : List Reply). now ++ json_lines (numbered_values (place + 1) left)) (sym (drop_all place all past))
     ∙ before

@@ -1,4 +1,4 @@
 pub mod Lines
 pub mod Objects
+pub mod Outputs
 pub mod Private
-pub mod RunObjects

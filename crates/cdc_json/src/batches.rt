@@ -27,7 +27,7 @@ pub(crate) fn push_answers(
 }
 
 /// Adds the line of the batch of this number, from 1: what the ledger answered.
-pub(crate) fn push_batch(
+pub fn push_batch(
     alloc: Global,
     lines: &mut Lines,
     batch: u64,

@@ -1,32 +1,23 @@
 //! The commands with `--json`: each reads its files, as without it, and prints objects in the place of text.
 
-ghost use Rattle.std.specs.Prelude.{◌≡◌, ◌+◌, ℕ, List, Option, IfErr, IfOk, IfSome, Some};
+ghost use Rattle.std.specs.Prelude.{◌+◌, ℕ, List, Option, IfErr, IfOk, IfSome, Some};
 ghost use Rattle.cdc_script.specs.Reading.{ConsumesAtMost};
 ghost use Rattle.cdc_script.specs.Scripts.{max_bytes};
 ghost use Rattle.cdc_types.specs.Windows.{IsWindow};
 ghost use Rattle.cdc_commands.specs.Outcomes.{MayFailScript, Writes};
 ghost use Rattle.cdc_commands.specs.Simulated.{IsGoodScript};
-ghost use Rattle.cdc_run_command.specs.Plans.{IsPlan};
-ghost use Rattle.cdc_run_command.specs.RunPrinted.{MayFailRun};
 ghost use Rattle.cdc_json.specs.Objects.{CheckObjects, PrintsObjects, SimulationObjects};
 ghost use Rattle.cdc_json.specs.Objects.{TellsBooks, TellsMessages, TellsNothing};
-ghost use Rattle.cdc_json.specs.RunObjects.{RunObjects};
 
 use crate::books::books_json;
 use crate::faults::{script_fault, steps_fault};
 use crate::messages::messages_json;
-use crate::outputs::{JsonEnding, JsonOutput, print_fault_json, print_json};
-use crate::runs::{RunOutput, run_json};
+use crate::outputs::{JsonEnding, JsonOutput, print_json};
 use crate::simulations::simulation_json;
-use cdc_commands::{Ending, ProgramFault};
-use cdc_progress::ProgressStore;
-use cdc_run::Gate;
-use cdc_run_command::RunPlan;
+use cdc_commands::ProgramFault;
 use cdc_script::{ReadError, ScriptError, parse_script, parse_steps, read_text};
 use std::alloc::Global;
 use std::io::{Read, Write};
-use std::sync::Wait;
-use std::thread::Threads;
 
 /// Reads a script, and prints what `books --json` says of it. A command that gives up prints why, and nothing else;
 /// nothing is written after a write that failed.
@@ -158,79 +149,6 @@ fn unread_steps(alloc: Global, script: &[u8], error: ReadError) -> Result<JsonOu
         Err(ScriptError::OutOfMemory) => Err(ProgramFault::OutOfMemory),
         Ok(_) => Err(error.into()),
     }
-}
-
-/// How a run ended, and what it would have printed as text; none where it met a fault.
-#[derive(Drop)]
-pub struct JsonRun {
-    /// How it ended.
-    pub ending: Ending,
-    /// The text.
-    pub text: Vec<u8>,
-}
-
-/// Reads a script, runs it on threads, and prints what `run --json` says of the run. The gate is asked before each
-/// turn. A command that gives up prints why, and nothing else; nothing is written after a write that failed.
-pub fn run_json_command<
-    T: Threads + Wait + Sync,
-    R: Read,
-    W: Write,
-    S: ProgressStore + Send + Drop,
-    G: Gate + Sync,
->(
-    rt: &T,
-    alloc: Global,
-    reader: &mut R,
-    plan: RunPlan,
-    store: S,
-    gate: &G,
-    writer: &mut W,
-) -> JsonRun
-    requires { IsPlan plan }
-    ensures writes { Writes (RunObjects (record {
-      closes = plan.faults.close.items;
-      start = plan.start;
-      held = S.held store;
-      honest = S.is_honest store;
-    }) (R.remaining reader.old) result.text.items)
-        (W.contents writer.old) (W.contents writer.new) result.ending }
-    ensures bounded { ConsumesAtMost (max_bytes + 1)
-        (R.remaining reader.old) (R.remaining reader.new) }
-{
-    match read_run(rt, alloc, reader, plan, store, gate) {
-        Ok(RunOutput { output, text }) => JsonRun {
-            ending: print_json(writer, Ok(output)).ending,
-            text,
-        },
-        Err(fault) => JsonRun {
-            ending: print_fault_json(writer, fault),
-            text: Vec::new(alloc),
-        },
-    }
-}
-
-/// What `run --json` prints for the script of a reader.
-fn read_run<T: Threads + Wait + Sync, R: Read, S: ProgressStore + Send + Drop, G: Gate + Sync>(
-    rt: &T,
-    alloc: Global,
-    reader: &mut R,
-    plan: RunPlan,
-    store: S,
-    gate: &G,
-) -> Result<RunOutput, ProgramFault>
-    requires { IsPlan plan }
-    ensures output { IfOk result (λ made. RunObjects (record {
-      closes = plan.faults.close.items;
-      start = plan.start;
-      held = S.held store;
-      honest = S.is_honest store;
-    }) (R.remaining reader.old) made.text.items made.output.ending made.output.text.items) }
-    ensures fault { IfErr result MayFailRun }
-    ensures bounded { ConsumesAtMost (max_bytes + 1)
-        (R.remaining reader.old) (R.remaining reader.new) }
-{
-    let bytes = read_text(alloc, reader)?;
-    run_json(rt, alloc, &bytes, plan, store, gate)
 }
 
 /// Reads a script, and prints the line of its first fault, or nothing. A command that gives up prints why, and nothing

@@ -12,7 +12,7 @@ use cdc_telling::{FaultTold, script_fault_told, steps_fault_told};
 use std::alloc::{AllocError, Global};
 
 /// What is printed of a script of these bytes that has a fault.
-pub(crate) fn script_fault(
+pub fn script_fault(
     alloc: Global,
     script: &[u8],
     fault: ScriptFault,

@@ -125,7 +125,7 @@ impl Serialize for Line<'_> {
 
 /// The lines so far, and how much of what was asked for they say wasn't accepted.
 #[derive(Drop)]
-pub(crate) struct Lines {
+pub struct Lines {
     /// The lines, each with its line feed.
     pub text: Vec<u8>,
     /// What wasn't accepted.
@@ -134,7 +134,7 @@ pub(crate) struct Lines {
 
 impl Lines {
     /// No lines.
-    pub(crate) fn new(alloc: Global) -> Lines
+    pub fn new(alloc: Global) -> Lines
         ensures { result.text.items ≡ [] }
     {
         Lines {

@@ -3,7 +3,7 @@
 ghost use Rattle.std.specs.Prelude.{◌≡◌, [], IfErr, IfOk};
 ghost use Rattle.cdc_commands.specs.Outcomes.{IsPrinted};
 ghost use Rattle.cdc_json.specs.Lines.{fault_value, json_line};
-ghost use Rattle.cdc_json.specs.Private.Outputs.{outcome_of};
+ghost use Rattle.cdc_json.specs.Outputs.{outcome_of};
 
 use crate::faults::fault_line;
 use crate::lines::Lines;
@@ -14,18 +14,18 @@ use std::io::Write;
 
 /// What a command prints, and how it ends once that is written.
 #[derive(Drop)]
-pub(crate) struct JsonOutput {
+pub struct JsonOutput {
     /// The lines, each an object.
-    pub(crate) text: Vec<u8>,
+    pub text: Vec<u8>,
     /// How much wasn't accepted.
-    pub(crate) tally: Tally,
+    pub tally: Tally,
     /// How the command ends.
-    pub(crate) ending: Ending,
+    pub ending: Ending,
 }
 
 impl JsonOutput {
     /// Lines of a command that ends so.
-    pub(crate) fn ended(lines: Lines, ending: Ending) -> JsonOutput
+    pub fn ended(lines: Lines, ending: Ending) -> JsonOutput
         ensures { outcome_of result ≡ record { text = lines.text.items; ending = ending } }
     {
         let Lines { text, tally } = lines;
@@ -54,10 +54,7 @@ pub struct JsonEnding {
 }
 
 /// Prints what a command makes of what it reads, or the line of why it gave up; all at once.
-pub(crate) fn print_json<W: Write>(
-    writer: &mut W,
-    made: Result<JsonOutput, ProgramFault>,
-) -> JsonEnding
+pub fn print_json<W: Write>(writer: &mut W, made: Result<JsonOutput, ProgramFault>) -> JsonEnding
     ensures text { IfOk made (λ output. IsPrinted (W.contents writer.old) (W.contents writer.new)
         (outcome_of output) result.ending) }
     ensures fault { IfErr made (λ fault. IsPrinted (W.contents writer.old) (W.contents writer.new)

@@ -8,7 +8,7 @@ use cdc_subscriber::{Book, BookEntry, Subscriber};
 use std::alloc::{AllocError, Global};
 
 /// Adds the lines of the subscriber of this number, from 1: how far it is, and its book.
-pub(crate) fn push_subscriber(
+pub fn push_subscriber(
     alloc: Global,
     lines: &mut Lines,
     number: u64,

@@ -1,5 +1,6 @@
 pub mod ClientLemmas
 pub mod LoneRuns
+pub mod ObjectLemmas
 pub mod ReplyLemmas
 pub mod RunFaults
 pub mod RunLemmas

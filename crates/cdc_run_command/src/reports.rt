@@ -24,7 +24,7 @@ const SYSTEM: u64 = 1;
 
 /// What a run of a script came to.
 #[derive(Drop)]
-pub struct Ran {
+pub(crate) struct Ran {
     /// The client that has handed in each batch, in the order of the script.
     pub order: Vec<u64>,
     /// What the run reports.
@@ -32,7 +32,11 @@ pub struct Ran {
 }
 
 /// What a run of a script comes to, for whoever prints it. There is nothing where the run met a fault.
-pub fn report_of_run<T: Threads + Wait + Sync, S: ProgressStore + Send + Drop, G: Gate + Sync>(
+pub(crate) fn report_of_run<
+    T: Threads + Wait + Sync,
+    S: ProgressStore + Send + Drop,
+    G: Gate + Sync,
+>(
     rt: &T,
     alloc: Global,
     script: Script,

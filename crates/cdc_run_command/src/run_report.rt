@@ -14,7 +14,7 @@ use cdc_traffic::Reply;
 use std::alloc::{AllocError, Global};
 
 /// What is printed of a run.
-pub fn print_run(alloc: Global, ran: &Ran) -> Result<Vec<u8>, AllocError>
+pub(crate) fn print_run(alloc: Global, ran: &Ran) -> Result<Vec<u8>, AllocError>
     requires { IsOrderOf ran.now.order.items (replies_of ran.now.report) }
     ensures { IfOk result (λ text. PrintsReport ran.now.order.items ran.now.report text.items) }
 {
@@ -38,7 +38,7 @@ fn reply_text(alloc: Global, replies: &[&Reply]) -> Result<String, AllocError>
 }
 
 /// The replies to all batches, in the order of the script, in which clients have handed them in.
-pub fn replies_in_order<'a>(
+pub(crate) fn replies_in_order<'a>(
     alloc: Global,
     order: &[u64],
     replies: &'a [Vec<Reply>],

@@ -4,8 +4,8 @@ use Rattle.std.specs.Prelude.{slice_get}
 use Rattle.std.proofs.lemmas.List.{length-map}
 use Rattle.std.proofs.lemmas.Option.{slice_get-map, slice_get_read}
 use Rattle.cdc_traffic.specs.declared.requests.Reply.{Reply}
-use Rattle.cdc_json.proofs.LineLemmas.{reply_more, reply_whole}
-use Rattle.cdc_json.proofs.runs.push_replies.Goals as goal
+use Rattle.cdc_run_command.proofs.ObjectLemmas.{reply_more, reply_whole}
+use Rattle.cdc_run_command.proofs.run_json.push_replies.Goals as goal
 
 pub loop-place-preserved : goal.loop-place-preserved
 loop-place-preserved c =

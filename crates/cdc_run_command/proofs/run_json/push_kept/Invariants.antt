@@ -1,6 +1,6 @@
 use Rattle.std.proofs.Common.{◌≡◌, ◌+◌, ◌++◌, drop}
 use Rattle.cdc_json.specs.Lines.{json_lines, kept_values}
-use Rattle.cdc_json.proofs.runs.push_kept.Given as goal
+use Rattle.cdc_run_command.proofs.run_json.push_kept.Given as goal
 
 abbrev pub invariant-loop-place : goal.invariant-loop-place
 invariant-loop-place l =

@@ -4,11 +4,11 @@ use Rattle.cdc_run_command.specs.Runs.{AreMerged}
 use Rattle.cdc_subscriber.specs.SubscriberState.{SubscriberState}
 use Rattle.cdc_traffic.specs.declared.requests.Reply.{Reply}
 use Rattle.cdc_json.specs.Lines.{json_lines, kept_values}
-use Rattle.cdc_json.specs.Private.Taking.{numbered_values}
-use Rattle.cdc_json.specs.RunObjects.{reply_values}
+use Rattle.cdc_run_command.specs.Private.Telling.{numbered_values}
+use Rattle.cdc_run_command.specs.RunObjects.{reply_values}
 use Rattle.cdc_json.proofs.LineLemmas.{json_lines-append}
-use Rattle.cdc_json.proofs.TakenLemmas.{values_numbered}
-use Rattle.cdc_json.proofs.runs.run_lines.Goals as goal
+use Rattle.cdc_run_command.proofs.ObjectLemmas.{values_numbered}
+use Rattle.cdc_run_command.proofs.run_json.run_lines.Goals as goal
 
 pub returns : goal.returns
 returns c =

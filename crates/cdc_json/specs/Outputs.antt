@@ -1,5 +1,4 @@
 -- What a command makes of what it reads, before it prints that.
-use Rattle.std.specs.Prelude.{ℕ}
 use Rattle.cdc_commands.specs.Outcomes.{Outcome}
 use Rattle.cdc_json.specs.declared.outputs.JsonOutput.{JsonOutput}
 

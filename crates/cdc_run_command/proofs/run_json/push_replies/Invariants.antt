@@ -1,7 +1,7 @@
 use Rattle.std.proofs.Common.{◌≡◌, ◌+◌, ◌++◌, drop, map}
 use Rattle.cdc_json.specs.Lines.{json_lines}
-use Rattle.cdc_json.specs.Private.Taking.{numbered_values}
-use Rattle.cdc_json.proofs.runs.push_replies.Given as goal
+use Rattle.cdc_run_command.specs.Private.Telling.{numbered_values}
+use Rattle.cdc_run_command.proofs.run_json.push_replies.Given as goal
 
 abbrev pub invariant-loop-place : goal.invariant-loop-place
 invariant-loop-place l =

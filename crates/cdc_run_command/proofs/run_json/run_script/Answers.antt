@@ -1,8 +1,8 @@
 use Rattle.std.proofs.Common.{List, ℕ, Some, subst, sym}
 use Rattle.cdc_commands.specs.Outcomes.{Outcome}
 use Rattle.cdc_run_command.specs.Runs.{PrintsReport, Setting}
-use Rattle.cdc_json.specs.RunObjects.{RunObjects, TellsReport}
-use Rattle.cdc_json.proofs.runs.run_script.Goals as goal
+use Rattle.cdc_run_command.specs.RunObjects.{RunObjects, TellsReport}
+use Rattle.cdc_run_command.proofs.run_json.run_script.Goals as goal
 
 pub returns-clause-output : goal.returns-clause-output
 returns-clause-output g c = λ bytes said.

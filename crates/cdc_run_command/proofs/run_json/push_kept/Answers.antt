@@ -1,7 +1,7 @@
 use Rattle.std.proofs.Common.{refl}
 use Rattle.std.proofs.lemmas.Option.{slice_get_read}
 use Rattle.cdc_json.proofs.LineLemmas.{kept_more, kept_whole}
-use Rattle.cdc_json.proofs.runs.push_kept.Goals as goal
+use Rattle.cdc_run_command.proofs.run_json.push_kept.Goals as goal
 
 pub loop-place-preserved : goal.loop-place-preserved
 loop-place-preserved c =
