@@ -27,7 +27,8 @@ BATCH_ITEMS = 1_000
 # The limits.
 GROWTH = 3.0  # per cent, of what a further transfer costs, for each doubling
 EXPONENT = 1.02
-FULL = 40_000  # instructions for each transfer of a full script
+FULL = 40_000  # instructions for each transfer of a full script, of the program that LLVM makes
+OWN = 1.25  # how many times these the program may take that Rattle's own compiler makes, as it does of records
 FURTHER = 20_000  # instructions for each transfer and each subscriber beyond the first
 LINKED = 1.05  # what a transfer of a chain may cost, in single-phase transfers
 FAILED = 2.0  # what an item of a chain may cost that fails at its end, in single-phase transfers
@@ -116,6 +117,8 @@ class Counter:
 
     def __init__(self, program, folder, jobs):
         self.program = program
+        with open(program, "rb") as it:
+            self.full = FULL * (OWN if b" backend=rattle " in it.read() else 1)
         self.folder = folder
         self.pool = concurrent.futures.ThreadPoolExecutor(jobs)
         self.made = 0
@@ -239,7 +242,7 @@ def full(counter, table):
     count = most_transfers(2)
     total = total_of(counter.total(script(2, count)).result())
     table.head(f"books, a full script of 2 accounts and {count:,} transfers: instructions; of each transfer")
-    table.row("from its text to the printed book", total, total / count, FULL)
+    table.row("from its text to the printed book", total, total / count, counter.full)
     back = total_of(counter.total(script(2, count, 1)).result())
     table.row("the same at moments that go back, which is noted", back, back / total, NOTED)
 
