@@ -64,6 +64,21 @@ fn send_notes<R: Wait>(rt: &R, mut out: LinkOut<Note>, sender: u64, count: u64) 
     out.hand_back()
 }
 
+// Sends a note, and gives its end up.
+fn send_one_and_hang_up<R: Wait + Abort>(
+    rt: &R,
+    mut out: LinkOut<Note>,
+    sender: u64,
+) -> Handed<Note>
+    requires { out.number ≡ sender }
+    ensures { result.link ≡ out.link }
+{
+    let place = out.sent_count();
+    let is_sent = out.send::<Nothing, R>(rt, Note { sender, place }).is_ok();
+    assert!(rt; is_sent);
+    out.hang_up(rt)
+}
+
 // Receives so many notes of two senders: of each they come in its order.
 fn receive_notes<R: Wait + Abort>(rt: &R, mut into: LinkIn<Note>, count: u64) -> LinkIn<Note>
     ensures { (result.link ≡ into.link) × (result.senders ≡ into.senders) }
@@ -140,15 +155,9 @@ fn a_receive_answers_that_the_senders_are_gone(rt: HostRuntime) {
 fn a_receive_answers_that_one_of_two_senders_gave_up(rt: HostRuntime) {
     let (mut outs, mut into) = link::<Note>(rt.alloc(), 1, 2).expect(&rt, "memory");
     let second = outs.pop().expect(&rt, "two senders");
-    let mut first = outs.pop().expect(&rt, "two senders");
-    let (sender, place) = (0, first.sent_count());
+    let first = outs.pop().expect(&rt, "two senders");
     let handed = send_notes(&rt, second, 1, 1);
-    assert!(rt;
-        first
-            .send::<Nothing, HostRuntime>(&rt, Note { sender, place })
-            .is_ok()
-    );
-    let gone = first.hang_up(&rt);
+    let gone = send_one_and_hang_up(&rt, first, 0);
     for sender in [1u64, 0] {
         match into.receive(&rt) {
             Ok(note) => assert_eq!(rt; note, Note { sender, place: 0 }),

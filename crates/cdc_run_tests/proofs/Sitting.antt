@@ -137,16 +137,15 @@ all_seats ledger clients connector broker subscribers = record {
 }
 
 -- who says that it is done sits where it sat
-pub finished_sits : (system : ℕ) (c : Talk) → (system, client_seat (finished_talk c)) ≡ (system, client_seat c)
+pub finished_sits : (system : ℕ) (c : Talk)
+    → ◌≡◌ {A = ℕ × ClientSeat} (system, client_seat (finished_talk c)) (system, client_seat c)
 finished_sits system c = go c.finished
   where
-    go : (b : Bool) → (
-      system,
-      client_seat (if b then c else record c {
-        requests = with_sent c.requests (Done c.number, tt);
-        finished = true;
-      }),
-    ) ≡ (system, client_seat c)
+    done : Talk
+    done = record c { requests = with_sent c.requests (Done c.number, tt); finished = true }
+
+    go : (b : Bool)
+        → ◌≡◌ {A = ℕ × ClientSeat} (system, client_seat (if b then c else done)) (system, client_seat c)
     go true = refl
     go false = refl
 
