@@ -3,8 +3,9 @@
 Each client's batches come in their order; which client is the next one hangs on the threads. What is printed tells: the
 results of each batch, and of each subscriber how many events it has applied, the timestamp of the last, and its accounts
 in the order in which they first appeared. So batches are handed to a ledger of the model (model.py) one after another,
-each the next one of its client, and a beginning that can't come to what was printed is given up at once. No list of all
-orders is made: four clients of four batches each have 63 million.
+each the next one of its client, and a beginning that can't come to what was printed is given up at once; so is one that
+has brought the ledger to where another one has. No list of all orders is made: four clients of four batches each have 63
+million.
 """
 from dataclasses import dataclass, field
 
@@ -57,9 +58,30 @@ class Search:
             self.left.setdefault(batch.client, []).append(place)
         self.ledger = model.Ledger()
         self.order = []
+        self.seen = set()  # the stages from which it was gone on
+
+    def stage(self):
+        """How far it has come, as far as what follows hangs on it. Which items were accepted is what was printed, so it is
+        told by how many batches of each client are left; which pending transfers are over and when the others will be
+        hangs on the order, and so does what is published."""
+        left = tuple(len(places) for places in self.left.values())
+        ends = self.ledger.ends_of
+        timed = [one for one in self.ledger.transfers.values() if one.end is not None and one.request.id not in ends]
+        published = [
+            (event.timestamp, event.kind, event.transfer.request.id, event.debit_balances, event.credit_balances)
+            for event in self.ledger.events
+            if event.timestamp > self.moment
+        ]
+        waiting = frozenset((one.request.id, one.timestamp) for one in timed)
+        return left, self.ledger.last, frozenset(ends.items()), waiting, tuple(published)
 
     def found(self):
-        """Each order that what was printed of batches and subscribers allows, one after another."""
+        """The orders that what was printed of batches and subscribers allows, one after another; of those that come to the
+        same, one."""
+        stage = self.stage()
+        if stage in self.seen:
+            return
+        self.seen.add(stage)
         if len(self.order) == len(self.script.batches):
             if self.saved in (None, self.last_moment()):
                 yield list(self.order)
@@ -113,7 +135,8 @@ def saved_in(record):
 
 
 def orders_of(script, printed, moment, saved):
-    """Each order of a script's batches, as places in it, that this text of a run and the moment that it saved allow."""
+    """Orders of a script's batches, as places in it, that this text of a run and the moment that it saved allow: all but
+    those that come to the same as another one."""
     told = told_of(printed)
     if told is None or [len(part) for part in told] != [len(script.batches), len(script.bindings)]:
         return iter(())
