@@ -65,8 +65,9 @@ This page is made from the comments of the definitions (`tests/definitions.py --
 NAMES = """\
 ## Numbers and names
 
-Each result, answer and fault has a number, a name or both, which are those of FORMATS.md. They are definitions \
-too, each called `.._number` or `.._name` behind the name of its type, in these files:
+Each result, answer and fault has a number, a name or both, which are those of FORMATS.md, but for the numbers of the \
+faults of runs and of links. They are definitions too, each called `.._number` or `.._name` behind the name of its \
+type, in these files:
 """
 READ = """\
 ## What the commands need besides
