@@ -740,6 +740,45 @@ run books "$top/examples/refusals.script"
 same 'the example of refusals' "$its_refusals" "$out"
 counts 'the example of refusals' 4 0
 
+# Why items weren't accepted that another one of the batch stands in the way of, or would have helped: a post before what
+# it names, and two of one id, and two posts, in chains that left nothing.
+cat >late.script <<'END'
+subscriber all
+accounts 1000
+account id=1 ledger=700 code=10
+account id=2 ledger=700 code=10
+transfers 2000
+transfer id=11 pending_id=10 amount=5 flags=4
+transfer id=10 debit_account_id=1 credit_account_id=2 amount=5 ledger=700 code=1 flags=2
+transfers 3000
+transfer id=20 debit_account_id=1 credit_account_id=2 amount=5 ledger=700 code=1 flags=1
+transfer id=20 debit_account_id=1 credit_account_id=2 amount=5 ledger=700 code=1
+transfers 4000
+transfer id=12 pending_id=10 amount=5 flags=5
+transfer id=13 pending_id=10 amount=5 flags=4
+END
+its_reasons='late.script:6: batch 2 transfer 1 (id 11): 18 pending_transfer_not_found: there was no transfer 10 to post or void
+late.script:9: batch 3 transfer 1 (id 20): 38 linked_event_failed: transfer 2, in its chain, wasn'"'"'t accepted: 12 exists_with_different_fields: transfer 20 came before it, with other fields
+late.script:10: batch 3 transfer 2 (id 20): 12 exists_with_different_fields: transfer 20 came before it, with other fields
+late.script:12: batch 4 transfer 1 (id 12): 38 linked_event_failed: transfer 2, in its chain, wasn'"'"'t accepted: 26 pending_transfer_already_posted: a post of transfer 10 came before it
+late.script:13: batch 4 transfer 2 (id 13): 26 pending_transfer_already_posted: a post of transfer 10 came before it
+'
+run books --explain late.script
+same 'what came before' 'batch 2: 18 0|batch 3: 38 12|batch 4: 38 26' "$(grep -E '^batch [2-4]:' output | paste -s -d '|')"
+same 'what came before: why' "$its_reasons" "$err"
+run run --explain late.script
+same 'what came before in a run: why' "$its_reasons" "$err"
+
+# One client's batches have one order, however many they are.
+{
+    printf '%s\n' 'subscriber all' 'accounts 1' 'account id=0'
+    for _ in {1..100001}; do echo 'pulse 1'; done
+} >pulses.script
+run run --explain pulses.script
+same 'a hundred thousand batches: status' 0 "$status"
+same 'a hundred thousand batches: why' 'pulses.script:3: batch 1 account 1 (id 0): 2 id_must_not_be_zero: an account'"'"'s id is never 0
+' "$err"
+
 # A batch of 1,001 accounts, and batches at the greatest timestamp.
 {
     printf '%s\n' 'subscriber all' 'accounts 1'

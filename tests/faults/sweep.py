@@ -8,7 +8,8 @@ A small library, faults.c, is built and loaded before the C library; it refuses 
 run below, and for every call of it in turn:
 - a growth that is refused ends it with the one line of want of memory and status 1. Under `simulate` it refuses a step
   where it is the step's own: what is then printed is the state that the steps before it make when they are played
-  alone. Each kind of step that always takes memory is refused so at some of its growths.
+  alone. Each kind of step that always takes memory is refused so at some of its growths. Steps that are made by chance are
+  the same ones whatever is refused later, or none.
 - a read that is refused ends it with the one line of read_fault and status 1;
 - a write that is refused ends it with status 1, a beginning of what it prints, and the write_fault on standard error;
   one of standard error's changes nothing that is printed, nor the status;
@@ -65,6 +66,7 @@ CASES = [
     (["simulate", example("two-phase.script"), example("two-phase.steps")], None),
     (["simulate", example("two-phase.script"), example("faults.steps")], None),
     (["simulate", EVERY, os.path.join(HERE, "every-step.steps")], None),
+    (["simulate", example("two-phase.script"), "--random", "7", "--steps", "120"], None),
 ]
 
 
@@ -104,8 +106,12 @@ class Case:
             self.calls = {kind.decode(): int(count) for kind, count in (line.split() for line in file)}
         self.played = {}
         if words[0] == "simulate":
-            with open(words[2], "rb") as file:
-                self.steps = [line for line in file.read().split(b"\n") if line.strip() and line[:1] != b"#"]
+            if "--random" in words:
+                text = self.good.errors
+            else:
+                with open(words[2], "rb") as file:
+                    text = file.read()
+            self.steps = [line for line in text.split(b"\n") if line.strip() and line[:1] != b"#"]
 
     def run(self, plan):
         return Run(self.words, self.stdin, FAULT=plan)

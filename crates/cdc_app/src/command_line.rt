@@ -11,8 +11,7 @@ use thiserror::Error;
 /// What the words ask for.
 #[derive(Drop)]
 pub enum Options<'a> {
-    /// The results of a script's batches and the book of a subscriber, of the script in this file; `-` is standard
-    /// input.
+    /// The results of the batches, and the books of the subscribers, of the script in this file; `-` is standard input.
     Books {
         file: &'a str,
         /// Whether standard error says why each item wasn't accepted.

@@ -13,7 +13,7 @@ pub struct Kept<T> {
     bytes: Vec<u8>,
     /// Whether there was memory for all of them.
     whole: bool,
-    /// Whether it has failed.
+    /// Whether a read has failed.
     failed: bool,
 }
 

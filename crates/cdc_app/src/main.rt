@@ -1,4 +1,4 @@
-//! The program: a script in, and a report of its ledger, its messages or a subscriber's book out.
+//! The program: a script in, and a report of its ledger, its messages or its subscribers' books out.
 #![tactic(auto)]
 
 ghost use Rattle.cdc_types.specs.Windows.{IsWindow};
@@ -29,7 +29,7 @@ use cdc_commands::messages::messages;
 use cdc_commands::{Ending, ProgramFault, print_fault, print_text, simulate_command};
 use cdc_json::{
     books_json_command, check_files_json_command, check_json_command, messages_json_command,
-    simulate_json_command,
+    print_fault_json, simulate_json_command,
 };
 use cdc_progress::{FileStore, MemoryStore, ProgressStore};
 use cdc_run_command::{JsonRun, RunPlan, run_command, run_json_command};
@@ -48,7 +48,9 @@ use std::process::ExitCode;
 use std::sync::Wait;
 use std::thread::Threads;
 use std::{env, io};
-use telling::{EXPLAIN, Inputs, can_draw, explain_books, explain_run, hint, note, tell_simulation};
+use telling::{
+    EXPLAIN, Inputs, can_draw, explain_books, explain_run, hint, is_told, note, tell_simulation,
+};
 
 fn main(rt: HostRuntime) -> ExitCode {
     let ending = match words_of(&rt) {
@@ -56,7 +58,7 @@ fn main(rt: HostRuntime) -> ExitCode {
         Err(error) if error.kind() == io::ErrorKind::InvalidData => {
             refuse_words(&rt, "error: a word is no UTF-8 text\n")
         }
-        Err(_) => give_up(&rt, ProgramFault::OutOfMemory),
+        Err(_) => give_up(&rt, ProgramFault::OutOfMemory, Form::Text),
     };
     ExitCode::from(ending.status())
 }
@@ -74,7 +76,7 @@ fn run_words<T: Threads + Wait + Sync>(rt: &HostRuntime, threads: &T, words: &[S
         .map(|word| word.as_str())
         .collect(rt.alloc());
     let Ok(texts) = texts else {
-        return give_up(rt, ProgramFault::OutOfMemory);
+        return give_up(rt, ProgramFault::OutOfMemory, Form::Text);
     };
     if texts.is_empty() && rt.reader().is_terminal() {
         let _ = eprintln!(rt;
@@ -127,7 +129,7 @@ fn run_words<T: Threads + Wait + Sync>(rt: &HostRuntime, threads: &T, words: &[S
         ) => run_check(rt, file, steps, has_diagram, form),
         Ok(Options::Explain { text }) => explain(rt, text.as_str()),
         Err(OptionsFault::BadWords { message }) => refuse_words(rt, message.as_str()),
-        Err(OptionsFault::OutOfMemory) => give_up(rt, ProgramFault::OutOfMemory),
+        Err(OptionsFault::OutOfMemory) => give_up(rt, ProgramFault::OutOfMemory, Form::Text),
     }
 }
 
@@ -148,6 +150,7 @@ fn run_books(rt: &HostRuntime, file: &str, explain: bool, form: Form) -> Ending 
 fn tell_books(rt: &HostRuntime, script: Seen<'_>, explain: bool, tally: Option<Tally>) {
     match script.bytes {
         Some(bytes) if explain => explain_books(rt, script.name, bytes),
+        None if explain => {}
         _ => {
             if let Some(tally) = tally {
                 hint(rt, tally, EXPLAIN);
@@ -276,7 +279,7 @@ fn run_on_threads<T: Threads + Wait + Sync>(
     requires { IsPlan plan }
 {
     let Ok(faults) = copy_faults(rt.alloc(), &plan.faults) else {
-        return give_up(rt, ProgramFault::OutOfMemory);
+        return give_up(rt, ProgramFault::OutOfMemory, form);
     };
     let turns = Turns::new();
     let mut script = Kept::new(rt.alloc(), Source::of_script(rt, file));
@@ -309,6 +312,7 @@ fn run_on_threads<T: Threads + Wait + Sync>(
 fn tell_run(rt: &HostRuntime, script: Seen<'_>, telling: RunTelling, printed: &[u8]) {
     match script.bytes {
         Some(bytes) if telling.explain => explain_run(rt, script.name, bytes, printed),
+        None if telling.explain => {}
         _ => hint(rt, count_lines(printed), EXPLAIN),
     }
 }
@@ -353,15 +357,6 @@ fn print_run<T: Threads + Wait + Sync, S: ProgressStore + Send + Drop>(
     }
 }
 
-/// Whether a simulation that ended so is to be told: a step was refused, or something was asked for and it was done.
-fn is_told(ending: Ending, telling: Telling<'_>) -> bool {
-    match ending {
-        Ending::Refused(_) => true,
-        Ending::Done => telling.explain || telling.trace || telling.diagram.is_some(),
-        _ => false,
-    }
-}
-
 /// Judges the script of this name, and the step file, and says on standard error what is wrong.
 fn run_check(
     rt: &HostRuntime,
@@ -402,8 +397,12 @@ fn explain(rt: &HostRuntime, text: &str) -> Ending {
 }
 
 /// Prints the fault of a command that didn't come as far as a file.
-fn give_up(rt: &HostRuntime, fault: ProgramFault) -> Ending {
-    let ending = print_fault(&mut io::writer(rt), fault);
+fn give_up(rt: &HostRuntime, fault: ProgramFault, form: Form) -> Ending {
+    let mut writer = io::writer(rt);
+    let ending = match form {
+        Form::Text => print_fault(&mut writer, fault),
+        Form::Json => print_fault_json(&mut writer, fault),
+    };
     advise(rt, ending);
     ending
 }

@@ -38,9 +38,9 @@ fn unread(rt: &HostRuntime, saved: &str) -> &'static str {
 /// What is wrong with a file that holds no record.
 fn no_record(rt: &HostRuntime, saved: &str) -> &'static str {
     let mut head = [0u8; RECORD_BYTES + 1];
-    let count = match File::open(rt, saved) {
-        Ok(mut file) => file.read(&mut head).unwrap_or(0),
-        Err(_) => 0,
+    let read = File::open(rt, saved).and_then(|mut file| file.read(&mut head));
+    let Ok(count) = read else {
+        return "it holds no record of progress: name another file";
     };
     match head.get(..count) {
         Some([]) => {

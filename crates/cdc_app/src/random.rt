@@ -1,5 +1,5 @@
 //! The command `simulate` by steps that are made by chance. Standard error gets them as a step file; whatever else
-//! stands there is a comment of it.
+//! stands there is a comment of it, but for why the command gave up and for a diagram that can't be written.
 
 ghost use Rattle.cdc_types.specs.Windows.{IsWindow};
 
@@ -8,7 +8,7 @@ use crate::ended::Ended;
 use crate::kept::{Kept, Seen};
 use crate::options::{Form, STANDARD_ERROR, Telling};
 use crate::sources::Source;
-use crate::telling::{can_draw, draw};
+use crate::telling::{can_draw, draw, is_told};
 use cdc_commands::simulate::simulation_of;
 use cdc_commands::{Ending, ProgramFault, print_fault, print_output};
 use cdc_json::{print_fault_json, print_simulation_json};
@@ -46,7 +46,12 @@ pub fn run_random(
     match ending {
         Ending::Done | Ending::Refused(_) => {
             print_steps(rt, window, chances, steps.as_str());
-            tell(rt, file, &script, steps.as_str(), window, telling);
+            let said = is_told(ending, telling)
+                && tell(rt, file, &script, steps.as_str(), window, telling);
+            if let (Ending::Refused(refusal), false) = (ending, said) {
+                let name = refusal.name();
+                let _ = eprintln!(rt; "# relayplum: a step was refused: {name}");
+            }
             if let (Some(tally), false) = (tally, telling.explain) {
                 hint(rt, tally);
             }
@@ -101,7 +106,7 @@ fn print_steps(rt: &HostRuntime, window: usize, chances: Chances, steps: &str) {
     );
 }
 
-/// Tells what is asked for, and why a step was refused, where one was.
+/// Tells what is asked for, and why a step was refused, where one was. Answers whether it could tell the latter.
 fn tell(
     rt: &HostRuntime,
     file: &str,
@@ -109,12 +114,12 @@ fn tell(
     steps: &str,
     window: usize,
     telling: Telling<'_>,
-)
+) -> bool
     requires { IsWindow window }
 {
     let name = shown_name(file);
     let Some(told) = simulation_told(rt.alloc(), name, script, steps.as_bytes(), window) else {
-        return;
+        return false;
     };
     if telling.trace {
         comment(rt, told.trace.as_str());
@@ -127,8 +132,12 @@ fn tell(
         Some(out) => draw(rt, out, told.diagram.as_str()),
         None => {}
     }
-    if let Some(RefusedStep { why, .. }) = &told.refusal {
-        comment(rt, why.as_str());
+    match &told.refusal {
+        Some(RefusedStep { why, .. }) => {
+            comment(rt, why.as_str());
+            true
+        }
+        None => false,
     }
 }
 

@@ -51,11 +51,12 @@ pub fn tell_missed(rt: &HostRuntime, faults: &Faults, turns: &Turns, printed: &[
             );
         }
     }
+    let applied = Applied::in_text(printed);
     for (queue, position) in faults.repeat.as_slice() {
-        tell_missed_repeat(rt, *queue, *position, turns, printed);
+        tell_missed_repeat(rt, *queue, *position, turns, &applied);
     }
     for (subscriber, count) in faults.close.as_slice() {
-        tell_missed_close(rt, *subscriber, *count, printed);
+        tell_missed_close(rt, *subscriber, *count, &applied);
     }
 }
 
@@ -68,9 +69,15 @@ fn restarts(faults: &Faults, most: u64) -> bool {
 }
 
 /// Says where a queue never came to a position.
-fn tell_missed_repeat(rt: &HostRuntime, queue: u64, position: u64, turns: &Turns, printed: &[u8]) {
+fn tell_missed_repeat(
+    rt: &HostRuntime,
+    queue: u64,
+    position: u64,
+    turns: &Turns,
+    applied: &Applied,
+) {
     let count = turns.deliveries(queue);
-    if applied_by(printed, queue).is_none() {
+    if applied.by(queue).is_none() {
         let _ = eprintln!(rt; "relayplum: --repeat {queue}:{position}: there is no queue {queue}");
     } else if position > count {
         let deliveries = if count == 1 { "delivery" } else { "deliveries" };
@@ -81,8 +88,8 @@ fn tell_missed_repeat(rt: &HostRuntime, queue: u64, position: u64, turns: &Turns
 }
 
 /// Says where a subscriber never applied so many events.
-fn tell_missed_close(rt: &HostRuntime, subscriber: u64, count: u64, printed: &[u8]) {
-    match applied_by(printed, subscriber) {
+fn tell_missed_close(rt: &HostRuntime, subscriber: u64, count: u64, applied: &Applied) {
+    match applied.by(subscriber) {
         None => {
             let _ = eprintln!(rt;
                 "relayplum: --close {subscriber}:{count}: there is no subscriber {subscriber}"
@@ -98,17 +105,36 @@ fn tell_missed_close(rt: &HostRuntime, subscriber: u64, count: u64, printed: &[u
     }
 }
 
-/// How many events the subscriber of this number has applied, as its printed line says; nothing where it has none.
-pub fn applied_by(printed: &[u8], number: u64) -> Option<u64> {
-    for line in printed.split(|byte| *byte == b'\n') {
-        let mut words = line.split(|byte| *byte == b' ');
-        if words.next() == Some(b"subscriber".as_slice())
-            && number_of(words.next()) == Some(number)
-        {
-            return number_of(words.nth(1));
+/// How many events each subscriber of a run has applied.
+pub struct Applied {
+    /// By its number, from 1; nothing where there is none of this number.
+    counts: [Option<u64>; 8],
+}
+
+impl Applied {
+    /// What the printed lines of the subscribers say.
+    pub fn in_text(printed: &[u8]) -> Applied {
+        let mut counts = [None; 8];
+        for line in printed.split(|byte| *byte == b'\n') {
+            let mut words = line.split(|byte| *byte == b' ');
+            if words.next() == Some(b"subscriber".as_slice()) {
+                if let Some(number) = number_of(words.next()) {
+                    if let Some(count) = counts.get_mut(number.wrapping_sub(1) as usize) {
+                        *count = number_of(words.nth(1));
+                    }
+                }
+            }
+        }
+        Applied { counts }
+    }
+
+    /// How many events the subscriber of this number has applied, if there is one.
+    pub fn by(&self, number: u64) -> Option<u64> {
+        match self.counts.get(number.wrapping_sub(1) as usize) {
+            Some(count) => *count,
+            None => None,
         }
     }
-    None
 }
 
 /// The number that a word says.

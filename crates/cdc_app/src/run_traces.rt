@@ -1,6 +1,6 @@
 //! What a run came to besides its report, on standard error. Where memory runs out for it, it isn't told.
 
-use crate::run_faults::applied_by;
+use crate::run_faults::Applied;
 use crate::run_turns::Turns;
 use cdc_telling::{repeat_lines, story_lines, subscriber_line};
 
@@ -15,8 +15,9 @@ pub fn trace_run(rt: &HostRuntime, turns: &Turns, printed: &[u8]) {
     for number in 1..9 {
         trace_repeats(rt, turns, number);
     }
+    let applied = Applied::in_text(printed);
     for number in 1..9 {
-        trace_subscriber(rt, turns, printed, number);
+        trace_subscriber(rt, turns, &applied, number);
     }
 }
 
@@ -30,8 +31,8 @@ fn trace_repeats(rt: &HostRuntime, turns: &Turns, number: u64) {
 }
 
 /// Says how many deliveries came to the subscriber of this number, if there is one, and what it did with them.
-fn trace_subscriber(rt: &HostRuntime, turns: &Turns, printed: &[u8], number: u64) {
-    let Some(applied) = applied_by(printed, number) else {
+fn trace_subscriber(rt: &HostRuntime, turns: &Turns, applied: &Applied, number: u64) {
+    let Some(applied) = applied.by(number) else {
         return;
     };
     let deliveries = turns.deliveries(number);

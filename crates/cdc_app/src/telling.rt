@@ -7,10 +7,12 @@ ghost use Rattle.cdc_types.specs.Windows.{IsWindow};
 use crate::advice::shown_name;
 use crate::kept::Seen;
 use crate::options::{STANDARD_ERROR, Telling};
+use cdc_commands::Ending;
 use cdc_telling::{
-    RefusedStep, RunTold, Tally, books_lines, has_one_client, run_told, script_notes,
+    RefusedStep, RunTold, Tally, books_lines, names_no_client, run_told, script_notes,
     simulation_told,
 };
+use cdc_world::StepError;
 use std::fs;
 use std::fs::OpenOptions;
 use std::io::Read;
@@ -74,14 +76,25 @@ pub fn hint(rt: &HostRuntime, tally: Tally, why: &str) {
 }
 
 /// Notes what a good script says that may not be meant. Where it is run on threads, the batches of several clients come
-/// in any order, and nothing is said of their moments.
+/// in any order, and of a script that names clients nothing is said of their moments.
 pub fn note(rt: &HostRuntime, script: Seen<'_>, is_run: bool) {
     let Some(bytes) = script.bytes else {
         return;
     };
-    let is_in_order = !is_run || has_one_client(bytes);
+    let is_in_order = !is_run || names_no_client(bytes);
     if let Some(text) = script_notes(rt.alloc(), shown_name(script.name), bytes, is_in_order) {
         let _ = eprint!(rt; "{text}");
+    }
+}
+
+/// Whether a simulation that ended so is to be told: a step was refused, or something was asked for and it was done.
+/// Played once more, a step that lacked memory may have it.
+pub fn is_told(ending: Ending, telling: Telling<'_>) -> bool {
+    match ending {
+        Ending::Refused(StepError::OutOfMemory) => false,
+        Ending::Refused(_) => true,
+        Ending::Done => telling.explain || telling.trace || telling.diagram.is_some(),
+        _ => false,
     }
 }
 
@@ -141,16 +154,21 @@ pub fn can_draw(rt: &HostRuntime, telling: Telling<'_>, inputs: &[&str]) -> bool
 
 /// Whether a diagram may be written to the file of this name without the loss of anything else: there is none, it is
 /// empty or holds a diagram, or it is no regular file, as a pipe.
-fn may_draw(rt: &HostRuntime, file: &str) -> bool {
-    // (a file that can't be opened is missed when it is written)
-    let Ok(mut file) = OpenOptions::new().read(true).write(true).open(rt, file) else {
-        return true;
+fn may_draw(rt: &HostRuntime, name: &str) -> bool {
+    let Ok(mut file) = OpenOptions::new().read(true).write(true).open(rt, name) else {
+        // (one that can't be written is missed when it is written; what one holds that can't be read nobody knows)
+        return !holds_something(rt, name) || OpenOptions::new().write(true).open(rt, name).is_err();
     };
     let is_regular = file
         .metadata()
         .is_ok_and(|data| data.is_file() && data.len() > 0);
     let mut head = [0; 15];
     !is_regular || file.read_exact(&mut head).is_ok() && head == *DIAGRAM
+}
+
+/// Whether the file of this name is a regular one with something in it.
+fn holds_something(rt: &HostRuntime, name: &str) -> bool {
+    fs::metadata(rt, name).is_ok_and(|data| data.is_file() && data.len() > 0)
 }
 
 /// Writes a diagram to standard error or to the file of this name, and says where that can't be done.

@@ -27,7 +27,7 @@ pub struct TakenBody {
     pub last: Result<Taking, TakeError>,
     /// How many calls were refused.
     pub refused: u64,
-    /// Whether the subscriber's last moment and its count stayed the same at each refusal.
+    /// Whether the subscriber's last moment and its count stayed the same at the first refusal.
     pub kept: bool,
 }
 

@@ -1,6 +1,6 @@
 //! How steps are made by chance.
 
-/// How steps are made by chance. The same chances and the same script make the same steps on every machine.
+/// How steps are made by chance. The same chances, script and window make the same steps on every machine.
 #[derive(Clone, Copy)]
 pub struct Chances {
     /// What the random numbers come from.

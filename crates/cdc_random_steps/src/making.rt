@@ -6,10 +6,10 @@ ghost use Rattle.cdc_types.specs.Windows.{IsWindow};
 use crate::chances::Chances;
 use cdc_match::Binding;
 use cdc_progress::MemoryStore;
-use cdc_script::{ClientBatch, Script, parse_script};
+use cdc_script::{ClientBatch, Script, ScriptError, parse_script};
 use cdc_telling::step_words;
 use cdc_types::{Moment, Step};
-use cdc_world::World;
+use cdc_world::{StepError, World};
 use rand::RngExt;
 use rand_core::SeedableRng;
 use rand_xoshiro::Xoshiro256PlusPlus;
@@ -27,9 +27,9 @@ enum Draw {
     Batch,
     /// A step.
     Step(Step),
-    /// The packet that would arrive next never does.
+    /// The packet that would arrive next is left out; only a fault may bring it later.
     LosePacket,
-    /// The confirm that would come next never does.
+    /// The confirm that would come next is left out; only a fault may bring it later.
     LoseConfirm,
 }
 
@@ -42,9 +42,9 @@ struct Maker {
     batches: IntoIter<ClientBatch>,
     /// Whether no further batch is handed in.
     batches_done: bool,
-    /// How many packets have come to the broker for the first time, or never will.
+    /// The greatest number of a packet that has come to the broker or was left out.
     arrived: u64,
-    /// How many confirms have come to a session for the first time, or never will.
+    /// The greatest number of a confirm that has come to a session or was left out.
     answered: u64,
     /// Whether something was lost that the session waits for.
     is_waiting: bool,
@@ -52,7 +52,7 @@ struct Maker {
     runs: bool,
     /// Whether a confirm came since the last save.
     has_news: bool,
-    /// The steps, a line for each.
+    /// The steps and what was left out, a line for each.
     text: String,
 }
 
@@ -66,8 +66,10 @@ pub fn random_steps(
 ) -> Result<String, AllocError>
     requires { IsWindow window }
 {
-    let Ok(Script { bindings, batches }) = parse_script(alloc, script) else {
-        return Ok(String::new(alloc));
+    let Script { bindings, batches } = match parse_script(alloc, script) {
+        Ok(script) => script,
+        Err(ScriptError::Fault(_)) => return Ok(String::new(alloc)),
+        Err(ScriptError::OutOfMemory) => return Err(AllocError),
     };
     let mut maker = Maker {
         rng: Xoshiro256PlusPlus::seed_from_u64(chances.seed),
@@ -288,8 +290,10 @@ impl Maker {
         if matches!(step, Step::CloseLedger) && world.ledger().closed() {
             return Ok(false);
         }
-        if world.step(alloc, step).is_err() {
-            return Ok(false);
+        match world.step(alloc, step) {
+            Ok(_) => {}
+            Err(StepError::OutOfMemory) => return Err(AllocError),
+            Err(_) => return Ok(false),
         }
         self.follow(step);
         let words = step_words(step);
@@ -314,7 +318,7 @@ impl Maker {
         }
     }
 
-    /// The next packet of so many never arrives, if there is one.
+    /// Leaves out the next packet of so many, if there is one.
     fn lose_packet(&mut self, count: u64) -> Result<bool, AllocError> {
         if self.arrived >= count {
             return Ok(false);
@@ -322,10 +326,10 @@ impl Maker {
         self.arrived += 1;
         self.is_waiting = true;
         let number = self.arrived;
-        done_if(writeln!(self.text, "# packet {number} is lost").is_ok())
+        done_if(writeln!(self.text, "# packet {number} is left out").is_ok())
     }
 
-    /// The next confirm of so many never comes, if there is one.
+    /// Leaves out the next confirm of so many, if there is one.
     fn lose_confirm(&mut self, count: u64) -> Result<bool, AllocError> {
         if self.answered >= count {
             return Ok(false);
@@ -333,7 +337,7 @@ impl Maker {
         self.answered += 1;
         self.is_waiting = true;
         let number = self.answered;
-        done_if(writeln!(self.text, "# confirm {number} is lost").is_ok())
+        done_if(writeln!(self.text, "# confirm {number} is left out").is_ok())
     }
 }
 

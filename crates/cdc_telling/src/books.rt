@@ -6,6 +6,7 @@ ghost use Rattle.cdc_script.specs.Scripts.{script_of};
 use crate::items::ItemLines;
 use cdc_ledger::Ledger;
 use cdc_script::{ClientBatch, parse_script};
+use cdc_types::Batch;
 use std::alloc::Global;
 
 /// A line for each item of a script that wasn't accepted, and for each batch that was refused. The script is named to a
@@ -22,12 +23,22 @@ pub fn books_lines(alloc: Global, name: &str, script: &[u8]) -> Option<String>
 }
 
 /// Hands batches to a new ledger, and adds what is to be said of each.
-fn push_batches(alloc: Global, batches: &[ClientBatch], lines: &mut ItemLines<'_>) {
+pub(crate) fn push_batches(alloc: Global, batches: &[ClientBatch], lines: &mut ItemLines<'_>) {
     let mut ledger = Ledger::new(alloc);
     for item in batches {
-        match ledger.submit(alloc, &item.batch) {
-            Ok(results) => lines.push_results(&item.batch, &results, &ledger),
-            Err(refusal) => lines.push_refusal(&item.batch, refusal),
-        }
+        push_batch(alloc, &item.batch, &mut ledger, lines);
+    }
+}
+
+/// Hands a batch to a ledger, and adds what is to be said of it.
+pub(crate) fn push_batch(
+    alloc: Global,
+    batch: &Batch,
+    ledger: &mut Ledger,
+    lines: &mut ItemLines<'_>,
+) {
+    match ledger.submit(alloc, batch) {
+        Ok(results) => lines.push_results(batch, &results, ledger),
+        Err(refusal) => lines.push_refusal(batch, refusal),
     }
 }

@@ -20,7 +20,8 @@ use std::alloc::{AllocError, Global};
 /// What is told of a fault.
 #[derive(Drop)]
 pub struct FaultTold {
-    /// The column in which the word at fault begins, in bytes from 1; 0 where the fault is the file's as a whole.
+    /// The column in which the word at fault begins, in bytes from 1; that of the byte itself where it isn't printable
+    /// ASCII; 0 where the fault is the file's as a whole.
     pub column: u64,
     /// The word at fault; empty where one is missing, or the fault is the file's. A byte that can't be shown is a
     /// question mark, and of a long word its beginning stands here.

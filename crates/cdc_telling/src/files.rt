@@ -50,7 +50,7 @@ pub(crate) fn script_sentence(kind: FaultKind) -> Sentence {
     }
 }
 
-/// What a step file has to have where it has this fault. It has the faults of words and numbers alone.
+/// What a step file has to have where it has this fault. It has no fault of bindings, batches or clients.
 pub(crate) fn steps_sentence(kind: FaultKind) -> Sentence {
     match kind {
         FaultKind::UnknownWord => Sentence::Plain(

@@ -36,7 +36,7 @@ mod texts;
 
 pub use books::books_lines;
 pub use faults::{FaultTold, script_fault_told, steps_fault_told};
-pub use notes::{has_one_client, script_notes};
+pub use notes::{names_no_client, script_notes};
 pub use run_stories::{repeat_lines, story_lines, subscriber_line};
 pub use runs::{RunTold, run_told};
 pub use sentences::Sentence;

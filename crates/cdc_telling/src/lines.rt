@@ -19,7 +19,7 @@ impl<'a> Word<'a> {
     }
 }
 
-/// The line of this number, from 1, without its line feed and without a carriage return right in front of that.
+/// The line of this number, from 1, without its line feed, and without a carriage return at its end.
 pub(crate) fn line_at(text: &[u8], number: u64) -> &[u8] {
     let line = raw_line(text, number);
     line.strip_suffix(b"\r").unwrap_or(line)

@@ -6,8 +6,8 @@ use strsim::osa_distance;
 /// The most bytes of a word that are looked at.
 const LONGEST: usize = 32;
 
-/// The name that is nearest to a word, where one is near enough: it is written in other cases, begins with the word, or
-/// a third of its letters or fewer are other ones. Of several the first.
+/// The name that is nearest to a word, where one is near enough: it is written in other cases, begins with the word
+/// where that has three letters or more, or a third of its letters or fewer are other ones. Of several the first.
 pub(crate) fn nearest<'a>(
     alloc: Global,
     word: &str,

@@ -3,11 +3,11 @@
 
 use crate::places::{Places, first_word};
 use crate::texts::Text;
-use cdc_ledger::Ledger;
+use cdc_ledger::{BatchError, Ledger};
 use cdc_message::decimal_up_to;
 use cdc_script::{ClientBatch, parse_script};
 use cdc_types::{Batch, BatchResults};
-use std::alloc::Global;
+use std::alloc::{AllocError, Global};
 
 /// The flags of a post and of a void.
 const POST: u128 = 4;
@@ -97,7 +97,7 @@ pub fn script_notes(alloc: Global, name: &str, script: &[u8], is_in_order: bool)
 }
 
 /// Whether no line of a script names a client, so that all its batches are one's, and their order is fixed.
-pub fn has_one_client(script: &[u8]) -> bool {
+pub fn names_no_client(script: &[u8]) -> bool {
     !script
         .split(|byte| *byte == b'\n')
         .any(|line| first_word(line) == Some(b"client".as_slice()))
@@ -270,18 +270,22 @@ fn push_transfers(text: &mut Text, name: &str, transfers: Count) {
 fn push_moments(alloc: Global, text: &mut Text, name: &str, script: &[u8]) {
     let places = Places::of(alloc, script);
     let Ok(said) = parse_script(alloc, script) else {
+        text.give_up();
         return;
     };
     let mut count: u64 = 0;
-    if let Some(first) = first_back(alloc, said.batches.as_slice(), &mut count) {
-        let GoesBack { batch, now, last } = first;
-        push_place(text, name, places.batch(batch));
-        text.push_number(now.into());
-        text.push(" is before ");
-        text.push_number(last.into());
-        text.push(": its items count from ");
-        text.push_number(u128::from(last).saturating_add(1));
-        push_count(text, count);
+    match first_back(alloc, said.batches.as_slice(), &mut count) {
+        Ok(Some(GoesBack { batch, now, last })) => {
+            push_place(text, name, places.batch(batch));
+            text.push_number(now.into());
+            text.push(" is before ");
+            text.push_number(last.into());
+            text.push(": its items count from ");
+            text.push_number(u128::from(last).saturating_add(1));
+            push_count(text, count);
+        }
+        Ok(None) => {}
+        Err(_) => text.give_up(),
     }
     if places.lacks_memory {
         text.give_up();
@@ -290,13 +294,19 @@ fn push_moments(alloc: Global, text: &mut Text, name: &str, script: &[u8]) {
 
 /// The first batch whose moment is before a timestamp that a ledger has given out, which all are handed to; and how
 /// many such there are. Batches that are refused, and those that give no timestamp out, don't count.
-fn first_back(alloc: Global, batches: &[ClientBatch], count: &mut u64) -> Option<GoesBack> {
+fn first_back(
+    alloc: Global,
+    batches: &[ClientBatch],
+    count: &mut u64,
+) -> Result<Option<GoesBack>, AllocError> {
     let mut ledger = Ledger::new(alloc);
     let mut first = None;
     for (batch, item) in batches.iter().enumerate() {
         let last = ledger.last();
-        let Ok(results) = ledger.submit(alloc, &item.batch) else {
-            continue;
+        let results = match ledger.submit(alloc, &item.batch) {
+            Ok(results) => results,
+            Err(BatchError::OutOfMemory) => return Err(AllocError),
+            Err(_) => continue,
         };
         let now = now_of(&item.batch);
         if now < last && gives_timestamps(&results) {
@@ -306,7 +316,7 @@ fn first_back(alloc: Global, batches: &[ClientBatch], count: &mut u64) -> Option
             }
         }
     }
-    first
+    Ok(first)
 }
 
 /// The moment of a batch.

@@ -1,5 +1,7 @@
 //! In which order the batches of several clients can have come to a ledger, as the results say that were printed.
 
+ghost use Rattle.std.specs.Prelude.{◌<◌};
+
 use crate::texts::Text;
 use cdc_ledger::{BatchError, Ledger};
 use cdc_script::ClientBatch;
@@ -16,10 +18,12 @@ struct Search<'a> {
     batches: &'a [ClientBatch],
     /// What was printed: a line for each batch, in the order of the script, and then others.
     printed: Vec<&'a [u8]>,
+    /// Of each batch the place of its client's next one, and how many batches there are where it is the last.
+    following: Vec<usize>,
+    /// Of each client the place of the batch that it hands in next, and how many there are where none is left.
+    next: [usize; 4],
     /// The places of the batches that came, in their order.
     order: Vec<usize>,
-    /// Whether each batch came.
-    came: Vec<bool>,
     /// The ledger to which they came.
     ledger: Ledger,
     /// How many batches may still be handed in.
@@ -33,11 +37,13 @@ pub(crate) fn find_order(
     batches: &[ClientBatch],
     printed: &[u8],
 ) -> Result<Option<Vec<usize>>, AllocError> {
+    let mut next = [batches.len(); 4];
     let mut search = Search {
         batches,
         printed: lines_of(alloc, printed)?,
+        following: following(alloc, batches, &mut next)?,
+        next,
         order: Vec::new(alloc),
-        came: none_came(alloc, batches.len())?,
         ledger: Ledger::new(alloc),
         tries: MOST_TRIES,
     };
@@ -58,13 +64,39 @@ fn lines_of(alloc: Global, text: &[u8]) -> Result<Vec<&[u8]>, AllocError> {
     Ok(lines)
 }
 
-/// Of so many batches none came.
-fn none_came(alloc: Global, count: usize) -> Result<Vec<bool>, AllocError> {
-    let mut came = Vec::with_capacity(alloc, count)?;
-    for _ in 0..count {
-        came.push(false)?;
+/// Of each batch the place of its client's next one, and how many batches there are where it is the last. The place of
+/// each client's first one is written down.
+fn following(
+    alloc: Global,
+    batches: &[ClientBatch],
+    first: &mut [usize; 4],
+) -> Result<Vec<usize>, AllocError> {
+    let mut following = Vec::with_capacity(alloc, batches.len())?;
+    let mut latest: [Option<usize>; 4] = [None; 4];
+    for (place, item) in batches.iter().enumerate() {
+        following.push(batches.len())?;
+        let client = client_of(item);
+        match latest[client] {
+            Some(before) => set(&mut following, before, place),
+            None => first[client] = place,
+        }
+        latest[client] = Some(place);
     }
-    Ok(came)
+    Ok(following)
+}
+
+/// The place of a batch's client among the four that a script may have, from 0.
+fn client_of(item: &ClientBatch) -> usize
+    ensures { result < 4 }
+{
+    (item.client.wrapping_sub(1) % 4) as usize
+}
+
+/// Writes a number at a place, where there is one.
+fn set(numbers: &mut Vec<usize>, place: usize, number: usize) {
+    if let Some(at) = numbers.get_mut(place) {
+        *at = number;
+    }
 }
 
 impl<'a> Search<'a> {
@@ -78,38 +110,35 @@ impl<'a> Search<'a> {
             match self.candidate(from) {
                 Some(place) if self.try_batch(alloc, place)? => from = 0,
                 Some(place) => {
-                    self.replay(alloc);
+                    self.replay(alloc)?;
                     from = place.saturating_add(1);
                 }
                 None => match self.order.pop() {
                     Some(place) => {
-                        self.mark(place, false);
-                        self.replay(alloc);
+                        self.take_back(place);
+                        self.replay(alloc)?;
                         from = place.saturating_add(1);
                     }
                     None => return Ok(false),
                 },
             }
             if self.tries == 0 {
-                return Ok(false);
+                break;
             }
         }
-        Ok(false)
+        Ok(self.order.len() == self.batches.len())
     }
 
     /// The first place from this one on of a batch that is the next one of its client.
     fn candidate(&self, from: usize) -> Option<usize> {
-        let mut waiting = [false; 4];
-        for (place, (item, came)) in self.batches.iter().zip(self.came.as_slice()).enumerate() {
-            let client = (item.client.wrapping_sub(1) % 4) as usize;
-            if !*came && !waiting[client] {
-                if place >= from {
-                    return Some(place);
-                }
-                waiting[client] = true;
+        let mut first: Option<usize> = None;
+        for place in self.next.iter() {
+            let is_there = *place >= from && *place < self.batches.len();
+            if is_there && first.map_or(true, |found| *place < found) {
+                first = Some(*place);
             }
         }
-        None
+        first
     }
 
     /// Hands in the batch at a place, which comes next where it has the results that were printed. Answers whether it
@@ -119,7 +148,11 @@ impl<'a> Search<'a> {
             return Ok(false);
         };
         self.tries = self.tries.saturating_sub(1);
-        let line = line_of(alloc, place, self.ledger.submit(alloc, &item.batch))?;
+        let answer = self.ledger.submit(alloc, &item.batch);
+        if let Err(BatchError::OutOfMemory) = answer {
+            return Err(AllocError);
+        }
+        let line = line_of(alloc, place, answer)?;
         let Some(printed) = self.printed.get(place) else {
             return Ok(false);
         };
@@ -127,26 +160,31 @@ impl<'a> Search<'a> {
             return Ok(false);
         }
         self.order.push(place)?;
-        self.mark(place, true);
+        if let Some(next) = self.following.get(place) {
+            self.next[client_of(item)] = *next;
+        }
         Ok(true)
     }
 
-    /// Marks whether the batch at a place came.
-    fn mark(&mut self, place: usize, came: bool) {
-        if let Some(mark) = self.came.get_mut(place) {
-            *mark = came;
+    /// The batch at a place, the last one of its client that came, is to come again.
+    fn take_back(&mut self, place: usize) {
+        if let Some(item) = self.batches.get(place) {
+            self.next[client_of(item)] = place;
         }
     }
 
     /// Hands the batches that came to a new ledger.
-    fn replay(&mut self, alloc: Global) {
+    fn replay(&mut self, alloc: Global) -> Result<(), AllocError> {
         self.ledger = Ledger::new(alloc);
         self.tries = self.tries.saturating_sub(self.order.len());
         for place in self.order.as_slice() {
             if let Some(item) = self.batches.get(*place) {
-                let _ = self.ledger.submit(alloc, &item.batch);
+                if let Err(BatchError::OutOfMemory) = self.ledger.submit(alloc, &item.batch) {
+                    return Err(AllocError);
+                }
             }
         }
+        Ok(())
     }
 }
 

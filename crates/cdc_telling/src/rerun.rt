@@ -175,7 +175,7 @@ fn saved_in(world: &mut World<MemoryStore>) -> Option<Progress> {
     }
 }
 
-/// Tells how many events are left out before a start, where one was asked for.
+/// Tells how many events are left out up to a start, where one was asked for.
 fn tell_left_out(world: &mut World<MemoryStore>, told: &mut Retold<'_>) {
     let start = match saved_in(world) {
         Some(saved) => saved.start(),

@@ -32,10 +32,10 @@ pub(crate) fn account_sentence(answer: AccountResult, request: &NewAccount) -> S
         AccountResult::LedgerMustNotBeZero => Sentence::Plain("an account's ledger is never 0"),
         AccountResult::CodeMustNotBeZero => Sentence::Plain("an account's code is never 0"),
         AccountResult::ExistsWithDifferentFields => {
-            Sentence::One("account ", id, " is there already, with other fields")
+            Sentence::One("account ", id, " came before it, with other fields")
         }
         AccountResult::Exists => {
-            Sentence::One("account ", id, " is there already, with the same fields")
+            Sentence::One("account ", id, " came before it, with the same fields")
         }
         AccountResult::LinkedEventFailed => Sentence::Plain(LINKED_FAILED),
         AccountResult::LinkedEventChainOpen => Sentence::Plain(CHAIN_OPEN),
@@ -54,13 +54,16 @@ pub(crate) fn transfer_sentence(
     if let Some(sentence) = plain_sentence(answer, request, ledger) {
         return sentence;
     }
-    match ledger.transfer(request.pending_id) {
-        Some(pending) => settling_sentence(answer, pending),
-        None if answer == TransferResult::PendingTransferNotFound => Sentence::One(
-            "there is no transfer ",
+    // (a later one of the batch may have made it)
+    if answer == TransferResult::PendingTransferNotFound {
+        return Sentence::One(
+            "there was no transfer ",
             request.pending_id,
             " to post or void",
-        ),
+        );
+    }
+    match ledger.transfer(request.pending_id) {
+        Some(pending) => settling_sentence(answer, pending),
         // (it was there while the chain was looked at, and isn't stored)
         None => Sentence::One(
             "transfer ",
@@ -118,10 +121,10 @@ fn plain_sentence(
     } = *request;
     match answer {
         TransferResult::ExistsWithDifferentFields => {
-            Some(Sentence::One("transfer ", id, " is there already, with other fields"))
+            Some(Sentence::One("transfer ", id, " came before it, with other fields"))
         }
         TransferResult::Exists => {
-            Some(Sentence::One("transfer ", id, " is there already, with the same fields"))
+            Some(Sentence::One("transfer ", id, " came before it, with the same fields"))
         }
         TransferResult::DebitAccountNotFound => {
             Some(Sentence::One("there is no account ", debit, " to debit"))
@@ -255,10 +258,10 @@ fn settled_sentence(answer: TransferResult, pending: &Transfer) -> Sentence {
     let id = pending.id;
     match answer {
         TransferResult::PendingTransferAlreadyPosted => {
-            Sentence::One("transfer ", id, " was posted already")
+            Sentence::One("a post of transfer ", id, " came before it")
         }
         TransferResult::PendingTransferAlreadyVoided => {
-            Sentence::One("transfer ", id, " was voided already")
+            Sentence::One("a void of transfer ", id, " came before it")
         }
         TransferResult::PendingTransferExpired => {
             Sentence::One("its timeout ended at ", expires_at(pending), "")

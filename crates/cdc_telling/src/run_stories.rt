@@ -10,13 +10,28 @@ use std::alloc::{AllocError, Global};
 /// for one of them, a line says so. An error is want of memory.
 pub fn story_lines(alloc: Global, story: &Story) -> Result<String, AllocError> {
     let mut text = Text::new(alloc);
+    let mut sendings = story.sendings().to_vec(alloc)?;
+    sendings.sort_by_key(|sending| sending.carried.order())?;
     let mut last = None;
-    for _ in story.sendings() {
-        let Some(sending) = next_sending(story.sendings(), last) else {
-            break;
-        };
-        push_sendings(&mut text, story, &sending.carried);
-        last = Some(sending.carried.order());
+    for sending in sendings.as_slice() {
+        let order = sending.carried.order();
+        if last != Some(order) {
+            if last.is_some() {
+                text.push("\n");
+            }
+            push_first(&mut text, story.spans(), sending);
+            last = Some(order);
+        } else {
+            push_sending(
+                &mut text,
+                "; sent again by session ",
+                sending.session,
+                sending.fate,
+            );
+        }
+    }
+    if last.is_some() {
+        text.push("\n");
     }
     if !story.is_whole() {
         text.push("there was no memory to tell of all publishes\n");
@@ -24,46 +39,19 @@ pub fn story_lines(alloc: Global, story: &Story) -> Result<String, AllocError> {
     text.finish()
 }
 
-/// The first sending of what comes next in the ledger's order behind this place.
-fn next_sending(sendings: &[Sending], behind: Option<u64>) -> Option<Sending> {
-    let mut next: Option<Sending> = None;
-    for sending in sendings {
-        let order = sending.carried.order();
-        if behind.map_or(true, |last| last < order)
-            && next.map_or(true, |found| order < found.carried.order())
-        {
-            next = Some(*sending);
-        }
-    }
-    next
-}
-
-/// Adds the line of what is carried: how it was sent, each time.
-fn push_sendings(text: &mut Text, story: &Story, carried: &Carried) {
-    let order = carried.order();
-    push_carried(text, carried);
+/// Adds the first publish of something that there is something to tell of.
+fn push_first(text: &mut Text, spans: &[Span], sending: &Sending) {
+    push_carried(text, &sending.carried);
     text.push(": ");
-    let mut is_first = true;
-    for sending in story.sendings() {
-        if sending.carried.order() != order {
-            continue;
+    let mut words = "sent by session ";
+    if sending.is_again {
+        // (only what was taken and confirmed at once isn't noted)
+        if let Some(session) = first_session(spans, sending.carried.order()) {
+            push_sending(text, words, session, Fate::Taken);
+            words = "; sent again by session ";
         }
-        if is_first && sending.is_again {
-            // (only what was taken and confirmed at once isn't noted)
-            if let Some(session) = first_session(story.spans(), order) {
-                push_sending(text, "sent by session ", session, Fate::Taken);
-                is_first = false;
-            }
-        }
-        let words = if is_first {
-            "sent by session "
-        } else {
-            "; sent again by session "
-        };
-        push_sending(text, words, sending.session, sending.fate);
-        is_first = false;
     }
-    text.push("\n");
+    push_sending(text, words, sending.session, sending.fate);
 }
 
 /// The first session that published what stands at this place of the ledger's order.
@@ -142,27 +130,37 @@ pub fn subscriber_line(
     push_count(&mut text, deliveries, " delivery, ", " deliveries, ");
     text.push_number(u128::from(applied));
     text.push(" applied, each once");
-    let mut others = deliveries.saturating_sub(applied);
-    if let Some(repeats) = repeats {
-        if repeats.is_whole() {
+    let others = deliveries.saturating_sub(applied);
+    match repeats {
+        Some(repeats) if repeats.is_whole() => {
             let again = repeats.as_slice().len() as u64;
             text.push("; ");
             text.push_number(u128::from(again));
             text.push(" came again, applied no second time");
-            others = others.saturating_sub(again);
+            push_others(&mut text, others.saturating_sub(again), "");
         }
-    }
-    match others {
-        0 => {}
-        1 => text.push("; the other one is an end mark, or came after a close"),
-        _ => {
-            text.push("; the other ");
-            text.push_number(u128::from(others));
-            text.push(" are end marks, or came after a close");
-        }
+        _ => push_others(&mut text, others, " came again,"),
     }
     text.push("\n");
     text.finish()
+}
+
+/// Adds what so many other deliveries may have been, behind these words.
+fn push_others(text: &mut Text, others: u64, words: &str) {
+    match others {
+        0 => {}
+        1 => {
+            text.push("; the other one");
+            text.push(words);
+            text.push(" is an end mark, or came after a close");
+        }
+        _ => {
+            text.push("; the other ");
+            text.push_number(u128::from(others));
+            text.push(words);
+            text.push(" are end marks, or came after a close");
+        }
+    }
 }
 
 /// Adds a count, with one of these words behind it.

@@ -1,6 +1,7 @@
 //! Why items of a run weren't accepted: its batches are handed to a ledger once more, in an order in which they come to
 //! the results that were printed, and what it answers is told.
 
+use crate::books::{push_batch, push_batches};
 use crate::items::ItemLines;
 use crate::orders::find_order;
 use crate::results::item_count;
@@ -53,45 +54,33 @@ fn tell_batches(
     printed: &[u8],
     lines: &mut ItemLines<'_>,
 ) -> Result<Order, AllocError> {
+    if has_one_client(batches) {
+        push_batches(alloc, batches, lines);
+        return Ok(Order::Lone);
+    }
     let Some(order) = find_order(alloc, batches, printed)? else {
         return Ok(Order::Unknown);
     };
+    let items = items_before(alloc, batches)?;
     let mut ledger = Ledger::new(alloc);
     for place in order.as_slice() {
-        tell_batch(alloc, batches, *place, &mut ledger, lines);
+        if let (Some(item), Some(before)) = (batches.get(*place), items.get(*place)) {
+            lines.go_to(*place, *before);
+            push_batch(alloc, &item.batch, &mut ledger, lines);
+        }
     }
-    if has_one_client(batches) {
-        Ok(Order::Lone)
-    } else {
-        Ok(Order::Found)
-    }
+    Ok(Order::Found)
 }
 
-/// Hands the batch at a place to the ledger, and adds what is to be said of it.
-fn tell_batch(
-    alloc: Global,
-    batches: &[ClientBatch],
-    place: usize,
-    ledger: &mut Ledger,
-    lines: &mut ItemLines<'_>,
-) {
-    let Some(item) = batches.get(place) else {
-        return;
-    };
-    lines.go_to(place, items_before(batches, place));
-    match ledger.submit(alloc, &item.batch) {
-        Ok(results) => lines.push_results(&item.batch, &results, ledger),
-        Err(refusal) => lines.push_refusal(&item.batch, refusal),
-    }
-}
-
-/// How many items the batches before a place have.
-fn items_before(batches: &[ClientBatch], place: usize) -> usize {
+/// How many items stand before each batch.
+fn items_before(alloc: Global, batches: &[ClientBatch]) -> Result<Vec<usize>, AllocError> {
+    let mut counts = Vec::with_capacity(alloc, batches.len())?;
     let mut count: usize = 0;
-    for item in batches.iter().take(place) {
+    for item in batches {
+        counts.push(count)?;
         count = count.saturating_add(item_count(&item.batch));
     }
-    count
+    Ok(counts)
 }
 
 /// Whether all batches are one client's.

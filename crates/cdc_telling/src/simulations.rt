@@ -14,7 +14,7 @@ use std::alloc::{AllocError, Global};
 /// What is told of a simulation. Lines end with a line feed.
 #[derive(Drop)]
 pub struct Told {
-    /// A line for each item that wasn't accepted: why; and one for the events that are left out before a start.
+    /// A line for each item that wasn't accepted: why; and one for the events that are left out up to a start.
     pub items: String,
     /// A line for each step that was done: what it did.
     pub trace: String,
