@@ -106,6 +106,7 @@ fn tell_missed_close(rt: &HostRuntime, subscriber: u64, count: u64, applied: &Ap
 }
 
 /// How many events each subscriber of a run has applied.
+#[derive(Clone, Copy)]
 pub struct Applied {
     /// By its number, from 1; nothing where there is none of this number.
     counts: [Option<u64>; 8],
