@@ -289,7 +289,7 @@ fn the_longest_body_is_read(rt: HostRuntime) -> Result<(), Fail> {
     Ok(())
 }
 
-// Texts that begin as the body does, or read like it but for a number.
+// Texts that begin as the body does, or read like it but for a number or the kind.
 #[test]
 fn a_body_that_was_written_and_spoilt_is_refused(rt: HostRuntime) -> Result<(), Fail> {
     let alloc = rt.alloc();

@@ -1,4 +1,4 @@
-//! Each public call: on a small text, and on one of the greatest size.
+//! Scripts and steps of small texts; a script of the greatest size, one of a byte more, and a read that fails.
 
 use cdc_script::{
     Act, FaultKind, ReadError, Script, parse_script, parse_steps, read_script, read_steps,
@@ -14,7 +14,7 @@ use std::test::Fail;
 const SCRIPT: &[u8] =
     b"subscriber all\nsubscriber any ledger=7\naccounts 5\naccount id=1 ledger=7 code=1\nclient 2\npulse 9\n";
 
-/// How many subscribers, batches and items of the first batch a script has, and whose its last batch is.
+/// How many subscribers and batches a script has, and whose its last batch is.
 fn shape_of(script: &Script) -> (usize, usize, u64) {
     let batches = script.batches.as_slice();
     let last = match batches.last() {

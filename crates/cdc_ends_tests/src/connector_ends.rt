@@ -1,4 +1,5 @@
-//! That an end whose peer is gone says so, and says the same from then on.
+//! That an end whose peer is gone says so, and says the same from then on; and that a connector begins, or refuses a
+//! start that isn't allowed.
 
 use crate::hearing::hears_of_a_loss;
 use cdc_ends::{ConnectorEnd, RunFault, Turn};

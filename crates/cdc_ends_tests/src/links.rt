@@ -29,7 +29,7 @@ impl Message for Note {
     ghost may_follow = { λ j before note. (note.0.sender ≡ j) × (note.0.place ≡ length before) };
 }
 
-// A message that owns memory, and names how much all before it say together.
+// A message that owns memory, and names a number below 10.
 #[derive(Debug, Drop)]
 struct Letter {
     text: String,
@@ -79,7 +79,7 @@ fn send_one_and_hang_up<R: Wait + Abort>(
     out.hang_up(rt)
 }
 
-// Receives so many notes of two senders: of each they come in its order.
+// Receives so many notes of three senders at most: of each they come in its order.
 fn receive_notes<R: Wait + Abort>(rt: &R, mut into: LinkIn<Note>, count: u64) -> LinkIn<Note>
     ensures { (result.link ≡ into.link) × (result.senders ≡ into.senders) }
 {

@@ -209,7 +209,7 @@ fn a_damaged_file_is_no_record(rt: HostRuntime) -> Result<(), Fail> {
         let answer = load_of(&rt, path.as_str(), text)?;
         assert_eq!(rt; answer, Err(StoreError::BadRecord), "{text}");
     }
-    // the longest record, and one byte behind it
+    // each record, and one byte behind it
     for (_, _, _, text) in RECORDS {
         let longer = format!(in rt.alloc(); "{text}0")?;
         let answer = load_of(&rt, path.as_str(), longer.as_str())?;

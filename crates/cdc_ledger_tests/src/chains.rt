@@ -338,7 +338,8 @@ fn thousand_linked(
     }
 }
 
-// A chain of a thousand that fails at its last item leaves balances and log as they were; the same one is then taken.
+// A chain of a thousand that fails at its last item leaves balances and log as they were; the same one with
+// a good last item is then taken.
 fn takes_chain_of_thousand(
     rt: &impl Abort,
     alloc: Global,

@@ -42,14 +42,14 @@ fn pending_transfers_come_to_their_end(rt: HostRuntime) -> Result<(), Fail> {
     row(&rt, rt.alloc(), 0, &steps, &events)
 }
 
-// A limit on debits counts what is pending; what is asked for again exists.
+// A limit on debits holds from the first transfer on; what it refused isn't there to be voided.
 #[test]
 fn sums_keep_to_a_limit(rt: HostRuntime) -> Result<(), Fail> {
     let steps = [(2000, 0, 2, 0, 1, 0, 36), (2000, 8, 3, 2, 0, 0, 18)];
     row(&rt, rt.alloc(), 2, &steps, &[])
 }
 
-// Sums fit 128 bits, pending and posted together.
+// Sums fit 128 bits, pending and posted together. What is asked for again exists, as it is or with another amount.
 #[test]
 fn sums_fit(rt: HostRuntime) -> Result<(), Fail> {
     let steps = [

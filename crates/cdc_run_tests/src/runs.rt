@@ -1,4 +1,4 @@
-//! Each public function once.
+//! What the other tests leave out: whether a run fits, when a subscriber closes, the open gate.
 
 use cdc_match::Binding;
 use cdc_run::{Config, Faults, Gate, OpenGate, Place};

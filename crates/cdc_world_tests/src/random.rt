@@ -18,7 +18,7 @@ fn recent(count: usize, choice: u64) -> u64 {
     (count as u64).saturating_sub(choice % 2)
 }
 
-// One of all kinds of steps. Of what was sent, something recent comes.
+// One of most kinds of steps. Of what was sent, something recent comes.
 fn random_step(alloc: Global, world: &World<MemoryStore>, random: u64) -> Result<Step, AllocError> {
     let choice = random / 65_536;
     Ok(match (random / 4_294_967_296) % 20 {
