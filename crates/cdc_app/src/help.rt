@@ -22,7 +22,7 @@ Examples:
 
 Exit status:
   0  all was done
-  1  a read, a write or memory failed: the last line of standard output names the fault
+  1  a read, a write or memory failed: the last line of standard output names the fault, unless a write failed
   2  the words or the script are bad: standard error says what was expected, and where";
 
 /// Of `messages`.
@@ -36,7 +36,7 @@ Example:
 
 Exit status:
   0  all was done
-  1  a read, a write or memory failed: the last line of standard output names the fault
+  1  a read, a write or memory failed: the last line of standard output names the fault, unless a write failed
   2  the words or the script are bad: standard error says what was expected, and where";
 
 /// Of `simulate`.
@@ -55,7 +55,8 @@ Examples:
 
 Exit status:
   0  all was done
-  1  a read, a write or memory failed: the last line of standard output names the fault; or a step was refused
+  1  a read, a write or memory failed: the last line of standard output names the fault, unless a write failed; or a
+     step was refused
   2  the words, the script or the steps are bad: standard error says what was expected, and where";
 
 /// Of `run`.
@@ -71,5 +72,5 @@ Examples:
 Exit status:
   0  all was done
   1  a read, a write, memory, the store of progress or a thread failed: the last line of standard output names the
-     fault
+     fault, unless a write failed
   2  the words or the script are bad: standard error says what was expected, and where";

@@ -54,7 +54,7 @@ Examples:
 Exit status:
   0  all was done
   1  a read, a write, memory, the store of progress or a thread failed: the last line of standard output names the
-     fault; or a step of a simulation was refused
+     fault, unless a write failed; or a step of a simulation was refused
   2  the words, the script or the steps are bad: standard error says what was expected, and where";
 
 /// What the words of the program ask for, its own name not being one. Without words it is `run -`.
@@ -76,7 +76,7 @@ pub fn options<'a>(alloc: Global, words: &'a [&'a str]) -> Result<Options<'a>, O
     }
     match read_words(alloc, words) {
         Ok(matches) => asked_by(alloc, &matches),
-        Err(error) => answer_to(alloc, words, &error),
+        Err(error) => help_or_fault(alloc, words, &error),
     }
 }
 
@@ -368,7 +368,11 @@ fn all_commands(alloc: Global) -> Result<Vec<Command<'static>>, AllocError> {
 }
 
 /// What clap answers where it finds no command: help or the version, where the words ask for it, or what is wrong.
-fn answer_to<'a>(alloc: Global, words: &[&str], error: &Error) -> Result<Options<'a>, OptionsFault>
+fn help_or_fault<'a>(
+    alloc: Global,
+    words: &[&str],
+    error: &Error,
+) -> Result<Options<'a>, OptionsFault>
     ensures { IfOk result IsWithinLimits }
 {
     if error.kind() == ErrorKind::OutOfMemory {

@@ -1,12 +1,13 @@
 //! What is wrong with a file of progress, and what to do.
 
 use cdc_progress::StoreError;
+use cdc_types::Limits;
 use std::fs;
 use std::fs::File;
 use std::io::Read;
 
 /// The greatest record, in bytes.
-const RECORD_BYTES: usize = 128;
+const RECORD_BYTES: usize = Limits::PROGRESS_BYTES;
 
 /// What is wrong with the file of this name, which a store has met this error with, and what to do.
 pub fn trouble(rt: &HostRuntime, saved: &str, error: StoreError) -> &'static str {

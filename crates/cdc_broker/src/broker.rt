@@ -26,7 +26,7 @@ pub enum Refusal {
 /// What became of a publish.
 #[derive(Clone, Copy, Debug, PartialEq, Eq)]
 pub enum Taken {
-    /// Its item went to the queues.
+    /// Its item went to each queue that takes it.
     Accepted,
     /// It changed nothing, and its item is gone.
     Ignored(Refusal),

@@ -1,4 +1,5 @@
-//! Whether a script, and a step file, are good: the flag `--check` of each command.
+//! Whether a script, and a step file, are good: the flag `--check` of `books`, `messages` and
+//! `simulate`.
 
 ghost use Rattle.std.specs.Prelude.{◌≡◌, ◌+◌, List, Option, ℕ, IfErr, IfOk, IfSome};
 ghost use Rattle.cdc_script.specs.Reading.{ConsumesAtMost};

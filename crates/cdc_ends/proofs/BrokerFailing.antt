@@ -6,7 +6,8 @@ use Rattle.std.proofs.lemmas.Option.{same_Some, slice_get_within}
 use Rattle.cdc_broker.specs.Broker.{BrokerState, queue_of, takes_packet, with_queue}
 use Rattle.cdc_broker.specs.Queues.{QueueState, next_delivery, with_delivery}
 use Rattle.cdc_ends.specs.BrokerDesks.{HasBecome, HasHeard}
-use Rattle.cdc_ends.specs.BrokerEnds.{Dealings, BrokerDesk, IsBrokerDesk, IsConsumerServed, acks_at, confirm_of, dealings, dealings_of, answer_after, counted, deliveries_in, is_lost, packets_in, with_packet}
+use Rattle.cdc_ends.specs.BrokerEnds.{Dealings, BrokerDesk, IsBrokerDesk, IsConsumerServed, acks_at, confirm_of, dealings, dealings_of, answer_after, counted, deliveries_in, is_lost, with_packet}
+use Rattle.cdc_ends.specs.ConnectorEnds.{packets_in}
 use Rattle.cdc_ends.specs.BrokerFails.{AreStopping, HandsSoFar, IsCutOff, IsStuck, IsUnanswered}
 use Rattle.cdc_ends.specs.BrokerSoFar.{BrokersComeSoFar, HasFailed, IsBrokerSoFar, IsServedSoFar, ReceivesAtMostOne}
 use Rattle.cdc_ends.specs.Faults.{IsTurnFault}

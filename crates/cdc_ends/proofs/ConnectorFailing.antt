@@ -2,7 +2,8 @@
 use Rattle.std.proofs.Common.{◌≡◌, ℕ, ◌+◌, true, false, List, [], ◌∷◌, inl, inr, refl, sym, ap, ◌∙◌, subst, length, arith}
 use Rattle.std.specs.Prelude.{◌⊎◌, IsTrue, Bool, Option, Some, None}
 use Rattle.std.proofs.lemmas.List.{length-append}
-use Rattle.cdc_ends.specs.ConnectorEnds.{HasSent, IsAtStart, IsOfSame, IsPublishing, Publishing, SessionStands, confirms_in, connector_of, origin_of}
+use Rattle.cdc_ends.specs.ConnectorEnds.{HasSent, IsAtStart, IsOfSame, IsPublishing, Publishing, confirms_in, connector_of, origin_of}
+use Rattle.cdc_publisher.specs.Stands.{SessionStands}
 use Rattle.cdc_ends.specs.ConnectorFails.{IsAnswerFailed, IsConfirmFailed, IsCutShort, IsHeldOrNext, IsNotBegun, IsSaveRisked, IsUnfinished, IsUnsaved, IsUnsent}
 use Rattle.cdc_ends.specs.ConnectorMoves.{GoesOn, IsAdvanced, IsBegunOrReceived, IsSending}
 use Rattle.cdc_ends.specs.ConnectorSoFar.{HasFailed, IsConnectorSoFar, IsFaultOf, ReceivesAtMostOne}

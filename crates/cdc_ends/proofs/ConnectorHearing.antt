@@ -5,7 +5,8 @@ use Rattle.std.proofs.lemmas.List.{length-append}
 use Rattle.std.proofs.lemmas.List.Elements.{Contains-append_cases}
 use Rattle.std.proofs.lemmas.List.Sums.{fold-append}
 use Rattle.std.proofs.lemmas.Option.{none-some, same_Some}
-use Rattle.cdc_ends.specs.ConnectorEnds.{AreUnanswered, IsAtStart, IsPollOf, IsPublishing, Publishing, SessionStands, confirms_in, connector_of, first_origin, origin_of, packets_in}
+use Rattle.cdc_ends.specs.ConnectorEnds.{AreUnanswered, IsAtStart, IsPollOf, IsPublishing, Publishing, confirms_in, connector_of, first_origin, origin_of, packets_in}
+use Rattle.cdc_publisher.specs.Stands.{SessionStands}
 use Rattle.cdc_ends.specs.ConnectorMoves.{wanted_by}
 use Rattle.cdc_ends.proofs.ConnectorMessages.{confirms-more}
 use Rattle.cdc_ends.proofs.ConnectorSteps.{kept_of, start_held}

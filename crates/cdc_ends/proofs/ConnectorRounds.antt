@@ -4,7 +4,8 @@ use Rattle.std.specs.Prelude.{◌&&◌, Option, Some, None, is_some, if◌then�
 use Rattle.std.proofs.lemmas.Bool.{and_parts, eqb-true}
 use Rattle.std.proofs.lemmas.Bool.Decides.{nat_tests}
 use Rattle.std.proofs.lemmas.Option.{none-some}
-use Rattle.cdc_ends.specs.ConnectorEnds.{FinishedConnectorsAreDone, HasFollowed, HasSent, IsAtRest, IsConnectorEnd, IsDone, IsOfSame, IsPublishing, IsWorkingTurn, Publishing, RisesBy, SessionStands, broken_by, confirms_in, ended_by, finish_if, first_origin, first_work, packets_in, planned_up_to, polls_in, IsAtStart, origin_of, moment_after, saved_by}
+use Rattle.cdc_ends.specs.ConnectorEnds.{FinishedConnectorsAreDone, HasFollowed, HasSent, IsAtRest, IsConnectorEnd, IsDone, IsOfSame, IsPublishing, IsWorkingTurn, Publishing, RisesBy, broken_by, confirms_in, ended_by, finish_if, first_origin, first_work, packets_in, planned_up_to, polls_in, IsAtStart, origin_of, moment_after, saved_by}
+use Rattle.cdc_publisher.specs.Stands.{SessionStands}
 use Rattle.cdc_ends.specs.ConnectorMoves.{IsAdvanced, IsAnswerTaken, IsBegun, IsBegunOrReceived, IsBrokenOff, IsConfirmTaken, IsFollowed, IsHeard, IsReplyTaken, IsSending}
 use Rattle.cdc_ends.proofs.ConnectorHearing.{IsPublishing-answered, IsPublishing-offered, IsPublishing-saved, IsPublishing-unused, confirm_came, number_kept, origin_saved, reply_came}
 use Rattle.cdc_ends.proofs.ConnectorSteps.{GoesOn-begun, IsPublishing-begun, finished-begun, start_held}

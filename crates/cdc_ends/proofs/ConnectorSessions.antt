@@ -1,7 +1,8 @@
 -- How a session of a connector starts.
 use Rattle.std.proofs.Common.{◌≡◌, ℕ, Bool, Option, Some, None, subst}
 use Rattle.std.specs.Prelude.{unwrap_or}
-use Rattle.cdc_ends.specs.ConnectorEnds.{Publishing, SessionStands}
+use Rattle.cdc_ends.specs.ConnectorEnds.{Publishing}
+use Rattle.cdc_publisher.specs.Stands.{SessionStands}
 use Rattle.cdc_ends.specs.ConnectorMoves.{IsBegun}
 use Rattle.cdc_progress.specs.Records.{Saved}
 use Rattle.cdc_progress.specs.Stores.{Risks}

@@ -4,7 +4,7 @@ use Rattle.std.specs.Prelude.{◌==◌, ◌<◌, Option, Some, None, Result, Ok,
 use Rattle.std.specs.Option.{option_map}
 use Rattle.std.proofs.lemmas.List.{length-append}
 use Rattle.std.proofs.lemmas.Option.{none-some, same_Some}
-use Rattle.cdc_ends.specs.ConnectorEnds.{AreUnanswered, HasSent, IsAtStart, IsPollOf, IsPublishing, Origin, Publishing, SessionStands, confirms_in, connector_of, packets_in, first_origin, origin_of, poll_for}
+use Rattle.cdc_ends.specs.ConnectorEnds.{AreUnanswered, HasSent, IsAtStart, IsPollOf, IsPublishing, Origin, Publishing, confirms_in, connector_of, packets_in, first_origin, origin_of, poll_for}
 use Rattle.cdc_ends.specs.ConnectorMoves.{GoesOn, IsBegun, finished_if, publish_count, with_poll}
 use Rattle.cdc_ends.proofs.ConnectorMessages.{HasSent-finished, HasSent-packet, HasSent-poll, IsPacket-next, packets-finished, packets-more, to_broker_goes_on, to_ledger_goes_on}
 use Rattle.cdc_laws.specs.Connectors.{ConnectorState, KeepsTo, held_number, held_start}
@@ -17,7 +17,7 @@ use Rattle.cdc_publisher.specs.Courses.{Course, begun, first_saved, last_session
 use Rattle.cdc_publisher.specs.declared.errors.StartError.{StartError}
 use Rattle.cdc_publisher.specs.declared.errors.StartError.TheVariants.{SessionsExhausted}
 use Rattle.cdc_publisher.specs.SessionState.{SessionState}
-use Rattle.cdc_publisher.specs.Stands.{StandsFor}
+use Rattle.cdc_publisher.specs.Stands.{StandsFor, SessionStands}
 use Rattle.cdc_publisher.specs.declared.session.Poll.{Poll as Wanted}
 use Rattle.cdc_publisher.proofs.Wanted.{IsWanted-now, packets_keep}
 use Rattle.cdc_traffic.specs.Following.{FollowsToBroker, FollowsToLedger}

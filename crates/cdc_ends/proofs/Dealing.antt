@@ -7,7 +7,8 @@ use Rattle.std.proofs.lemmas.List.Elements.{Contains-push, Contains-push_cases, 
 use Rattle.std.proofs.lemmas.List.Sums.{fold-append}
 use Rattle.cdc_broker.specs.Broker.{BrokerState, after_packet, takes_packet}
 use Rattle.cdc_broker.specs.Packets.{is_taken, is_taken_at, items_of}
-use Rattle.cdc_ends.specs.BrokerEnds.{Dealings, BrokerDesk, answer_after, answer_to, as_confirm, confirm_of, counted, dealings, is_listed, is_lost, no_dealings, packet_in, packets_in, with_packet}
+use Rattle.cdc_ends.specs.BrokerEnds.{Dealings, BrokerDesk, answer_after, taken_answer, as_confirm, confirm_of, counted, dealings, is_listed, is_lost, no_dealings, with_packet}
+use Rattle.cdc_ends.specs.ConnectorEnds.{packet_in, packets_in}
 use Rattle.cdc_ends.specs.BrokerTurns.{admitted, answer_if, with_coming, with_counted}
 use Rattle.cdc_ends.specs.declared.broker_plans.BrokerPlan.{BrokerPlan}
 use Rattle.cdc_laws.specs.Arrivals.{taken_after, taken_of}
@@ -91,7 +92,7 @@ passed_confirms_none (Publish s t item) session tag is =
 -- the answer to one that was taken confirms it, or nothing
 taken_confirms_it : (plan : BrokerPlan) (accepted : ℕ) (packet : Packet) (taken : List Packet) (session tag : ℕ)
     → Contains taken packet
-    → confirm_of packet (answer_to plan accepted packet) ≡ record { session = session; answer = Confirmed tag }
+    → confirm_of packet (taken_answer plan accepted packet) ≡ record { session = session; answer = Confirmed tag }
     → (item : Item) × Contains taken (Publish session tag item)
 taken_confirms_it plan accepted (Connect s) taken session tag there is =
     let answers : Connected ≡ Confirmed tag = ap (λ (x : Confirm). x.answer) is in cc
@@ -186,11 +187,12 @@ module _ (made : Dealings) (d : BrokerDesk) (has : HasDealt d.plan made d) (pack
       record {
         planned = refl;
         arrived = HasArrived-answered (after_packet d.broker packet) (made.arrived ++ packet ∷ []) made.confirms
-            (confirm_of packet (answer_to d.plan d.accepted packet))
+            (confirm_of packet (taken_answer d.plan d.accepted packet))
             (HasArrived-taken d.broker made.arrived made.confirms has.arrived packet takes)
             (λ session tag says. taken_confirms_it d.plan d.accepted packet (taken_of (made.arrived ++ packet ∷ []))
             session tag there says);
-        confirmed = confirms_push d.confirms.sent made.confirms (confirm_of packet (answer_to d.plan d.accepted packet))
+        confirmed = confirms_push d.confirms.sent made.confirms
+            (confirm_of packet (taken_answer d.plan d.accepted packet))
             has.confirmed;
         publishes = counts;
         accepted = ap (λ (n : ℕ). counted n packet) has.accepted
@@ -212,7 +214,7 @@ module _ (made : Dealings) (d : BrokerDesk) (has : HasDealt d.plan made d) (pack
 
   -- the answer is the one that is defined
   says : answer_if (takes_packet d.broker packet) packet d ≡ answer_after d.plan (taken_of made.arrived) packet
-  says = ap₂ (λ (b : Bool) (n : ℕ). if b then answer_to d.plan n packet else Ignored) takes_is has.accepted
+  says = ap₂ (λ (b : Bool) (n : ℕ). if b then taken_answer d.plan n packet else Ignored) takes_is has.accepted
 
   -- so all of it is
   pub HasDealt-packet : HasDealt d.plan (with_packet d.plan made packet) (with_coming packet d)

@@ -11,7 +11,8 @@ use Rattle.cdc_broker.specs.Broker.{empty_broker, nobody, queue_of}
 use Rattle.cdc_broker.specs.Packets.{items_of}
 use Rattle.cdc_broker.specs.Queues.{QueueState, empty_queue, next_delivery}
 use Rattle.cdc_ends.specs.BrokerDesks.{HasHeard, MayStop}
-use Rattle.cdc_ends.specs.BrokerEnds.{Dealings, BrokerDesk, IsBrokerEnd, IsBrokerDesk, IsConsumerServed, IsWhole, acks_at, as_confirm, dealings, is_over, no_dealings, packets_in}
+use Rattle.cdc_ends.specs.BrokerEnds.{Dealings, BrokerDesk, IsBrokerEnd, IsBrokerDesk, IsConsumerServed, IsWhole, acks_at, as_confirm, dealings, is_over, no_dealings}
+use Rattle.cdc_ends.specs.ConnectorEnds.{packets_in}
 use Rattle.cdc_ends.specs.BrokerTurns.{HasTurned, IsFreshLink, all_served, first_consumer, first_desk, heard, stopped, stopped_if, with_stop}
 use Rattle.cdc_ends.specs.declared.broker_plans.BrokerPlan.{BrokerPlan}
 use Rattle.cdc_ends.specs.declared.consumers.Consumer.{Consumer}

@@ -6,7 +6,8 @@ use Rattle.std.proofs.lemmas.Option.{slice_get_within}
 use Rattle.cdc_broker.specs.Broker.{BrokerState, after_packet, queue_of, takes_packet}
 use Rattle.cdc_broker.specs.Queues.{QueueState, acknowledged, is_unknown, next_delivery, queued}
 use Rattle.cdc_ends.specs.BrokerDesks.{HasBecome, HasHeard, MayHandOut}
-use Rattle.cdc_ends.specs.BrokerEnds.{Dealings, BrokerDesk, IsBrokerDesk, IsConsumerServed, acks_at, dealings, dealings_of, is_lost, packets_in, with_packet}
+use Rattle.cdc_ends.specs.BrokerEnds.{Dealings, BrokerDesk, IsBrokerDesk, IsConsumerServed, acks_at, dealings, dealings_of, is_lost, with_packet}
+use Rattle.cdc_ends.specs.ConnectorEnds.{packets_in}
 use Rattle.cdc_ends.specs.BrokerTurns.{IsDue, Lane, MayAck, acked_if, coming_if, handed_out, heard, lane_of, served_if, with_ack, with_coming, with_counted, with_lane, with_one_fewer, with_served}
 use Rattle.cdc_ends.specs.declared.consumers.Consumer.{Consumer}
 use Rattle.cdc_ends.proofs.Dealing.{HasDealt, HasDealt-packet, dealings-push, packets_in-push}

@@ -8,7 +8,7 @@ use Rattle.cdc_ends.proofs.ClientReplies.{replies_are_said, replies_may_follow}
 use Rattle.cdc_ledger.specs.History.{History, empty_history}
 use Rattle.cdc_ledger.specs.Submit.{IsLegal, after_batches, history_or, submit, submit_by}
 use Rattle.cdc_links.specs.Links.{LinkId, Outgoing, with_sent}
-use Rattle.cdc_traffic.specs.Answering.{answer_to, reply_to}
+use Rattle.cdc_traffic.specs.Answering.{answer_shown, reply_to}
 use Rattle.cdc_traffic.specs.Following.{FollowsToClient}
 use Rattle.cdc_traffic.specs.Pasts.{history_of}
 use Rattle.cdc_traffic.specs.declared.pasts.Past.{Past}
@@ -130,7 +130,7 @@ reply_is order request number =
     ap (λ (n : ℕ). record {
       number = n;
       batch = request.batch;
-      answer = answer_to (history_of (past_of order)) request.batch;
+      answer = answer_shown (history_of (past_of order)) request.batch;
     }) number
 
 -- it may be sent over the client's link

@@ -5,7 +5,7 @@ use Rattle.std.specs.List.{list_any}
 use Rattle.std.proofs.lemmas.List.{length-map, map-append}
 use Rattle.cdc_ends.specs.Clients.{IsAnswered, IsClient, IsHeard, Talk, done_if, finished_talk, first_words, request_for, requests_from, with_reply}
 use Rattle.cdc_links.specs.Links.{Incoming, Outgoing, with_sent}
-use Rattle.cdc_traffic.specs.Answering.{answer_to}
+use Rattle.cdc_traffic.specs.Answering.{answer_shown}
 use Rattle.cdc_traffic.specs.Following.{FollowsToLedger, ends_to_ledger, has_ended}
 use Rattle.cdc_traffic.specs.Pasts.{history_of}
 use Rattle.cdc_traffic.specs.declared.messages.ToLedger.{ToLedger}
@@ -148,7 +148,7 @@ answered_so old is talks batch number reply requests answers replies next sent h
       past = heard.past;
       number = numbered ∙ count;
       same = same;
-      answer = heard.follows.answer ∙ ap (λ (b : Batch). answer_to (history_of heard.past) b) same;
+      answer = heard.follows.answer ∙ ap (λ (b : Batch). answer_shown (history_of heard.past) b) same;
       legal = heard.follows.legal;
       continues = heard.follows.continues;
       after = λ i. record old { requests = asks i; answers = heard.after i; replies = kept i };

@@ -46,7 +46,7 @@ pub record HasHeard (old new : BrokerDesk) : Type 0 where
   pub due : IsDue entry.1.0 old
   pub after : new ≡ heard entry old
 
--- a publish came to the broker, which took it or passed it over, and this is the answer
+-- a packet came to the broker, which took it or passed it over, and this is the answer
 pub record HasCome (packet : Packet) (old : BrokerDesk) (answer : Answer) (new : BrokerDesk) : Type 0 where
   pub after : new ≡ admitted (takes_packet old.broker packet) packet old
   pub says : answer ≡ answer_if (takes_packet old.broker packet) packet old

@@ -4,6 +4,7 @@ use Rattle.std.specs.List.{list_all, list_any}
 use Rattle.cdc_broker.specs.Broker.{BrokerState, queue_of}
 use Rattle.cdc_broker.specs.Packets.{is_taken, items_of}
 use Rattle.cdc_broker.specs.Queues.{QueueState, next_delivery}
+use Rattle.cdc_ends.specs.ConnectorEnds.{packets_in}
 use Rattle.cdc_ends.specs.declared.broker_plans.BrokerPlan.{BrokerPlan}
 use Rattle.cdc_ends.specs.declared.consumers.Consumer.{Consumer}
 use Rattle.cdc_laws.specs.Arrivals.{AreAmong, taken_of}
@@ -27,15 +28,6 @@ use Rattle.cdc_traffic.specs.declared.pasts.Past.{Past}
 
 -- ---- packets
 
--- the packet of a message, if it has one, and those of the messages that a sender has sent
-abbrev pub packet_in : ToBroker → Option Packet
-packet_in (to_broker.Packet packet) = Some packet
-packet_in to_broker.Finish = None
-packet_in (to_broker.Ack ack) = None
-
-abbrev pub packets_in : List (ToBroker × Unit {0}) → List Packet
-packets_in sent = filter_map (λ m. packet_in m.0) sent
-
 -- a plan names this number, once or more often
 abbrev pub is_listed : List ℕ → ℕ → Bool
 is_listed numbers n = list_any (λ m. m == n) numbers
@@ -52,9 +44,9 @@ is_lost plan publishes (Publish session tag item) = is_listed plan.lose_publish.
 
 -- the answer to a packet that was taken, where so many publishes were accepted before it: the plan names a publish
 -- whose confirm is lost by its place among those that are accepted, from 1
-abbrev pub answer_to : BrokerPlan → ℕ → Packet → Answer
-answer_to plan accepted (Connect session) = Connected
-answer_to plan accepted (Publish session tag item) =
+abbrev pub taken_answer : BrokerPlan → ℕ → Packet → Answer
+taken_answer plan accepted (Connect session) = Connected
+taken_answer plan accepted (Publish session tag item) =
     if is_listed plan.lose_confirm.items (accepted + 1) then Broken else Confirmed tag
 
 -- the answer as a confirm of the packet's session
@@ -74,7 +66,7 @@ no_dealings = record { publishes = 0; arrived = []; confirms = [] }
 -- the answer to a packet that isn't lost, after these were taken
 abbrev pub answer_after : BrokerPlan → List Packet → Packet → Answer
 answer_after plan taken packet =
-    if is_taken taken packet then answer_to plan (length (items_of taken)) packet else Ignored
+    if is_taken taken packet then taken_answer plan (length (items_of taken)) packet else Ignored
 
 -- one more packet: it is answered, and arrives unless it is lost
 abbrev pub with_packet : BrokerPlan → Dealings → Packet → Dealings
@@ -113,15 +105,15 @@ abbrev pub as_sent : Delivery → ToSubscriber × Unit {0}
 as_sent delivery = (to_subscriber.Delivery delivery, tt)
 
 -- the last message to a subscriber, once the broker's end has finished
-abbrev pub stop_if : Bool → List (ToSubscriber × Unit {0})
-stop_if finished = if finished then (to_subscriber.Stop, tt) ∷ [] else []
+abbrev pub stop_sent_if : Bool → List (ToSubscriber × Unit {0})
+stop_sent_if finished = if finished then (to_subscriber.Stop, tt) ∷ [] else []
 
 -- what was sent to a subscriber of whose queue there were so many acknowledgements: deliveries, and the last message
 -- once the broker's end has finished; the queue has handed them out; and of each but at most `prefetch` of them there
 -- was an acknowledgement
 pub record IsConsumerServed (finished : Bool) (prefetch acks : ℕ) (q : QueueState) (c : Consumer) : Type 0 where
   pub broker : c.link.number ≡ 0
-  pub sent : c.link.sent ≡ map as_sent (deliveries_in c.link.sent) ++ stop_if finished
+  pub sent : c.link.sent ≡ map as_sent (deliveries_in c.link.sent) ++ stop_sent_if finished
   pub handed : HasHandedOut q (deliveries_in c.link.sent)
   pub greatest : c.handed ≡ q.handed
   pub copies : length (deliveries_in c.link.sent) ≡ c.unacked + acks

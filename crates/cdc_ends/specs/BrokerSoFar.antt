@@ -2,7 +2,8 @@
 use Rattle.std.specs.Prelude.{◌≡◌, ◌⊎◌, ℕ, ◌+◌, ◌≤◌, Bool, Some, List, [], ◌++◌, length, map, slice_get}
 use Rattle.cdc_broker.specs.Broker.{queue_of}
 use Rattle.cdc_broker.specs.Queues.{QueueState}
-use Rattle.cdc_ends.specs.BrokerEnds.{BrokerDesk, IsBrokerEnd, as_confirm, as_sent, dealings, deliveries_in, packets_in, stop_if}
+use Rattle.cdc_ends.specs.BrokerEnds.{BrokerDesk, IsBrokerEnd, as_confirm, as_sent, dealings, deliveries_in, stop_sent_if}
+use Rattle.cdc_ends.specs.ConnectorEnds.{packets_in}
 use Rattle.cdc_ends.specs.BrokerTurns.{HasSameLinks}
 use Rattle.cdc_ends.specs.Faults.{IsTurnFault}
 use Rattle.cdc_ends.specs.declared.consumers.Consumer.{Consumer}
@@ -23,7 +24,7 @@ use Rattle.cdc_traffic.specs.declared.messages.ToBroker.{ToBroker}
 pub record IsServedSoFar (q : QueueState) (c : Consumer) : Type 0 where
   pub broker : c.link.number ≡ 0
   pub stopped : Bool
-  pub sent : c.link.sent ≡ map as_sent (deliveries_in c.link.sent) ++ stop_if stopped
+  pub sent : c.link.sent ≡ map as_sent (deliveries_in c.link.sent) ++ stop_sent_if stopped
   pub replay : IsReplay (deliveries_in c.link.sent) (deliveries q.items)
 
 -- with a fault or without one: the packets received have come to it, but for the last one perhaps; the broker is what

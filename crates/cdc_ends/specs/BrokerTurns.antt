@@ -3,7 +3,7 @@ use Rattle.std.specs.Prelude.{◌≡◌, ◌==◌, ◌&&◌, ℕ, zero, suc, ◌
 use Rattle.std.specs.List.{list_any}
 use Rattle.cdc_broker.specs.Broker.{BrokerState, after_packet, queue_of, takes_packet, with_queue}
 use Rattle.cdc_broker.specs.Queues.{QueueState, acknowledged, is_unknown, next_delivery, rewound_queue, with_delivery}
-use Rattle.cdc_ends.specs.BrokerEnds.{BrokerDesk, answer_to, as_confirm, as_sent, confirm_of, counted, is_lost, is_over}
+use Rattle.cdc_ends.specs.BrokerEnds.{BrokerDesk, taken_answer, as_confirm, as_sent, confirm_of, counted, is_lost, is_over}
 use Rattle.cdc_ends.specs.declared.broker_plans.BrokerPlan.{BrokerPlan}
 use Rattle.cdc_ends.specs.declared.consumers.Consumer.{Consumer}
 use Rattle.cdc_links.specs.Links.{Incoming, Outgoing, of_sender, with_received, with_sent}
@@ -66,7 +66,7 @@ abbrev pub admitted : Bool → Packet → BrokerDesk → BrokerDesk
 admitted takes packet d = if takes then with_taken packet d else d
 
 abbrev pub answer_if : Bool → Packet → BrokerDesk → Answer
-answer_if takes packet d = if takes then answer_to d.plan d.accepted packet else Ignored
+answer_if takes packet d = if takes then taken_answer d.plan d.accepted packet else Ignored
 
 -- a packet comes: it is lost, and the answer is that it was; or it comes to the broker
 abbrev pub coming_if : Bool → Bool → Packet → BrokerDesk → BrokerDesk

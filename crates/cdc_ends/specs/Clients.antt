@@ -3,7 +3,7 @@ use Rattle.std.specs.Prelude.{◌≡◌, ℕ, ◌+◌, ◌<◌, Bool, true, fals
 use Rattle.cdc_ends.specs.Ends.{EndState}
 use Rattle.cdc_ledger.specs.Submit.{IsLegal}
 use Rattle.cdc_links.specs.Links.{Incoming, Outgoing, of_sender, with_received, with_sent}
-use Rattle.cdc_traffic.specs.Answering.{answer_to}
+use Rattle.cdc_traffic.specs.Answering.{answer_shown}
 use Rattle.cdc_traffic.specs.Following.{FollowsToClient, last_left}
 use Rattle.cdc_traffic.specs.Pasts.{Continues, history_of}
 use Rattle.cdc_traffic.specs.declared.messages.ToLedger.{ToLedger}
@@ -69,7 +69,7 @@ pub record IsAnswered (old : Talk) (batch : Batch) (reply : Reply) (new : Talk) 
   pub past : Past
   pub number : reply.number ≡ length old.replies + 1
   pub same : reply.batch ≡ batch
-  pub answer : reply.answer ≡ answer_to (history_of past) batch
+  pub answer : reply.answer ≡ answer_shown (history_of past) batch
   pub legal : IsLegal (history_of past)
   pub continues : Continues (last_left (of_sender 0 old.answers.received)) past
   pub after : new ≡ with_reply old reply past

@@ -16,7 +16,7 @@ use Rattle.cdc_progress.specs.Stores.{Risks}
 use Rattle.cdc_publisher.specs.Courses.{Course, after_answer, confirmed_timestamp, is_done, next_packet, next_poll}
 use Rattle.cdc_publisher.specs.SessionState.{SessionState}
 use Rattle.cdc_publisher.specs.Polls.{IsWanted}
-use Rattle.cdc_publisher.specs.Stands.{StandsFor}
+use Rattle.cdc_publisher.specs.Stands.{SessionStands}
 use Rattle.cdc_traffic.specs.Following.{FollowsToConnector, IsTold}
 use Rattle.cdc_traffic.specs.Laws.{readings_of}
 use Rattle.cdc_traffic.specs.declared.messages.ToBroker.{ToBroker}
@@ -135,7 +135,7 @@ IsUnasked asked (to_connector.Confirm confirm) = ⊥
 
 -- ---- its session
 
--- where a run begins: the moment that its first session begins after, and the start, before which nothing is told
+-- where a run begins: the moment that its first session begins after, and the start, up to which nothing is told
 pub record Origin : Type 0 where
   pub after : ℕ
   pub start : ℕ
@@ -161,13 +161,6 @@ IsAtStart origin = origin.after ≡ origin.start
 abbrev pub IsFirstIn : Option ℕ → Option Course → Type 0
 IsFirstIn first None = first ≡ None
 IsFirstIn first (Some course) = (moment : ℕ) × (first ≡ Some moment)
-
--- what is kept of a session stands for this course: both are there, or neither
-abbrev pub SessionStands : Option SessionState → Option Course → Type 0
-SessionStands None None = Unit {0}
-SessionStands None (Some course) = ⊥
-SessionStands (Some kept) None = ⊥
-SessionStands (Some kept) (Some course) = StandsFor kept course
 
 -- a session has a number from 1 up, which is the one that is held, and the start that is held, and each event that it
 -- was offered is one of a history that batches and a close make

@@ -1,6 +1,7 @@
 -- What the parts of a connector's turn leave where they fail. Private contracts and proofs alone cite this file.
 use Rattle.std.specs.Prelude.{◌≡◌, ◌⊎◌, ℕ, ◌+◌, true, IsTrue, Option, Some, Ok, is_some}
-use Rattle.cdc_ends.specs.ConnectorEnds.{Publishing, SessionStands}
+use Rattle.cdc_ends.specs.ConnectorEnds.{Publishing}
+use Rattle.cdc_publisher.specs.Stands.{SessionStands}
 use Rattle.cdc_ends.specs.ConnectorMoves.{GoesOn}
 use Rattle.cdc_ends.specs.ConnectorSoFar.{IsConnectorSoFar, IsFaultOf}
 use Rattle.cdc_ends.specs.declared.faults.RunFault.{RunFault}

@@ -1,6 +1,7 @@
 -- What the parts of a connector's turn do. Private contracts and proofs alone cite this file.
 use Rattle.std.specs.Prelude.{◌≡◌, ◌==◌, ◌⊎◌, ℕ, ◌+◌, ◌<◌, ◌≤◌, Bool, true, false, Option, Some, None, Ok, cond, unwrap_or, if◌then◌else◌}
-use Rattle.cdc_ends.specs.ConnectorEnds.{HasFollowed, IsFirstTurn, IsOfSame, IsPublishing, IsUnasked, Publishing, RisesBy, SessionStands, ended_by, is_publish, origin_of, poll_for, saved_by}
+use Rattle.cdc_ends.specs.ConnectorEnds.{HasFollowed, IsFirstTurn, IsOfSame, IsPublishing, IsUnasked, Publishing, RisesBy, ended_by, is_publish, origin_of, poll_for, saved_by}
+use Rattle.cdc_publisher.specs.Stands.{SessionStands}
 use Rattle.cdc_laws.specs.Connectors.{held_number, held_timestamp}
 use Rattle.cdc_links.specs.Links.{Takes, with_sent as with_message}
 use Rattle.cdc_message.specs.declared.packets.Answer.{Answer}

@@ -1,7 +1,7 @@
 -- One order of all clients' batches, each with its client's number, and what each client is replied in it.
 use Rattle.std.specs.Prelude.{◌≡◌, ◌==◌, ℕ, ◌+◌, false, List, [], ◌∷◌, ◌++◌, filter, length, map, if◌then◌else◌}
 use Rattle.cdc_ledger.specs.Submit.{IsLegal}
-use Rattle.cdc_traffic.specs.Answering.{answer_to}
+use Rattle.cdc_traffic.specs.Answering.{answer_shown}
 use Rattle.cdc_traffic.specs.Following.{FollowsToClient}
 use Rattle.cdc_traffic.specs.Pasts.{history_of}
 use Rattle.cdc_traffic.specs.declared.pasts.Past.{Past}
@@ -24,7 +24,7 @@ abbrev pub reply_after : ℕ → List (ℕ × Batch) → Batch → Reply
 reply_after client before batch = record {
   number = length (batches_by client before) + 1;
   batch = batch;
-  answer = answer_to (history_of (past_of before)) batch;
+  answer = answer_shown (history_of (past_of before)) batch;
 }
 
 -- what a client is said of one batch that comes after these: where it is its own, the reply, under the name of their

@@ -4,8 +4,8 @@ ghost use Rattle.std.specs.Prelude.{◌≡◌, ◌==◌, ◌&&◌};
 ghost use Rattle.std.specs.List.{list_any};
 ghost use Rattle.cdc_ends.specs.BrokerEnds.{is_listed};
 
-/// What goes wrong at the broker of a run by plan. Counts are over the whole run, from 1; a number that stands twice
-/// counts once, and one that names nothing does nothing.
+/// What goes wrong at the broker of a run by plan. What is counted begins at 1 and goes on through all sessions; a
+/// number that stands twice counts once, and one that names nothing does nothing.
 #[derive(Drop)]
 pub struct BrokerPlan {
     /// Whose confirms are lost: publishes by their place among those that the broker accepts.

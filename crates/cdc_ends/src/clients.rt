@@ -68,8 +68,8 @@ impl ClientEnd {
         come_to(&mut self.work, &mut self.fault, rt, outcome)
     }
 
-    /// Tells the ledger that this client is done. A second call changes nothing. The first fault stays: it is answered
-    /// from then on.
+    /// Tells the ledger that this client is done. A second call changes nothing. `PeerGone`: the link refused to send.
+    /// The first fault stays: it is answered from then on.
     pub fn finish<R: Wait>(&mut self, rt: &R) -> Result<(), RunFault>
         ensures done { IfOk result (λ _.
             self.new ≡ record self.old { work = finished_talk self.old.work }) }

@@ -2,7 +2,7 @@
 
 ghost use Rattle.std.specs.Prelude.{◌≡◌, ◌==◌, ◌&&◌, ◌↔◌, ◌+◌, IfSome, IsTrue, Some, not, unwrap_or};
 ghost use Rattle.std.specs.List.{list_any};
-ghost use Rattle.cdc_ends.specs.ConnectorEnds.{SessionStands};
+ghost use Rattle.cdc_publisher.specs.Stands.{SessionStands};
 ghost use Rattle.cdc_ends.specs.ConnectorMoves.{publish_count};
 ghost use Rattle.cdc_publisher.specs.Courses.{Course};
 

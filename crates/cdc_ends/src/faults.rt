@@ -1,4 +1,4 @@
-//! Why an end of a run gave up.
+//! Why an end of a run gave up, or a run has no report.
 
 ghost use Rattle.std.specs.Prelude.{◌≡◌};
 ghost use Rattle.cdc_ends.specs.Faults.{run_fault_name, run_fault_number};
@@ -8,7 +8,7 @@ use cdc_publisher::StartError;
 use std::alloc::AllocError;
 use thiserror::Error;
 
-/// Why an end of a run gave up; it answers the same from then on.
+/// Why an end of a run gave up, which it answers from then on, or why the ends of a run come to no report.
 #[derive(Clone, Copy, Debug, PartialEq, Eq, Error)]
 pub enum RunFault {
     /// The other side of a link is gone, or has said something else than was asked.

@@ -42,6 +42,6 @@ pub use orders::order_laws;
 pub use publishing::ConnectorParts;
 pub use so_far::so_far_laws;
 pub use stories::{Carried, Fate, Repeat, Repeats, Sending, Span, Story};
-pub use subscriber_ends::{SubscriberEnd, subscriber_laws};
+pub use subscriber_ends::{SubscriberEnd, subscriber_end_laws};
 pub use subscriber_parts::SubscriberParts;
 pub use turns::Turn;

@@ -1,7 +1,8 @@
 //! What a connector works with: its session and its store, what it asks the ledger for, and what it publishes.
 
 ghost use Rattle.std.specs.Prelude.{◌≡◌, ◌≤◌, ◌==◌, ◌&&◌, IfErr, IfOk, Some, false};
-ghost use Rattle.cdc_ends.specs.ConnectorEnds.{IsConnectorEnd, IsPublishing, IsWorkingTurn, SessionStands, first_work};
+ghost use Rattle.cdc_ends.specs.ConnectorEnds.{IsConnectorEnd, IsPublishing, IsWorkingTurn, first_work};
+ghost use Rattle.cdc_publisher.specs.Stands.{SessionStands};
 ghost use Rattle.cdc_ends.specs.ConnectorMoves.{AreSent, IsAdvanced, IsAnswerTaken, IsBegun, IsConfirmTaken, IsFollowed, IsHeard, IsPacketSent, IsReplyTaken, IsSending, IsSentNext, asked_if, finished_if, wanted_by};
 ghost use Rattle.cdc_ends.specs.ConnectorFails.{IsConfirmFailed, IsCutShort, IsNotBegun, IsUnfinished, IsUnsaved, IsUnsent};
 ghost use Rattle.cdc_ends.specs.ConnectorSoFar.{HasFailed};

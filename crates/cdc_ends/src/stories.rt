@@ -44,7 +44,7 @@ pub enum Fate {
     ConfirmLost,
     /// It was lost.
     Lost,
-    /// It was taken for nothing: its session was over.
+    /// It was passed over: its session was over, or an earlier publish of that was lost.
     PassedOver,
 }
 

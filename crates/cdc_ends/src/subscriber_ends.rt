@@ -42,9 +42,9 @@ impl SubscriberEnd {
 }
 
 /// Does nothing: each clause holds of whatever deliveries a subscriber takes. It hears them as they come until it
-/// closes; unasked it never closes; and asked to close after a number of events it is closed once it has applied just
-/// so many.
-pub fn subscriber_laws()
+/// closes or has heard the end; unasked it never closes; and asked to close after a number of events it is closed once
+/// it has applied just so many.
+pub fn subscriber_end_laws()
     ensures hears { DeliveriesAreHeard }
     ensures unasked { UnaskedStayOpen }
     ensures asked { AskedClose }

@@ -25,7 +25,7 @@ abbrev pub held_number : Option Saved → ℕ
 held_number None = 0
 held_number (Some saved) = saved.session
 
--- the timestamp up to which everything is known to be confirmed, or 0
+-- the timestamp up to which every event after the start is known to be confirmed, or 0
 abbrev pub held_timestamp : Option Saved → ℕ
 held_timestamp None = 0
 held_timestamp (Some saved) = saved.timestamp

@@ -1,5 +1,5 @@
--- The session of a packet, and what was taken of a history's events. Cited by proofs alone, here and in the crates
--- above.
+-- The session of a packet, which a law of the broker's end cites, too; and what was taken of a history's events, which
+-- proofs alone cite.
 use Rattle.std.specs.Prelude.{ℕ, ◌≤◌, List, Contains}
 use Rattle.cdc_ledger.specs.Events.{events}
 use Rattle.cdc_ledger.specs.History.{History}

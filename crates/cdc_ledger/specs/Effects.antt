@@ -1,5 +1,5 @@
--- What an entry does to the balances of its two accounts: each entry does one thing, whatever its kind (for private
--- contracts and the laws).
+-- What an entry does to the balances of its two accounts, in one form for every kind (for private contracts and the
+-- laws).
 use Rattle.std.specs.Prelude.{ℕ, ◌+◌, ◌-◌, ◌==◌, Option, Some, None, option_map, if◌then◌else◌}
 use Rattle.cdc_types.specs.declared.accounts.Account.{Account}
 use Rattle.cdc_types.specs.declared.accounts.Balances.{Balances}

@@ -16,7 +16,7 @@ pub enum BatchError {
     #[error("the batch has more than 1,000 items")]
     BatchTooLarge,
     /// Its items would pass the greatest timestamp, 2^63-1.
-    #[error("no timestamps are left")]
+    #[error("its timestamps would pass 2^63-1")]
     TimestampsExhausted,
     /// Memory ran out.
     #[error("out of memory")]

@@ -101,7 +101,7 @@ impl Ledger {
         self.tables.pulse(&mut self.told, now)
     }
 
-    /// Takes a batch of any kind.
+    /// Takes a batch of any kind by the call of its kind, and is refused where that one is.
     pub fn submit(&mut self, alloc: Global, batch: &Batch) -> Result<BatchResults, BatchError>
         ensures { Answers (λ r. r) self.old batch.now result self.new }
     {

@@ -72,8 +72,8 @@ fn moves(kind: EventKind) -> bool
 }
 
 impl Movement {
-    /// What the entry does to the balances of its two accounts: it releases all that the settled transfer holds, it
-    /// holds its own amount, or it moves it.
+    /// What the entry does to the balances of its two accounts: it releases what the settled transfer holds, if it
+    /// settles one, and it holds its own amount, moves it, or does neither, as its kind asks.
     fn effect(&self) -> Effect
         ensures { result ≡ effect_of_movement self.now }
     {

@@ -120,7 +120,7 @@ impl<M: Message> LinkOut<M> {
         end.hand_back()
     }
 
-    /// Gives up sending; `settle` takes what comes of it.
+    /// Ends the sending without a word to the receiver; `settle` takes what comes of it.
     pub fn hand_back(self) -> Handed<M>
         ensures { result ≡ self }
     {
@@ -263,8 +263,8 @@ fn next_parcel<M: Message, R: Wait>(
 }
 
 impl<M: Message> LinkIn<M> {
-    /// Receives the message at the front. It waits while there is none. Where the senders are gone, one of them was
-    /// given up after all that is received by now, or 2^64 - 1 messages were received, nothing has changed.
+    /// Receives the message at the front. It waits while there is none. `PeerGone`, with nothing changed: the senders
+    /// are gone, one of them was given up after all that is received by now, or 2^64 - 1 messages were received.
     pub fn receive<R: Wait>(&mut self, rt: &R) -> Result<M, LinkFault>
         ensures received { IfOk result (λ value. Takes M.may_follow self.old value self.new) }
         ensures refused { IfErr result (λ fault. (fault ≡ PeerGone) × (self.new ≡ self.old)) }
@@ -346,7 +346,7 @@ impl<M: Message> LinkIn<M> {
 }
 
 /// A link for so many messages on their way, and its ends: of each sender, numbered from 0, and of the receiver. There
-/// is room for one word more of each sender, that it was given up.
+/// is a place more for each sender, for the word that it was given up, as long as messages don't take these too.
 pub fn link<M: Message>(
     alloc: Global,
     capacity: usize,

@@ -9,7 +9,7 @@ use thiserror::Error;
 /// Why a link wasn't made, or nothing was received.
 #[derive(Clone, Copy, Debug, PartialEq, Eq, Error)]
 pub enum LinkFault {
-    /// The other side of the link is gone.
+    /// The senders are gone, one of them was given up, or 2^64 - 1 messages were received.
     #[error("the other side of the link is gone")]
     PeerGone,
     /// There was no memory to make the link.
@@ -49,7 +49,7 @@ impl From<AllocError> for LinkFault {
     }
 }
 
-/// A message that wasn't sent, since the receiver is gone.
+/// A message that wasn't sent: the receiver is gone, the end was given up, or 2^64 - 1 messages were sent.
 #[derive(Drop)]
 pub struct SendRefused<M> {
     /// The message.

@@ -1,4 +1,5 @@
-//! The rule of a link: what each pass knows, and what each step tells it. Nothing here has a value when a program runs.
+//! The rule of a link: what each pass knows, and what each step tells it. Only a `Parcel` has a value when a
+//! program runs.
 
 use crate::messages::{Message, Naming};
 use crossbeam_channel::protocol::{Join, Lesson, Outcome, Protocol, Split};

@@ -51,9 +51,9 @@ impl Binding {
     /// The binding that words say: `all` or `any`, and then up to ten words `key=value`, each parted at its first
     /// equals sign. The keys are `event_type`, whose value is the text of a kind of event, `ledger`, whose value is a
     /// decimal number up to 4294967295, and `transfer_code`, `debit_account_code` and `credit_account_code`, whose
-    /// values are decimal numbers up to 65535. A key may stand twice.
+    /// values are decimal numbers up to 65535. Two pairs may have one key.
     ///
-    /// The first fault from the left is answered, and `OutOfMemory` where there was no memory for the pairs before it.
+    /// The first fault from the left is answered; `OutOfMemory` where there was no memory for a pair before any fault.
     pub fn parse(alloc: Global, words: &[&str]) -> Result<Binding, BindError>
         ensures binding { GivesUnlessMemory result
             (spec.arguments_of (map (λ word. word.now) words.now)) }

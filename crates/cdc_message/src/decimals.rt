@@ -1,4 +1,5 @@
-//! Decimal numbers in text, in the one place that reads them: bodies, bindings, scripts and words call these.
+//! Decimal numbers in text, as bodies, bindings, scripts and words are read; only records of progress are read
+//! otherwise.
 
 ghost use Rattle.std.specs.Prelude.{◌≡◌, true};
 ghost use Rattle.std.specs.Char.{is_ascii_digit};

@@ -33,7 +33,7 @@ pub enum FieldName {
     CreditAccount,
     /// The number of the transfer or account.
     Id,
-    /// How much was moved.
+    /// How much was moved, held back, posted or voided.
     Amount,
     /// The pending transfer that was posted or voided.
     PendingId,

@@ -6,7 +6,7 @@ ghost use Rattle.cdc_message.specs.Items.{item_event};
 use crate::message::Message;
 use std::alloc::{AllocError, Global};
 
-/// What a publisher sends and a queue keeps. A clause sees the event of a message.
+/// What a publisher sends and a broker keeps. A clause sees the event of a message.
 #[derive(Drop)]
 pub enum Item {
     /// The message of an event.

@@ -30,9 +30,10 @@ pub enum Packet {
 pub enum Answer {
     /// The session is the current one.
     Connected,
-    /// The item of this tag is in the queues (RabbitMQ, Publisher Confirms: `basic.ack`).
+    /// The item of this tag was accepted, and is in each queue that takes it (RabbitMQ, Publisher Confirms:
+    /// `basic.ack`).
     Confirmed(u64),
-    /// The packet was taken for nothing.
+    /// The packet wasn't taken: it changed nothing.
     Ignored,
     /// The packet or its confirm was lost; the session is over.
     Broken,

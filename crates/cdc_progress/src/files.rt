@@ -9,19 +9,20 @@ use crate::errors::StoreError;
 use crate::progress::Progress;
 use crate::stores::ProgressStore;
 use crate::texts::{parse, print};
+use cdc_types::Limits;
 use std::alloc::{AllocError, Global};
 use std::fs::{File, Files, OpenFile, Permissions, TryLockError};
 use std::io::{ErrorKind, Read, Write};
 use std::{fs, io};
 
-/// A store in a file. A save writes `PATH.new` whole, brings it to the disk and renames it to PATH, so that a save
-/// that is broken off leaves the old record. Where PATH is a link, the file that it leads to is meant by both names,
-/// and the link stays. The file's mode is kept, its owner isn't.
+/// A store in a file. A save makes a new file `PATH.new`, brings all of it to the disk and gives it PATH's name, so
+/// that a save that is broken off leaves the old record. Where PATH is a link, the file that it leads to is meant by
+/// both names, and the link stays. The file's mode is kept, its owner isn't.
 ///
 /// Nothing is replaced but a record that may be replaced: a save is refused where `PATH.new` is there and can't be what
 /// a save has left that was broken off, where PATH is no record or a file that nobody may write, and where it holds
-/// another record than this store has last loaded or saved. A store keeps the file that it has loaded or saved locked,
-/// as long as the store lives, so that another one which comes to the file meanwhile is refused.
+/// another record than this store has last loaded or saved. From a load or a save that is done up to its next call
+/// a store keeps the file locked, so that another one which comes to it meanwhile is refused.
 ///
 /// No clause can say what a file holds: `held` is what this store saved last, or loaded last, and that the file gives
 /// it back is a premise of whoever uses the store, which nothing here proves.
@@ -91,7 +92,7 @@ impl<'a, R: Files<File = File> + AllocGlobal> FileStore<'a, R> {
 }
 
 // The greatest record, in bytes. A file that has one byte more is none.
-const RECORD_BYTES: usize = 128;
+const RECORD_BYTES: usize = Limits::PROGRESS_BYTES;
 
 // What each record begins with, of whatever version.
 const MARK: &[u8] = b"tb-cdc ";
@@ -138,7 +139,8 @@ struct Found {
     file: File,
 }
 
-// Whether another one has locked a file that isn't locked here. Where the system has no locks it is nobody's.
+// Locks a file that isn't locked here, and says whether another one has it locked already. Where the system has no
+// locks nobody has.
 fn is_taken(file: &File) -> bool {
     match file.try_lock() {
         Err(TryLockError::WouldBlock) => true,

@@ -5,9 +5,9 @@ ghost use Rattle.std.specs.Prelude.{◌≡◌, ◌≤◌};
 use cdc_types::Limits;
 use std::marker::Model;
 
-/// How far a publisher has come: the number of its last session, the timestamp up to which every event is confirmed
-/// (TigerBeetle, Change Data Capture, progress tracking), and its start, the moment after which its first session
-/// began, which is no later. A clause sees the three numbers.
+/// How far a publisher has come: the number of its last session; the timestamp up to which every event after the start
+/// is confirmed (TigerBeetle, Change Data Capture, progress tracking); and the start, the moment after which its first
+/// session began, which is no later. A clause sees the three numbers.
 #[derive(Clone, Copy, Debug, PartialEq, Eq)]
 pub struct Progress {
     session: u64,
@@ -41,8 +41,8 @@ impl Progress {
     /// The greatest timestamp, in nanoseconds: 2^63-1.
     pub const MAX_TIMESTAMP: u64 = Limits::TIMESTAMP;
 
-    /// The progress of a session: all is confirmed up to the timestamp, which is at most `MAX_TIMESTAMP`, and the first
-    /// session began after the start, which is no later; both in nanoseconds.
+    /// The progress of a session: the first one began after the start, and all that came after that is confirmed up to
+    /// the timestamp, which is at most `MAX_TIMESTAMP` and not before the start; both in nanoseconds.
     pub fn new(session: u64, timestamp: u64, start: u64) -> Progress
         requires order { start ≤ timestamp }
         requires fits { timestamp ≤ Limits.TIMESTAMP }

@@ -7,9 +7,9 @@ use Rattle.cdc_publisher.specs.declared.session.Unconfirmed.{Unconfirmed}
 
 -- the session's number; the start, the moment that the first session began after; the timestamp that it begins after;
 -- for how many events it waits at a time; the timestamps of the event which it was offered last, and of that which it
--- sent last; how many packets it has sent; the events that are still to be sent; the tags that were sent and aren't
--- confirmed, each with the timestamp of the event before its own; whether no event follows; and whether the end mark
--- was sent
+-- sent last; how many packets it has sent; the events that are still to be sent; the tags that wait for their
+-- confirms, each with the timestamp under the tag before it, or for tag 1 the base; whether no event follows; and
+-- whether the end mark was sent
 pub record SessionState : Type 0 where
   pub number : ℕ
   pub start : ℕ

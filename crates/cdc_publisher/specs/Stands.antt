@@ -1,5 +1,5 @@
 -- How what a session keeps stands for its course.
-use Rattle.std.specs.Prelude.{◌≡◌, ℕ, ◌+◌, ◌-◌, ◌≤◌, Bool, IsTrue, List, All, take, drop, length, map, if◌then◌else◌}
+use Rattle.std.specs.Prelude.{◌≡◌, ℕ, ◌+◌, ◌-◌, ◌≤◌, Bool, IsTrue, Option, Some, None, List, All, take, drop, length, map, if◌then◌else◌}
 use Rattle.std.specs.List.{list_all}
 use Rattle.cdc_types.specs.declared.bounds.TheConstants.Limits.{TIMESTAMP}
 use Rattle.cdc_types.specs.declared.events.Event.{Event}
@@ -40,6 +40,13 @@ pub record StandsFor (kept : SessionState) (course : Course) : Type 0 where
   pub end_known : IsTrue kept.ended → IsTrue kept.complete
   pub end_waits : IsTrue kept.ended
       → IsTrue (list_all (is_confirmed course) (numbers_from 1 (length course.offered)))
+
+-- what is kept of a session stands for this course: both are there, or neither
+abbrev pub SessionStands : Option SessionState → Option Course → Type 0
+SessionStands None None = Unit {0}
+SessionStands None (Some course) = ⊥
+SessionStands (Some kept) None = ⊥
+SessionStands (Some kept) (Some course) = StandsFor kept course
 
 -- a timestamp isn't before the start, nor past the greatest one
 abbrev pub IsFrom : ℕ → ℕ → Type 0

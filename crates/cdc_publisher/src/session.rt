@@ -33,8 +33,8 @@ pub struct Poll {
 #[derive(Clone, Copy)]
 struct Unconfirmed {
     tag: u64,
-    /// The timestamp of the event before the tag's in the session, or the base: what all is confirmed up to while no
-    /// earlier tag waits.
+    /// What all is confirmed up to while no earlier tag waits: the timestamp under the tag before it, or for tag 1 the
+    /// base.
     before: u64,
 }
 
@@ -160,7 +160,8 @@ impl Session {
     /// Where nothing is held it begins after `at`, or after 0 where that is none, and the store keeps this as the
     /// start.
     /// Where progress is held, `at` has to be none: `StartNotAllowed`, found once the store has loaded, and before
-    /// `SessionsExhausted`; nothing is saved then.
+    /// `SessionsExhausted`; nothing is saved then. `Store`: the store didn't load, and holds what it held; or it didn't
+    /// save, and holds that or the new record. `OutOfMemory`: there was no memory, here or in the store.
     pub fn start<S: ProgressStore>(
         alloc: Global,
         store: &mut S,
@@ -293,7 +294,8 @@ impl Session {
         }
     }
 
-    /// Saves the session's number, how far its events are confirmed, and the start as it was.
+    /// Saves the session's number, how far its events are confirmed, and the start as it was. A refused save leaves the
+    /// session as it is, and the store holds what it held or the new record; after `OutOfMemory` what it held.
     pub fn save<S: ProgressStore>(&self, store: &mut S) -> Result<(), StoreError>
         ensures saved { (course : Course) → StandsFor self.now course
             → OnOk result (S.held store.new ≡ Some (progress_of course)) }

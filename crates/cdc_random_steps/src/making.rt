@@ -46,6 +46,8 @@ struct Maker {
     arrived: u64,
     /// The greatest number of a confirm that has come to a session or was left out.
     answered: u64,
+    /// Of each subscriber the greatest number of an acknowledgement that has come to the broker.
+    acked: [u64; 8],
     /// Whether something was lost that the session waits for.
     is_waiting: bool,
     /// Whether a session runs.
@@ -77,6 +79,7 @@ pub fn random_steps(
         batches_done: false,
         arrived: 0,
         answered: 0,
+        acked: [0; 8],
         is_waiting: false,
         runs: false,
         has_news: false,
@@ -175,7 +178,7 @@ impl Maker {
             7 => Draw::Step(Step::Answer(self.answered.saturating_add(1))),
             8 | 9 => Draw::Step(Step::Send(number)),
             10 => Draw::Step(Step::Take(number)),
-            11 => Draw::Step(Step::Ack(number, acks_of(world, i))),
+            11 => self.draw_ack(number, acks_of(world, i)),
             _ => self.draw_ending(),
         }
     }
@@ -200,6 +203,15 @@ impl Maker {
             Draw::Step(Step::Save)
         } else {
             Draw::Step(Step::Publish)
+        }
+    }
+
+    /// The last of so many acknowledgements of a subscriber, or else its next delivery: one that has come again and
+    /// again says nothing new, and is no way to go on.
+    fn draw_ack(&self, number: u64, count: u64) -> Draw {
+        match self.acked.get(number.wrapping_sub(1) as usize) {
+            Some(acked) if *acked < count => Draw::Step(Step::Ack(number, count)),
+            _ => Draw::Step(Step::Take(number)),
         }
     }
 
@@ -314,6 +326,11 @@ impl Maker {
                 self.has_news = true;
             }
             Step::Save => self.has_news = false,
+            Step::Ack(number, k) => {
+                if let Some(acked) = self.acked.get_mut(number.wrapping_sub(1) as usize) {
+                    *acked = (*acked).max(*k);
+                }
+            }
             _ => {}
         }
     }

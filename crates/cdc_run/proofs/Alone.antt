@@ -10,7 +10,7 @@ use Rattle.cdc_ledger.specs.declared.errors.BatchError.{BatchError}
 use Rattle.cdc_ledger.specs.History.{History, empty_history}
 use Rattle.cdc_ledger.specs.Submit.{after_batches, history_or, submit}
 use Rattle.cdc_ledger.proofs.LegalLaws.{after_batches_push}
-use Rattle.cdc_traffic.specs.Answering.{answer_to}
+use Rattle.cdc_traffic.specs.Answering.{answer_shown}
 use Rattle.cdc_traffic.specs.Pasts.{history_of}
 use Rattle.cdc_traffic.specs.declared.pasts.Past.{Past}
 use Rattle.cdc_traffic.specs.declared.requests.Reply.{Reply}
@@ -54,7 +54,7 @@ said_in_turn : (client : ℕ) (before order : List (ℕ × Batch)) → AllOwn cl
 said_in_turn client before [] own = refl
 said_in_turn client before (p ∷ order) own =
     let said : List (Reply × Past) = said_from client (before ++ p ∷ []) order in
-    let first : Result BatchResults BatchError = answer_to (history_of (past_of before)) p.1 in
+    let first : Result BatchResults BatchError = answer_shown (history_of (past_of before)) p.1 in
     ap (λ (b : Bool). map (λ (m : Reply × Past). m.0.answer)
     ((if b then (reply_after client before p.1, past_of before) ∷ [] else []) ++ said)) (is_own client p order own)
     ∙ ap (λ (answers : List (Result BatchResults BatchError)). first ∷ answers)

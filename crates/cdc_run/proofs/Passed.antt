@@ -7,7 +7,7 @@ use Rattle.std.proofs.lemmas.Option.{slice_get_within, unwrap_or-slice_get}
 use Rattle.std.proofs.lemmas.Simd.{map-map}
 use Rattle.cdc_broker.specs.Broker.{BrokerState, nobody, queue_of}
 use Rattle.cdc_broker.specs.Queues.{QueueState, empty_queue}
-use Rattle.cdc_ends.specs.BrokerEnds.{ArrivedWasReceived, as_confirm, as_sent, dealings_of, deliveries_in, packets_in as packets_come, stop_if as stops}
+use Rattle.cdc_ends.specs.BrokerEnds.{ArrivedWasReceived, as_confirm, as_sent, dealings_of, deliveries_in, stop_sent_if}
 use Rattle.cdc_ends.specs.ConnectorEnds.{FinishedConnectorsAreDone, IsDone, confirm_in, confirms_in, origin_of, packet_in, packets_in}
 use Rattle.cdc_ends.specs.LedgerEnds.{past_of_inbox}
 use Rattle.cdc_ends.specs.SubscriberEnds.{heard_by, stop_if, taken_by}
@@ -21,7 +21,6 @@ use Rattle.cdc_message.specs.declared.items.Delivery.{Delivery}
 use Rattle.cdc_message.specs.declared.packets.Confirm.{Confirm}
 use Rattle.cdc_message.specs.declared.packets.Packet.{Packet}
 use Rattle.cdc_traffic.specs.declared.messages.ToBroker.{ToBroker}
-use Rattle.cdc_traffic.specs.declared.messages.ToBroker.TheVariants as to_broker
 use Rattle.cdc_traffic.specs.declared.messages.ToConnector.{ToConnector}
 use Rattle.cdc_traffic.specs.declared.messages.ToSubscriber.{ToSubscriber}
 use Rattle.cdc_traffic.specs.declared.messages.ToSubscriber.TheVariants.{Delivery as Hands, Stop}
@@ -32,13 +31,6 @@ use Rattle.cdc_run.specs.Subscribing.{HasCome, SubscribersCome}
 use Rattle.cdc_run.proofs.Replied.{alone_sent}
 
 -- ---- packets and confirms
-
--- both ends of a link read the same packets off its messages
-packets_as : (sent : List (ToBroker × Unit {0})) → packets_come sent ≡ packets_in sent
-packets_as [] = refl
-packets_as ((to_broker.Packet packet, name) ∷ sent) = ap (λ (l : List Packet). packet ∷ l) (packets_as sent)
-packets_as ((to_broker.Finish, name) ∷ sent) = packets_as sent
-packets_as ((to_broker.Ack ack, name) ∷ sent) = packets_as sent
 
 -- confirms are read off messages as they were sent
 confirms_as : (confirms : List Confirm) → confirms_in (map as_confirm confirms) ≡ confirms
@@ -89,7 +81,7 @@ ends_pass done arrived d c b are =
     let packets : AreAmong (dealings_of b).arrived (packets_in c.packets.sent) = λ x there.
     subst (λ (l : List Packet). Contains l x) sent
     (Contains-append_left (packets_in mine) (packets_in late) x
-    (subst (λ (l : List Packet). Contains l x) (packets_as mine) (arrived b.plan (packets_come mine) x there))) in
+    (arrived b.plan (packets_in mine) x there)) in
     let answers : AreAmong (confirms_in heard) (dealings_of b).confirms = λ x there.
     subst (λ (l : List Confirm). Contains l x) said
     (Contains-append_left (confirms_in heard) (confirms_in unheard) x there) in (
@@ -133,7 +125,7 @@ ends_come done pass law d c b place consumer s are found stopped =
     ∙ ap (λ (l : List ToSubscriber). l ++ rest) came
     ∙ append_assoc (map Hands taken) (Stop ∷ []) rest in
     let given : consumer.link.sent ≡ map as_sent out ++ (Stop, tt) ∷ [] =
-    subst (λ f. consumer.link.sent ≡ map as_sent out ++ stops f) are.finished served.sent in
+    subst (λ f. consumer.link.sent ≡ map as_sent out ++ stop_sent_if f) are.finished served.sent in
     let handed : messages consumer.link.sent ≡ map Hands out ++ Stop ∷ [] =
     ap messages given
     ∙ map-append (λ (m : ToSubscriber × Unit {0}). m.0) (map as_sent out) ((Stop, tt) ∷ [])

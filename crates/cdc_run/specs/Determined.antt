@@ -9,7 +9,7 @@ use Rattle.cdc_match.specs.Arguments.{Arguments}
 use Rattle.cdc_match.specs.Queue.{queue}
 use Rattle.cdc_subscriber.specs.Heard.{kept_of, next, nothing}
 use Rattle.cdc_subscriber.specs.SubscriberState.{SubscriberState}
-use Rattle.cdc_traffic.specs.Answering.{answer_to}
+use Rattle.cdc_traffic.specs.Answering.{answer_shown}
 use Rattle.cdc_traffic.specs.Pasts.{history_of}
 use Rattle.cdc_traffic.specs.declared.requests.Reply.{Reply}
 use Rattle.cdc_types.specs.declared.batches.Batch.{Batch}
@@ -21,7 +21,7 @@ use Rattle.cdc_run.specs.Reports.{AreSubscribed, IsSubscribed}
 -- a ledger's answers to batches that come one after another, each on the history that those before it have left
 abbrev pub answers_from : History → List Batch → List (Result BatchResults BatchError)
 answers_from h [] = []
-answers_from h (batch ∷ batches) = answer_to h batch ∷ answers_from (history_or h (submit h batch)) batches
+answers_from h (batch ∷ batches) = answer_shown h batch ∷ answers_from (history_or h (submit h batch)) batches
 
 -- a client's replies have the answers that a new ledger gives to its batches alone, one after another, and the ledger
 -- is what those batches make, with a close after the last of them

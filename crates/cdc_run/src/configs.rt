@@ -20,8 +20,8 @@ pub struct Config {
     pub window: usize,
     /// How many deliveries of a queue may be without an acknowledgement.
     pub prefetch: u64,
-    /// The moment, in nanoseconds, that the connector's first session is told to start after, if it is: lawful only
-    /// where no progress is saved.
+    /// The moment, in nanoseconds, that the connector's first session is told to start after, if it is. Where
+    /// progress is saved the run then fails with `StartNotAllowed`.
     pub start: Option<Moment>,
 }
 

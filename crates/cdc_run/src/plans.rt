@@ -5,15 +5,15 @@ ghost use Rattle.cdc_run.specs.Plans.{IsLeastClose, HasNoFaults};
 
 use std::alloc::Global;
 
-/// The faults that a run is to meet. Each count is over the whole run and begins with 1; an entry that names nothing
-/// has no effect, and one that is given twice counts once.
+/// The faults that a run is to meet. What is counted begins at 1 and goes on through all sessions; what an entry names
+/// may not be there, and one that stands twice is met once.
 #[derive(Drop)]
 pub struct Faults {
-    /// The confirm of the Nth accepted publish is lost.
+    /// Which confirms are lost, by the place of their publishes among those accepted.
     pub lose_confirm: Vec<u64>,
-    /// The Nth publish packet that reaches the broker is lost.
+    /// Which publishes are lost, by their place among those that come to the broker.
     pub lose_publish: Vec<u64>,
-    /// The connector restarts after sending its Nth publish packet.
+    /// Behind which of its publishes the connector starts anew, by their place among those that it sent.
     pub restart_after: Vec<u64>,
     /// The broker goes back in a queue after first handing out a position: the queue, and the position.
     pub repeat: Vec<(u64, u64)>,

@@ -90,8 +90,10 @@ fn own<M: Message>(
     Ok((outs, ins))
 }
 
-/// The links of a run. How many messages a link holds is said of each; no end waits for good on a link that is full of
-/// messages of its own kind alone.
+/// The links of a run, each with room for all that its senders can have on their way at once, so that none waits for
+/// room: a request of each client, two polls and the connector's last message; `window` + 1 confirms and the replies to
+/// polls; as many packets, the connector's last message and `prefetch` acknowledgements of each subscriber; one reply;
+/// `prefetch` deliveries and the last message.
 pub(crate) fn make_wires(alloc: Global, config: &Config) -> Result<Wires, AllocError>
     requires { Fits config.now }
     ensures { IfOk result (λ all. AreWired config.now.clients (vec_len config.now.bindings) all) }

@@ -14,7 +14,7 @@ use Rattle.cdc_traffic.specs.declared.requests.Reply.{Reply}
 use Rattle.cdc_types.specs.declared.batches.Batch.{Batch}
 use Rattle.cdc_commands.specs.Report.{batch_line}
 
--- how many clients hand in these batches: the greatest of their numbers, or 1
+-- how many clients a run of these batches has: the greatest of their numbers, or 1
 abbrev pub client_count : List ClientBatch → ℕ
 client_count batches = fold (λ n b. max n b.client) 1 batches
 
@@ -54,8 +54,8 @@ abbrev pub kept_text : ℕ → List SubscriberState → List ℕ
 kept_text n [] = []
 kept_text n (kept ∷ rest) = subscriber_text n kept ++ kept_text (n + 1) rest
 
--- this is printed of a report: the replies to all batches, which clients have handed in in this order, and then what
--- each subscriber holds
+-- this is printed of a report: the replies to all batches, in an order of which this is the client of each, and then
+-- what each subscriber holds
 pub record PrintsReport (order : List ℕ) (report : Report) (printed : List ℕ) : Type 0 where
   pub replies : List (ℕ × Reply)
   pub merged : AreMerged order (replies_of report) replies

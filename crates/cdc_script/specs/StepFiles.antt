@@ -26,7 +26,7 @@ lone_step said rest = ended WrongCount (act.Step said) rest
 abbrev pub numbered_step : (ℕ → Step) → List (List ℕ) → Result Act FaultKind
 numbered_step said rest = lone_number rest >>= λ number. Ok (act.Step (said number))
 
--- a moment that an event can have, and nothing behind it
+-- a moment up to the greatest timestamp, and nothing behind it
 abbrev pub moment_said : List (List ℕ) → Result Act FaultKind
 moment_said [] = Err WrongCount
 moment_said (word ∷ rest) =

@@ -141,7 +141,7 @@ impl From<AllocError> for ScriptError {
     }
 }
 
-/// Why a text wasn't read to its end.
+/// Why a text wasn't read to its end, or what it says couldn't be kept.
 #[derive(Clone, Copy, Debug, Error)]
 pub enum ReadError {
     /// A read failed.

@@ -15,7 +15,7 @@ use std::io::Read;
 const PIECE: usize = 8192;
 
 /// Reads the bytes of a script or a step file, one more than it may have at most. No read follows one that failed.
-/// What such a text says is what all bytes of the reader say.
+/// What such a text says is what all bytes of the reader say. An error is a read that failed, or want of memory.
 pub fn read_text<R: Read>(alloc: Global, reader: &mut R) -> Result<Vec<u8>, ReadError>
     ensures bounded { ConsumesAtMost (max_bytes + 1)
         (R.remaining reader.old) (R.remaining reader.new) }

@@ -60,7 +60,7 @@ fn read_lines(alloc: Global, text: &[u8]) -> Result<Draft, ScriptError>
     Ok(draft)
 }
 
-/// The script that a text writes, or its first fault.
+/// The script that a text writes, or its first fault, or want of memory.
 pub fn parse_script(alloc: Global, text: &[u8]) -> Result<Script, ScriptError>
     ensures { MatchResult result (λ script. script_of text.now ≡ Ok script)
         (λ error. IsFault error (script_of text.now) (KeepsScript text.now)) }

@@ -145,7 +145,7 @@ fn add_act(acts: &mut Vec<Act>, act: Act) -> Result<(), AllocError>
     Ok(())
 }
 
-/// What a step file of this text says, or its first fault.
+/// What a step file of this text says, or its first fault, or want of memory.
 pub fn parse_steps(alloc: Global, text: &[u8]) -> Result<Vec<Act>, ScriptError>
     ensures { MatchResult result (λ acts. acts_of text.now ≡ Ok acts.items)
         (λ error. IsFault error (acts_of text.now) (KeepsActs text.now)) }

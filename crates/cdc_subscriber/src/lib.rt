@@ -1,4 +1,4 @@
-//! Subscribers: each applies an event once, however often and late it hears of it, and keeps a book of balances.
+//! Subscribers: each applies an event once at most, where it is later than all applied before, and keeps a book.
 #![tactic(auto)]
 
 pub mod book;

@@ -96,7 +96,7 @@ impl Subscriber {
     }
 
     /// Takes the bytes of a body. A subscriber that is closed, or has heard the end, doesn't read them; else bytes that
-    /// are no event are an error.
+    /// are no event are an error, and so is want of memory.
     pub fn take_body(&mut self, alloc: Global, body: &[u8]) -> Result<Taking, TakeError>
         ensures answer { TakesBody self.old (read body.now) result }
         ensures stands { (heard : Heard) → self.old ≡ kept_of heard

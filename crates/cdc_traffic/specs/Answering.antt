@@ -19,15 +19,15 @@ shown (Ok answer) = Ok answer.0
 shown (Err why) = Err why
 
 -- the ledger's answer to a batch, as it is shown
-abbrev pub answer_to : History → Batch → Result BatchResults BatchError
-answer_to h batch = shown (submit h batch)
+abbrev pub answer_shown : History → Batch → Result BatchResults BatchError
+answer_shown h batch = shown (submit h batch)
 
 -- the reply to a request
 abbrev pub reply_to : History → Request → Reply
 reply_to h request = record {
   number = request.number;
   batch = request.batch;
-  answer = answer_to h request.batch;
+  answer = answer_shown h request.batch;
 }
 
 -- the reply to a poll

@@ -11,7 +11,7 @@ use Rattle.cdc_message.specs.declared.packets.Answer.TheVariants.{Connected, Con
 use Rattle.cdc_message.specs.declared.packets.Confirm.{Confirm}
 use Rattle.cdc_message.specs.declared.packets.Packet.{Packet as APacket}
 use Rattle.cdc_message.specs.declared.packets.Packet.TheVariants.{Connect, Publish}
-use Rattle.cdc_traffic.specs.Answering.{answer_to, read_by}
+use Rattle.cdc_traffic.specs.Answering.{answer_shown, read_by}
 use Rattle.cdc_traffic.specs.Pasts.{Continues, history_of, no_past, with_batch}
 use Rattle.cdc_traffic.specs.declared.messages.ToBroker.{ToBroker}
 use Rattle.cdc_traffic.specs.declared.messages.ToBroker.TheVariants as to_broker
@@ -65,7 +65,7 @@ pub record FollowsToClient (sender : ℕ) (before : List (Reply × Past)) (next 
   pub number : next.0.number ≡ length before + 1
   pub legal : IsLegal (history_of next.1)
   pub not_closed : next.1.closed ≡ false
-  pub answer : next.0.answer ≡ answer_to (history_of next.1) next.0.batch
+  pub answer : next.0.answer ≡ answer_shown (history_of next.1) next.0.batch
   pub continues : Continues (last_left before) next.1
 
 -- ---- to the connector, of the ledger (0) and of the broker (1)

@@ -1,4 +1,4 @@
--- What of the rules the ledger offers. Each definition that depends on it takes it as its first argument.
+-- What of the rules the ledger offers. The rules take it as their first argument; `submit` and what rests on it fix it.
 use Rattle.std.specs.Prelude.{ℕ}
 
 -- the flags that are accepted, as the sums of their bits

@@ -19,7 +19,7 @@ account_number account.Exists = 8
 account_number account.LinkedEventFailed = 9
 account_number account.LinkedEventChainOpen = 10
 
--- the name of the result in the manual's spelling
+-- the name of the result: the manual's, but for ours, `ok` and `exists_with_different_fields`
 abbrev pub account_name : AccountResult → List ℕ
 account_name account.Accepted = codes "ok"
 account_name account.ReservedFlag = codes "reserved_flag"
@@ -76,7 +76,7 @@ transfer_number transfer.ExceedsDebits = 37
 transfer_number transfer.LinkedEventFailed = 38
 transfer_number transfer.LinkedEventChainOpen = 39
 
--- the name of the result in the manual's spelling
+-- the name of the result: the manual's, but for ours, `ok` and `exists_with_different_fields`
 abbrev pub transfer_name : TransferResult → List ℕ
 transfer_name transfer.Accepted = codes "ok"
 transfer_name transfer.ReservedFlag = codes "reserved_flag"

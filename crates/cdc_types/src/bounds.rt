@@ -1,4 +1,4 @@
-//! The limits of the whole product. Each stands here once: a definition cites it, as code does.
+//! The limits of the whole product. Code and definitions cite them; contracts of the ends alone say 64 of a prefetch.
 
 /// The limits that every part keeps to.
 pub struct Limits;

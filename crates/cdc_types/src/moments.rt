@@ -1,4 +1,4 @@
-//! A moment that an event can have.
+//! A moment up to the greatest timestamp.
 
 ghost use Rattle.std.specs.Prelude.{◌≡◌, ◌<◌, ◌≤◌, MatchOption};
 

@@ -125,7 +125,7 @@ impl AccountResult {
         self as u8
     }
 
-    /// The result's name in the manual's spelling: `ok` where the account was made.
+    /// The name: the manual's, but for ours, `exists_with_different_fields` and `ok` where the account was made.
     pub fn name(self) -> &'static str
         ensures { result.now ≡ account_name self }
     {
@@ -153,7 +153,7 @@ impl TransferResult {
         self as u8
     }
 
-    /// The result's name in the manual's spelling: `ok` where the transfer was made.
+    /// The name: the manual's, but for ours, `exists_with_different_fields` and `ok` where the transfer was made.
     pub fn name(self) -> &'static str
         ensures { result.now ≡ transfer_name self }
     {

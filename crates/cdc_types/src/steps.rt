@@ -13,7 +13,7 @@ pub enum Step {
     CloseLedger,
     /// The connector starts a session.
     Start,
-    /// The connector starts a session after this moment, which is lawful only where no progress is saved.
+    /// The connector starts a session after this moment; it is refused where a record of progress is held already.
     StartAt(Moment),
     /// The connector crashes; its session is gone.
     Crash,

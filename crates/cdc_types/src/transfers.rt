@@ -36,7 +36,7 @@ pub struct NewTransfer {
     pub debit_account_id: u128,
     /// The account that is credited.
     pub credit_account_id: u128,
-    /// How much is moved.
+    /// How much is moved or held back; in a post 2^128-1, and in a void 0, stands for the whole of the pending one.
     pub amount: u128,
     /// The pending transfer that is posted or voided, or 0.
     pub pending_id: u128,

@@ -12,7 +12,7 @@ use Rattle.cdc_progress.specs.declared.errors.StoreError.{StoreError}
 use Rattle.cdc_progress.specs.declared.errors.StoreError.TheVariants as store
 use Rattle.cdc_publisher.specs.Courses.{Course, after_answer, begun, last_session, new_course, next_packet, next_poll, progress_of, with_offer, with_sent}
 use Rattle.cdc_publisher.specs.SessionState.{SessionState}
-use Rattle.cdc_publisher.specs.Stands.{StandsFor}
+use Rattle.cdc_publisher.specs.Stands.{StandsFor, SessionStands}
 use Rattle.cdc_publisher.specs.Starts.{HasStarted, IsStartRisked, MayRefuseStart}
 use Rattle.cdc_publisher.specs.declared.errors.StartError.{StartError}
 use Rattle.cdc_publisher.specs.declared.errors.StartError.TheVariants as start
@@ -26,7 +26,7 @@ use Rattle.cdc_laws.specs.Readings.{none_follow}
 use Rattle.cdc_world.specs.Next.{IsStepRisked, IsTried, Next, Outcome, ◌>>=◌, counts, loads, next, saved_in, saves, start_after, success, takes_memory, uses_store, with_answer, with_crash, with_packet, with_poll, with_progress, with_session, with_start}
 use Rattle.cdc_world.specs.Parts.{ActorParts, Parts}
 use Rattle.cdc_world.specs.Refusals.{start_refusal, store_refusal}
-use Rattle.cdc_world.specs.Stands.{ActorsStand, SessionStands, Stands}
+use Rattle.cdc_world.specs.Stands.{ActorsStand, Stands}
 use Rattle.cdc_world.specs.Turns.{ActorsMove, Offers, OffersAt, Sends, SendsAt}
 use Rattle.cdc_world.specs.Worlds.{WorldState, numbered}
 use Rattle.cdc_world.proofs.ActorMoves.{Moves-risked, unable}

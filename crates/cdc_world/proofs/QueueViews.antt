@@ -11,7 +11,7 @@ use Rattle.cdc_match.specs.Queue.{takes_item}
 use Rattle.cdc_message.specs.declared.items.Item.{Item}
 use Rattle.cdc_message.specs.declared.packets.Packet.{Packet}
 use Rattle.cdc_message.specs.declared.packets.Packet.TheVariants.{Connect, Publish}
-use Rattle.cdc_world.specs.Stands.{HasHandedOut, HaveHandedOut, QueueView, queue_for, view_of}
+use Rattle.cdc_world.specs.Stands.{WereHandedOut, HaveHandedOut, QueueView, queue_for, view_of}
 use Rattle.cdc_world.specs.Worlds.{Subscription}
 
 -- ---- an item is taken
@@ -60,7 +60,7 @@ pub handed_after : (item : Item) (queues : List QueueState) (subscriptions : Lis
 handed_after item [] subscriptions handed = tt
 handed_after item (q ∷ queues) [] handed = tt
 handed_after item (q ∷ queues) (s ∷ subscriptions) handed = (
-  subst (λ n. HasHandedOut n s) (sym (with_item_handed (item_for q.binding item) q)) handed.0,
+  subst (λ n. WereHandedOut n s) (sym (with_item_handed (item_for q.binding item) q)) handed.0,
   handed_after item queues subscriptions handed.1,
 )
 
@@ -81,12 +81,12 @@ set_same (x ∷ xs) (suc k) none = ap (λ zs. x ∷ zs) (set_same xs k none)
 -- where one queue and its subscription change so that what was handed out stays so, it does in all
 pub handed_set : (k : ℕ) (queues : List QueueState) (subscriptions : List Subscription) (none q' : QueueState)
     (s s' : Subscription) → slice_get subscriptions k ≡ Some s
-    → (HasHandedOut (unwrap_or (slice_get queues k) none).handed s → HasHandedOut q'.handed s')
+    → (WereHandedOut (unwrap_or (slice_get queues k) none).handed s → WereHandedOut q'.handed s')
     → HaveHandedOut queues subscriptions → HaveHandedOut (slice_set queues k q') (slice_set subscriptions k s')
 handed_set k [] subscriptions none q' s s' found step handed = tt
 handed_set k (q ∷ queues) [] none q' s s' found step handed = cc
 handed_set zero (q ∷ queues) (t ∷ subscriptions) none q' s s' found step handed =
-    (step (subst (HasHandedOut q.handed) (same_Some t s found) handed.0), handed.1)
+    (step (subst (WereHandedOut q.handed) (same_Some t s found) handed.0), handed.1)
 handed_set (suc k) (q ∷ queues) (t ∷ subscriptions) none q' s s' found step handed =
     (handed.0, handed_set k queues subscriptions none q' s s' found step handed.1)
 
@@ -94,12 +94,12 @@ handed_set (suc k) (q ∷ queues) (t ∷ subscriptions) none q' s s' found step 
 pub handed_here : (k : ℕ) (queues : List QueueState) (subscriptions : List Subscription) (items : List Item)
     (none : QueueState) (s : Subscription) → map view_of queues ≡ map (queue_for items) subscriptions
     → slice_get subscriptions k ≡ Some s → HaveHandedOut queues subscriptions
-    → HasHandedOut (unwrap_or (slice_get queues k) none).handed s
+    → WereHandedOut (unwrap_or (slice_get queues k) none).handed s
 handed_here k [] [] items none s same found handed = cc
 handed_here k [] (t ∷ subscriptions) items none s same found handed = cc
 handed_here k (q ∷ queues) [] items none s same found handed = cc
 handed_here zero (q ∷ queues) (t ∷ subscriptions) items none s same found handed =
-    subst (HasHandedOut q.handed) (same_Some t s found) handed.0
+    subst (WereHandedOut q.handed) (same_Some t s found) handed.0
 handed_here (suc k) (q ∷ queues) (t ∷ subscriptions) items none s same found handed =
     let rest : map view_of queues ≡ map (queue_for items) subscriptions = cc in
     handed_here k queues subscriptions items none s rest found handed.1

@@ -25,7 +25,7 @@ use Rattle.cdc_world.specs.declared.steps.StepError.TheVariants.{NotEnabled, Out
 use Rattle.cdc_world.specs.declared.subscriptions.Subscription.{Subscription as Kept_subscription}
 use Rattle.cdc_world.specs.Next.{Outcome, ◌>>=◌, acknowledgement, first_flight, next, next_delivery, success, taking, with_ack, with_break, with_close, with_delivery, with_rewind, with_subscription, with_taking}
 use Rattle.cdc_world.specs.Parts.{ActorParts, SubscriptionParts, subscription_parts}
-use Rattle.cdc_world.specs.Stands.{ActorsStand, HasHandedOut, IsHandedOut, QueueView, parts_of, queue_for, view_of}
+use Rattle.cdc_world.specs.Stands.{ActorsStand, WereHandedOut, IsHandedOut, QueueView, parts_of, queue_for, view_of}
 use Rattle.cdc_world.specs.Turns.{ActorsMove, HandsAt, HasClosed, HasTakenFirst, TakesAt, place_in}
 use Rattle.cdc_world.specs.Worlds.{Subscription, WorldState, numbered, taken_items}
 use Rattle.cdc_world.proofs.NumberedElements.{Contains_numbered, IsPlace, numbered_place, place_is, slice_get_made, subscription_here}
@@ -66,7 +66,7 @@ queue_is a w i s st there =
 
 -- what its queue has handed out
 handed_is : (a : ActorParts) (w : WorldState) (i : ℕ) (s : Subscription) → ActorsStand a w
-    → slice_get w.subscriptions (i - 1) ≡ Some s → HasHandedOut (queue_of a.broker i).handed s
+    → slice_get w.subscriptions (i - 1) ≡ Some s → WereHandedOut (queue_of a.broker i).handed s
 handed_is a w i s st there =
     handed_here (i - 1) a.broker.queues w.subscriptions (taken_items w) (empty_queue nobody) s st.subscribers.queues
     there st.subscribers.handed
@@ -75,7 +75,7 @@ handed_is a w i s st there =
 one_changes : (a : ActorParts) (w : WorldState) (i : ℕ) (s s' : Subscription) (q' : QueueState)
     (kept' : SubscriptionParts) → ActorsStand a w → slice_get w.subscriptions (i - 1) ≡ Some s
     → view_of q' ≡ queue_for (taken_items w) s' → kept' ≡ parts_of s'
-    → (HasHandedOut (queue_of a.broker i).handed s → HasHandedOut q'.handed s')
+    → (WereHandedOut (queue_of a.broker i).handed s → WereHandedOut q'.handed s')
     → ActorsStand
     (record a { broker = with_queue i q' a.broker; subscriptions = slice_set a.subscriptions (i - 1) kept' })
     (with_subscription i s' w)
@@ -99,7 +99,7 @@ one_changes a w i s s' q' kept' st there seen same handed = record {
 subscription_changes : (a : ActorParts) (w : WorldState) (i : ℕ) (s s' : Subscription) (kept' : SubscriptionParts)
     → ActorsStand a w → slice_get w.subscriptions (i - 1) ≡ Some s
     → queue_for (taken_items w) s ≡ queue_for (taken_items w) s' → kept' ≡ parts_of s'
-    → (HasHandedOut (queue_of a.broker i).handed s → HasHandedOut (queue_of a.broker i).handed s')
+    → (WereHandedOut (queue_of a.broker i).handed s → WereHandedOut (queue_of a.broker i).handed s')
     → ActorsStand (record a { subscriptions = slice_set a.subscriptions (i - 1) kept' }) (with_subscription i s' w)
 subscription_changes a w i s s' kept' st there seen same handed =
     subst (λ (queues : List QueueState). ActorsStand (record a {
@@ -113,7 +113,7 @@ queue_changes : (a : ActorParts) (w : WorldState) (i : ℕ) (kept : Subscription
     (q' : QueueState) → ActorsStand a w → slice_get a.subscriptions (i - 1) ≡ Some kept
     → slice_get w.subscriptions (i - 1) ≡ Some s
     → view_of q' ≡ queue_for (taken_items w) s' → kept ≡ parts_of s'
-    → (HasHandedOut (queue_of a.broker i).handed s → HasHandedOut q'.handed s')
+    → (WereHandedOut (queue_of a.broker i).handed s → WereHandedOut q'.handed s')
     → ActorsStand (record a { broker = with_queue i q' a.broker }) (with_subscription i s' w)
 queue_changes a w i kept s s' q' st here there seen same handed =
     subst (λ (kepts : List SubscriptionParts). ActorsStand (record a {
@@ -139,8 +139,8 @@ position_from cursor (Some item) delivery found =
 
 -- what is handed out was handed out then
 handed_more : (handed : ℕ) (cursor : Cursor) (s : Subscription) (delivery : Delivery) → s.cursor ≡ cursor
-    → delivery.position ≡ cursor.next → HasHandedOut handed s
-    → HasHandedOut (max handed cursor.next) (with_delivery delivery s)
+    → delivery.position ≡ cursor.next → WereHandedOut handed s
+    → WereHandedOut (max handed cursor.next) (with_delivery delivery s)
 handed_more handed cursor s delivery same position has =
     let at : s.cursor.next ≡ cursor.next = ap (λ (c : Cursor). c.next) same in
     record {
@@ -283,7 +283,7 @@ send_refused a i s s' b' why above here hands =
 -- ---- a queue goes back
 
 -- what was handed out stays so where the queue goes back
-handed_rewound : (handed : ℕ) (s : Subscription) → HasHandedOut handed s → HasHandedOut handed (with_rewind s)
+handed_rewound : (handed : ℕ) (s : Subscription) → WereHandedOut handed s → WereHandedOut handed (with_rewind s)
 handed_rewound handed s has = record { first = omega arith; flight = has.flight; acks = has.acks }
 
 -- the queue goes back
@@ -311,7 +311,7 @@ rewind_done a i s above here = (
 )
 
 -- nothing is on its way after a break
-handed_broken : (handed : ℕ) (s : Subscription) → HasHandedOut handed s → HasHandedOut handed (with_break s)
+handed_broken : (handed : ℕ) (s : Subscription) → WereHandedOut handed s → WereHandedOut handed (with_break s)
 handed_broken handed s has =
     record { first = omega arith; flight = λ d there. absurd (none_there d there); acks = has.acks }
 
@@ -375,7 +375,7 @@ contains_rest x xs y (i, low, is) = (suc i, omega (arith, low), is)
 
 -- what was handed out stays so where a delivery is taken and acknowledged
 handed_taken : (handed : ℕ) (s : Subscription) (delivery : Delivery) (rest : List Delivery)
-    → s.flight ≡ delivery ∷ rest → HasHandedOut handed s → HasHandedOut handed (with_taking delivery rest s)
+    → s.flight ≡ delivery ∷ rest → WereHandedOut handed s → WereHandedOut handed (with_taking delivery rest s)
 handed_taken handed s delivery rest first has = record {
   first = has.first;
   flight = λ d there. has.flight d (subst (λ ds. Contains ds d) (sym first) (contains_rest delivery rest d there));
@@ -476,8 +476,8 @@ acks_next w i k s found here there =
     ∙ ap (λ (found : Option ℕ). found >>= acknowledgement w i s) there
 
 -- what was handed out stays so where the cursor is lifted
-handed_acked : (handed : ℕ) (s : Subscription) (position : ℕ) → HasHandedOut handed s
-    → HasHandedOut handed (with_ack position s)
+handed_acked : (handed : ℕ) (s : Subscription) (position : ℕ) → WereHandedOut handed s
+    → WereHandedOut handed (with_ack position s)
 handed_acked handed s position has =
     record { first = omega (arith, has.first); flight = has.flight; acks = has.acks }
 

@@ -1,5 +1,5 @@
 -- The states of the actors that what a world keeps stands for.
-use Rattle.std.specs.Prelude.{◌≡◌, ◌<◌, ◌≤◌, ℕ, Option, Some, None, List, [], ◌∷◌, Contains, map}
+use Rattle.std.specs.Prelude.{◌≡◌, ◌<◌, ◌≤◌, ℕ, Option, List, [], ◌∷◌, Contains, map}
 use Rattle.cdc_broker.specs.Cursors.{Cursor}
 use Rattle.cdc_broker.specs.Packets.{current_session, expected_tag, items_of}
 use Rattle.cdc_broker.specs.Queues.{QueueState}
@@ -11,19 +11,12 @@ use Rattle.cdc_message.specs.declared.packets.Confirm.{Confirm}
 use Rattle.cdc_message.specs.declared.packets.Packet.{Packet}
 use Rattle.cdc_publisher.specs.Courses.{Course}
 use Rattle.cdc_publisher.specs.SessionState.{SessionState}
-use Rattle.cdc_publisher.specs.Stands.{StandsFor}
+use Rattle.cdc_publisher.specs.Stands.{SessionStands}
 use Rattle.cdc_subscriber.specs.Heard.{kept_of}
 use Rattle.cdc_world.specs.Parts.{ActorParts, Parts, SubscriptionParts}
 use Rattle.cdc_world.specs.Worlds.{Subscription, WorldState}
 
 -- ---- the connector's side
-
--- the session stands for the connector's course: both are there, or neither
-abbrev pub SessionStands : Option SessionState → Option Course → Type 0
-SessionStands None None = Unit {0}
-SessionStands None (Some course) = ⊥
-SessionStands (Some kept) None = ⊥
-SessionStands (Some kept) (Some course) = StandsFor kept course
 
 -- for how many events a session waits, the session, and the packets that were sent
 pub record ConnectorSide (A : Type 0) : Type 0 where
@@ -89,7 +82,7 @@ IsHandedOut handed position = (0 < position) × (position ≤ handed)
 
 -- a queue's cursor stands at a position, and what is on its way to the subscriber, or was acknowledged by it, was
 -- handed out, up to this position
-pub record HasHandedOut (handed : ℕ) (s : Subscription) : Type 0 where
+pub record WereHandedOut (handed : ℕ) (s : Subscription) : Type 0 where
   pub first : 0 < s.cursor.next
   pub flight : (d : Delivery) → Contains s.flight d → IsHandedOut handed d.position
   pub acks : (position : ℕ) → Contains s.acks position → IsHandedOut handed position
@@ -98,7 +91,7 @@ pub record HasHandedOut (handed : ℕ) (s : Subscription) : Type 0 where
 abbrev pub HaveHandedOut : List QueueState → List Subscription → Type 0
 HaveHandedOut [] subscriptions = Unit {0}
 HaveHandedOut (q ∷ queues) [] = Unit {0}
-HaveHandedOut (q ∷ queues) (s ∷ subscriptions) = HasHandedOut q.handed s × HaveHandedOut queues subscriptions
+HaveHandedOut (q ∷ queues) (s ∷ subscriptions) = WereHandedOut q.handed s × HaveHandedOut queues subscriptions
 
 -- the queues, of the items that were taken, and what is kept of each subscription stand for the subscriptions
 pub record SubscribersStand (qs : List QueueState) (kept : List SubscriptionParts) (items : List Item)

@@ -3,9 +3,10 @@
 ghost use Rattle.cdc_world.specs.Laws.{ClosedSubscribersStay, NewWorldsAreReached, PlaysGoOn, PlaysPastGoOn, StepsGoOn, SubscribersAreFaithful};
 
 /// Does nothing: each clause holds of every world that steps lead to from one in which nothing has happened, over a
-/// store that holds nothing or the timestamp 0. A subscriber has applied the first so many of the events that its
-/// binding takes, in order and none twice, and all of them once it has heard the end. A close changes nothing of that.
-/// Where the binding takes every event, the book shows the balances that the ledger had at the last event applied.
+/// store that holds nothing, or a timestamp that is its start. A subscriber has applied the first so many of the events
+/// after the start that its binding takes, in order and none twice, and all of them once it has heard the end. A close
+/// changes nothing of that. Where the binding takes every event, the book has just their accounts, with the balances
+/// that the ledger had at the last event applied.
 pub fn world_laws()
     ensures faithful { SubscribersAreFaithful }
     ensures fixed { ClosedSubscribersStay }

@@ -9,7 +9,8 @@ ghost use Rattle.cdc_types.specs.Windows.{IsWindow};
 ghost use Rattle.cdc_types.specs.declared.steps.Step.TheVariants.{Save};
 ghost use Rattle.cdc_world.specs.Moves.{IsPlayCounted, IsStoreCounted, Moves, PlayFixesClosed, PlayFixesClosedBy, Plays, PlaysBy, SavesSafely, StepFixesClosed};
 ghost use Rattle.cdc_world.specs.Next.{IsReached, start_after};
-ghost use Rattle.cdc_world.specs.Stands.{SessionStands, Stands, queue_for, view_of};
+ghost use Rattle.cdc_world.specs.Stands.{Stands, queue_for, view_of};
+ghost use Rattle.cdc_publisher.specs.Stands.{SessionStands};
 ghost use Rattle.cdc_world.specs.Tries.{IsPlayCountedPast, IsStoreCountedPast, MovesPast, NextPast, is_passing};
 ghost use Rattle.cdc_world.specs.Worlds.{Subscription, WorldState, new_world, numbered, start_of, taken_items};
 
@@ -36,8 +37,8 @@ pub struct Played {
 }
 
 /// A ledger; the connector that publishes its events, with its session and its store of progress; the broker; and the
-/// subscribers, each with a queue. Any packet, confirm or acknowledgement that was ever sent may come at any time, any
-/// number of times or never.
+/// subscribers, each with a queue. Whatever was sent, a packet, a confirm or an acknowledgement, may come late, again
+/// and again, or not at all.
 ///
 /// A world keeps only what is still to be used, so a clause speaks of the states of all actors: whatever state the
 /// world stands for before a step, it stands for one after it that the step may leave.
@@ -91,9 +92,9 @@ impl<S: ProgressStore + Drop> World<S> {
 }
 
 impl<S: ProgressStore> World<S> {
-    /// Takes one step. A step that is refused changes nothing, except that a store that fails counts it, and that one
-    /// that fails to save may hold the new record. No step changes what a closed subscriber has heard, and so what it
-    /// has applied.
+    /// Takes one step. A step that is refused changes nothing, except that a store counts a read or a write that fails,
+    /// and that one that fails to save may hold the new record. No step changes what a closed subscriber has heard, and
+    /// so what it has applied.
     pub fn step(&mut self, alloc: Global, step: &Step) -> Result<Did, StepError>
         ensures next { Moves self.old step.now result self.new }
         ensures fixed { StepFixesClosed self.old step.now result self.new }
@@ -180,7 +181,8 @@ impl<S: ProgressStore> World<S> {
         self.actors.subscription_count()
     }
 
-    /// What the store holds, as it says.
+    /// What the store holds, as it says, or why it doesn't load; a read that fails is counted, and nothing else
+    /// changes.
     pub fn progress(&mut self) -> Result<Option<Progress>, StoreError>
         ensures held { IsTrue self.old.honest → (w : WorldState) → Stands self.old w
             → IfOk result (λ held. held ≡ w.held) }

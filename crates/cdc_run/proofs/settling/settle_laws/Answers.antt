@@ -17,9 +17,9 @@ returns-clause-come c =
       readings = c.traffic_laws.ensures.readings;
       runs = c.connector_laws.ensures.runs;
       faithful = c.run_laws.ensures.faithful;
-      heard = c.subscriber_laws.ensures.hears;
-      unasked = c.subscriber_laws.ensures.unasked;
-      asked = c.subscriber_laws.ensures.asked;
+      heard = c.subscriber_end_laws.ensures.hears;
+      unasked = c.subscriber_end_laws.ensures.unasked;
+      asked = c.subscriber_end_laws.ensures.asked;
     } in
     subscribers_come on
 

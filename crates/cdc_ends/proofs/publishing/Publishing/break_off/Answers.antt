@@ -1,6 +1,7 @@
 use Rattle.std.proofs.Common.{◌≡◌, Some, sym, ◌∙◌, subst}
 use Rattle.std.proofs.lemmas.Bool.{eqb-true}
-use Rattle.cdc_ends.specs.ConnectorEnds.{Publishing, SessionStands}
+use Rattle.cdc_ends.specs.ConnectorEnds.{Publishing}
+use Rattle.cdc_publisher.specs.Stands.{SessionStands}
 use Rattle.cdc_ends.specs.ConnectorFails.{IsNotBegun}
 use Rattle.cdc_ends.proofs.HandedOn.{handed_on}
 use Rattle.cdc_ends.proofs.publishing.Publishing.break_off.Goals as goal

@@ -1,5 +1,6 @@
 use Rattle.std.proofs.Common.{Some, sym, ap, ◌∙◌, subst, Option}
-use Rattle.cdc_ends.specs.ConnectorEnds.{Publishing, SessionStands}
+use Rattle.cdc_ends.specs.ConnectorEnds.{Publishing}
+use Rattle.cdc_publisher.specs.Stands.{SessionStands}
 use Rattle.cdc_ends.specs.ConnectorMoves.{IsConfirmTaken, IsReplyTaken, wanted_by}
 use Rattle.cdc_links.specs.Links.{Takes}
 use Rattle.cdc_publisher.specs.SessionState.{SessionState}

@@ -1,5 +1,5 @@
 use Rattle.cdc_ends.proofs.Closing.{asked_close, deliveries_are_heard, unasked_stay_open}
-use Rattle.cdc_ends.proofs.subscriber_ends.subscriber_laws.Goals as goal
+use Rattle.cdc_ends.proofs.subscriber_ends.subscriber_end_laws.Goals as goal
 
 pub returns-clause-hears : goal.returns-clause-hears
 returns-clause-hears c = deliveries_are_heard
