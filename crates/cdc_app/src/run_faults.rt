@@ -3,6 +3,7 @@
 use crate::run_turns::Turns;
 use cdc_message::decimal_up_to;
 use cdc_run::Faults;
+use cdc_types::Limits;
 use std::alloc::{AllocError, Global};
 
 /// The same faults once more: a run takes its own.
@@ -109,13 +110,13 @@ fn tell_missed_close(rt: &HostRuntime, subscriber: u64, count: u64, applied: &Ap
 #[derive(Clone, Copy)]
 pub struct Applied {
     /// By its number, from 1; nothing where there is none of this number.
-    counts: [Option<u64>; 8],
+    counts: [Option<u64>; Limits::SUBSCRIBERS],
 }
 
 impl Applied {
     /// What the printed lines of the subscribers say.
     pub fn in_text(printed: &[u8]) -> Applied {
-        let mut counts = [None; 8];
+        let mut counts = [None; Limits::SUBSCRIBERS];
         for line in printed.split(|byte| *byte == b'\n') {
             let mut words = line.split(|byte| *byte == b' ');
             if words.next() == Some(b"subscriber".as_slice()) {

@@ -8,7 +8,7 @@ use cdc_match::Binding;
 use cdc_progress::MemoryStore;
 use cdc_script::{ClientBatch, Script, ScriptError, parse_script};
 use cdc_telling::step_words;
-use cdc_types::{Moment, Step};
+use cdc_types::{Limits, Moment, Step};
 use cdc_world::{StepError, World};
 use rand::RngExt;
 use rand_core::SeedableRng;
@@ -47,7 +47,7 @@ struct Maker {
     /// The greatest number of a confirm that has come to a session or was left out.
     answered: u64,
     /// Of each subscriber the greatest number of an acknowledgement that has come to the broker.
-    acked: [u64; 8],
+    acked: [u64; Limits::SUBSCRIBERS],
     /// Whether something was lost that the session waits for.
     is_waiting: bool,
     /// Whether a session runs.
@@ -79,7 +79,7 @@ pub fn random_steps(
         batches_done: false,
         arrived: 0,
         answered: 0,
-        acked: [0; 8],
+        acked: [0; Limits::SUBSCRIBERS],
         is_waiting: false,
         runs: false,
         has_news: false,
