@@ -44,8 +44,8 @@ BESIDE = {
     "cdc_run/Outcomes.antt",
     "cdc_run/Meeting.antt",
 }
-# What the code of a world keeps, and what ties it to a state of the theorem, which nobody has to believe.
-TIES = {("cdc_world", "Parts.antt"), ("cdc_world", "Stands.antt")}
+# What the code of a world, or of a session, keeps, and what ties it to a state of the theorem, which nobody has to believe.
+TIES = {("cdc_publisher", "Stands.antt"), ("cdc_world", "Parts.antt"), ("cdc_world", "Stands.antt")}
 HEAD = """\
 # The definitions, read aloud
 
