@@ -369,8 +369,8 @@ def is_linked(item):
 
 
 def chains_of(items):
-    """A batch parted into its chains: the longest runs in which each item but the last is linked. An item that isn't linked and
-    follows none that is stands by itself. Only the batch's last chain may end with a linked item."""
+    """A batch parted into its chains: each goes on through linked items up to the first that isn't. An item that isn't linked
+    and follows none that is stands by itself. Only the batch's last chain may end with a linked item."""
     chains, goes_on = [], False
     for item in items:
         if goes_on:
@@ -1257,7 +1257,7 @@ def read_step(words):
 
 
 def read_start(words):
-    """What follows the word of a start that isn't alone: `at` and a moment that an event can have."""
+    """What follows the word of a start that isn't alone: `at` and a moment up to the greatest timestamp."""
     if words.take() != 'at':
         raise words.fault('wrong_count')
     moment = words.number(words.take(), 63)

@@ -71,6 +71,6 @@ Examples:
 
 Exit status:
   0  all was done
-  1  a read, a write, memory, the store of progress or a thread failed: the last line of standard output names the
-     fault, unless a write failed
+  1  a read, a write, memory, a thread, the store of progress or the run itself failed: the last line of standard
+     output names the fault, unless a write failed
   2  the words or the script are bad: standard error says what was expected, and where";

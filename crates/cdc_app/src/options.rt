@@ -53,8 +53,8 @@ Examples:
 
 Exit status:
   0  all was done
-  1  a read, a write, memory, the store of progress or a thread failed: the last line of standard output names the
-     fault, unless a write failed; or a step of a simulation was refused
+  1  a read, a write, memory, a thread, the store of progress or the run itself failed: the last line of standard
+     output names the fault, unless a write failed; or a step of a simulation was refused
   2  the words, the script or the steps are bad: standard error says what was expected, and where";
 
 /// What the words of the program ask for, its own name not being one. Without words it is `run -`.

@@ -19,7 +19,6 @@ use Rattle.cdc_message.specs.declared.packets.Packet.{Packet}
 use Rattle.cdc_message.specs.declared.packets.Packet.TheVariants.{Connect, Publish}
 use Rattle.cdc_traffic.specs.Following.{ends_to_broker, has_ended}
 use Rattle.cdc_traffic.specs.declared.messages.ToBroker.{ToBroker}
-use Rattle.cdc_traffic.specs.declared.messages.ToBroker.TheVariants as to_broker
 use Rattle.cdc_traffic.specs.declared.messages.ToConnector.{ToConnector}
 use Rattle.cdc_traffic.specs.declared.messages.ToConnector.TheVariants as to_connector
 use Rattle.cdc_traffic.specs.declared.messages.ToSubscriber.{ToSubscriber}

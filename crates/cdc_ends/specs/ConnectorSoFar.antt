@@ -78,9 +78,9 @@ pub record HasFailed (old : Publishing) (fault : RunFault) (new : Publishing) : 
 
 -- ---- laws
 
--- over an honest store, in a run that began at its start, what was sent and confirmed up to now is a connector run:
--- over what is to be told of the history that the ledger's last reply names, and of the empty one where no reply has
--- come; the replies are what the ledger may send
+-- over an honest store, in a run that began at its start, and where the replies are such as the ledger may send: what
+-- was sent and confirmed up to now is a connector run over what is to be told after the start, of the history that the
+-- ledger's last reply names, and of the empty one where no reply has come
 abbrev pub PacketsMakeRuns : Type 0
 PacketsMakeRuns = (c : Publishing) → IsConnectorSoFar c → CanSend FollowsToConnector 0 (of_sender 0 c.inbox.received)
     → c.honest ≡ true → IsAtStart (origin_of c)

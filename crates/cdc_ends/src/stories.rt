@@ -38,13 +38,13 @@ impl Carried {
 /// What became of a publish at the broker.
 #[derive(Clone, Copy, Debug, PartialEq, Eq)]
 pub enum Fate {
-    /// It is in the queues, and was confirmed.
+    /// It was accepted, and was confirmed.
     Taken,
-    /// It is in the queues, and its confirm was lost.
+    /// It was accepted, and its confirm was lost.
     ConfirmLost,
     /// It was lost.
     Lost,
-    /// It was passed over: its session was over, or an earlier publish of that was lost.
+    /// It was passed over: its session was over, or had an earlier publish lost.
     PassedOver,
 }
 

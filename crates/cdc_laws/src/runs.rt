@@ -5,9 +5,9 @@ ghost use Rattle.cdc_laws.specs.RunLaws.{RunsStayOnLongerLines, RunsStayUnderCon
 ghost use Rattle.cdc_laws.specs.RunLaws.{SubscribersOfRunsAreFaithful, TakenOfRunsIsAReplay};
 
 /// Does nothing: each clause holds of every list of packets that sessions of a connector make over what a ledger has to
-/// tell after a start. Whatever arrives of them at a broker, late, again or not at all: what the broker takes is a
-/// replay of that, and where it confirms nothing else each of its subscribers is faithful. A run stays one as more is
-/// confirmed, and as the ledger goes on.
+/// tell after a start. Whatever arrives of them at a broker, late, again or not at all: where nothing is confirmed to
+/// the connector but what the broker took, that is a replay of it, and each of its subscribers is faithful. A run stays
+/// one as more is confirmed, and as the ledger goes on.
 pub fn run_laws()
     ensures taken { TakenOfRunsIsAReplay }
     ensures begins { ReplaysOfLinesBegin }

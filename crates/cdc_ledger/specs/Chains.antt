@@ -26,7 +26,7 @@ in_front true a [] = (a ∷ []) ∷ []
 in_front true a (chain ∷ chains) = (a ∷ chain) ∷ chains
 
 -- the chains of a batch: each goes on through linked items up to the first that isn't linked, or to the batch's end, so
--- that an item that isn't linked, behind none that is, is one by itself
+-- that an item that isn't linked, and comes right behind none that is, is one by itself
 abbrev pub chains_of : {A : Type 0} → (A → Bool) → List A → List (List A)
 chains_of linked [] = []
 chains_of linked (a ∷ rest) = in_front (linked a) a (chains_of linked rest)

@@ -1,5 +1,5 @@
-//! Decimal numbers in text, as bodies, bindings, scripts and words are read; only records of progress are read
-//! otherwise.
+//! Decimal numbers in text: those of bindings, scripts and words, and a body's strings. A body's bare numbers are read
+//! as JSON has them, and records of progress where they are kept.
 
 ghost use Rattle.std.specs.Prelude.{◌≡◌, true};
 ghost use Rattle.std.specs.Char.{is_ascii_digit};

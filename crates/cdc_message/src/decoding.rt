@@ -193,9 +193,9 @@ fn decode_value(alloc: Global, bytes: &[u8]) -> Result<Event, DecodeError>
 }
 
 /// The event that the bytes of a body are. Members may come in any order, with white space between them and with
-/// further members; a number may be a decimal string or a JSON number (TigerBeetle, Change Data Capture). To see that
-/// no bytes are no text takes no memory. Else the first error is answered, in the order in which fields are checked, or
-/// want of memory.
+/// further members; a number may be a decimal string or a JSON number (TigerBeetle, Change Data Capture). The first
+/// error is answered, in the order in which fields are checked, or want of memory; to see that an empty body is no JSON
+/// takes no memory.
 pub fn decode(alloc: Global, bytes: &[u8]) -> Result<Event, DecodeError>
     ensures event { GivesUnlessMemory result (spec.read bytes.now) }
     ensures memory { result ≡ Err DecodeError.OutOfMemory → 0 < length bytes.now }

@@ -22,7 +22,7 @@ use std::{fs, io};
 /// Nothing is replaced but a record that may be replaced: a save is refused where `PATH.new` is there and can't be what
 /// a save has left that was broken off, where PATH is no record or a file that nobody may write, and where it holds
 /// another record than this store has last loaded or saved. From a load or a save that is done up to its next call
-/// a store keeps the file locked, so that another one which comes to it meanwhile is refused.
+/// a store keeps the file, where there is one, locked, so that another one which comes to it meanwhile is refused.
 ///
 /// No clause can say what a file holds: `held` is what this store saved last, or loaded last, and that the file gives
 /// it back is a premise of whoever uses the store, which nothing here proves.

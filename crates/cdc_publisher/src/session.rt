@@ -161,7 +161,8 @@ impl Session {
     /// start.
     /// Where progress is held, `at` has to be none: `StartNotAllowed`, found once the store has loaded, and before
     /// `SessionsExhausted`; nothing is saved then. `Store`: the store didn't load, and holds what it held; or it didn't
-    /// save, and holds that or the new record. `OutOfMemory`: there was no memory, here or in the store.
+    /// save, and holds what it loaded or the new record. `OutOfMemory`: there was no memory, here or in the store, and
+    /// nothing is saved.
     pub fn start<S: ProgressStore>(
         alloc: Global,
         store: &mut S,

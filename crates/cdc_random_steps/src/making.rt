@@ -48,7 +48,7 @@ struct Maker {
     answered: u64,
     /// Of each subscriber the greatest number of an acknowledgement that has come to the broker.
     acked: [u64; Limits::SUBSCRIBERS],
-    /// Whether something was lost that the session waits for.
+    /// Whether something was lost, or passed over, that the session waits for.
     is_waiting: bool,
     /// Whether a session runs.
     runs: bool,
@@ -105,7 +105,8 @@ fn make_in_world(
 }
 
 impl Maker {
-    /// Makes steps until there are enough, or none is found that the world takes.
+    /// Makes steps until there are enough, or neither one by which all goes on nor a fault is found that the world
+    /// takes. Where all is done a fault makes more to do.
     fn make(
         &mut self,
         alloc: Global,
@@ -122,7 +123,10 @@ impl Maker {
                 }
             }
             if !self.make_one(alloc, world, false)? {
-                break;
+                if faults == 0 || !self.make_one(alloc, world, true)? {
+                    break;
+                }
+                faults -= 1;
             }
         }
         Ok(())
@@ -206,8 +210,8 @@ impl Maker {
         }
     }
 
-    /// The last of so many acknowledgements of a subscriber, or else its next delivery: one that has come again and
-    /// again says nothing new, and is no way to go on.
+    /// The last of so many acknowledgements of a subscriber, where neither it nor a later one has come; else its next
+    /// delivery, since an acknowledgement that comes again says nothing new.
     fn draw_ack(&self, number: u64, count: u64) -> Draw {
         match self.acked.get(number.wrapping_sub(1) as usize) {
             Some(acked) if *acked < count => Draw::Step(Step::Ack(number, count)),
@@ -320,8 +324,12 @@ impl Maker {
                 self.is_waiting = false;
             }
             Step::Crash => self.runs = false,
-            Step::Arrive(k) => self.arrived = self.arrived.max(*k),
+            Step::Arrive(k) => {
+                self.is_waiting = self.is_waiting || *k > self.arrived.saturating_add(1);
+                self.arrived = self.arrived.max(*k);
+            }
             Step::Answer(k) => {
+                self.is_waiting = self.is_waiting || *k > self.answered.saturating_add(1);
                 self.answered = self.answered.max(*k);
                 self.has_news = true;
             }

@@ -7,7 +7,8 @@ use cdc_ends::{Repeats, RunFault, Story};
 /// place, and may take its time: so that a test can hold one end until another one has come so far.
 pub trait Gate {
     /// Returns once the end of this place may take this turn. A client's turn is one batch; any other end's is one
-    /// message received, with what it sends on it; but the connector's first receives nothing, and only sends.
+    /// message received, with what it sends on it; but the connector's first receives nothing: its first session
+    /// begins.
     fn pass(&self, place: Place, turn: u64);
 
     /// Is told what the broker's end saw of the publishes of the run, once that has finished, on its thread.

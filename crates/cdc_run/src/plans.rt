@@ -5,8 +5,8 @@ ghost use Rattle.cdc_run.specs.Plans.{IsLeastClose, HasNoFaults};
 
 use std::alloc::Global;
 
-/// The faults that a run is to meet. What is counted begins at 1 and goes on through all sessions; what an entry names
-/// may not be there, and one that stands twice is met once.
+/// The faults that a run is to meet. What is counted begins at 1 and goes on through all sessions; an entry for
+/// which nothing is there changes nothing, and one that stands twice is met once.
 #[derive(Drop)]
 pub struct Faults {
     /// Which confirms are lost, by the place of their publishes among those accepted.

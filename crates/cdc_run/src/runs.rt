@@ -95,7 +95,7 @@ fn ends_of<S: ProgressStore + Drop>(
 /// Runs a ledger, its clients, a connector, a broker and its subscribers, each on a thread of its own, until all have
 /// finished, and reports what they come to. Each client submits its script, in its order. The gate is asked before each
 /// turn. Where the run is told to start after a moment, its first session is, and no later one. Of the faults that
-/// were met that of the lowest place is answered, and `PeerGone` only if nothing else was met. `OutOfMemory` is also
+/// were met that of the first place is answered, and `PeerGone` only if nothing else was met. `OutOfMemory` is also
 /// that a thread can't be started.
 pub fn run<S: ProgressStore + Send + Drop, R: Threads + Wait + Sync, G: Gate + Sync>(
     rt: &R,

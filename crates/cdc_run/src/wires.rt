@@ -91,9 +91,10 @@ fn own<M: Message>(
 }
 
 /// The links of a run, each with room for all that its senders can have on their way at once, so that none waits for
-/// room: a request of each client, two polls and the connector's last message; `window` + 1 confirms and the replies to
-/// polls; as many packets, the connector's last message and `prefetch` acknowledgements of each subscriber; one reply;
-/// `prefetch` deliveries and the last message.
+/// room. To the ledger: a message of each client, two polls and the connector's last message. To the connector:
+/// `window` + 1 confirms and the replies to two polls. To the broker: `window` + 1 packets, the connector's last
+/// message and `prefetch` acknowledgements of each subscriber. To a client: one reply. To a subscriber: `prefetch`
+/// deliveries and the last message.
 pub(crate) fn make_wires(alloc: Global, config: &Config) -> Result<Wires, AllocError>
     requires { Fits config.now }
     ensures { IfOk result (λ all. AreWired config.now.clients (vec_len config.now.bindings) all) }

@@ -18,8 +18,8 @@ abbrev pub reply_values : ℕ → List (ℕ × Reply) → List Data
 reply_values n [] = []
 reply_values n (entry ∷ rest) = batch_value n entry.1.answer ∷ reply_values (n + 1) rest
 
--- this is told of a report: the replies to all batches, in an order of which this is the client of each, and then what
--- each subscriber holds
+-- this is told of a report: the replies to all batches, each client's in its own order and the clients' as they stand
+-- here, and then what each subscriber holds
 pub record TellsReport (order : List ℕ) (report : Report) (printed : List ℕ) : Type 0 where
   pub replies : List (ℕ × Reply)
   pub merged : AreMerged order (replies_of report) replies

@@ -54,8 +54,8 @@ abbrev pub kept_text : ℕ → List SubscriberState → List ℕ
 kept_text n [] = []
 kept_text n (kept ∷ rest) = subscriber_text n kept ++ kept_text (n + 1) rest
 
--- this is printed of a report: the replies to all batches, in an order of which this is the client of each, and then
--- what each subscriber holds
+-- this is printed of a report: the replies to all batches, each client's in its own order and the clients' as they
+-- stand here, and then what each subscriber holds
 pub record PrintsReport (order : List ℕ) (report : Report) (printed : List ℕ) : Type 0 where
   pub replies : List (ℕ × Reply)
   pub merged : AreMerged order (replies_of report) replies

@@ -37,7 +37,7 @@ fn reply_text(alloc: Global, replies: &[&Reply]) -> Result<String, AllocError>
     Ok(lines)
 }
 
-/// The replies to all batches, in the order of the script: this is the client of each.
+/// The replies to all batches, in the order of the script, which is given by the client of each batch.
 pub(crate) fn replies_in_order<'a>(
     alloc: Global,
     order: &[u64],

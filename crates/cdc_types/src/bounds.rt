@@ -1,4 +1,5 @@
-//! The limits of the whole product. Code and definitions cite them; contracts of the ends alone say 64 of a prefetch.
+//! The limits of the whole product. Code and definitions cite them; only contracts of a run's ends say 64 of a
+//! prefetch, and lists that have a place for each client or subscriber how many places they have.
 
 /// The limits that every part keeps to.
 pub struct Limits;

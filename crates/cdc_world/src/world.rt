@@ -181,8 +181,8 @@ impl<S: ProgressStore> World<S> {
         self.actors.subscription_count()
     }
 
-    /// What the store holds, as it says, or why it doesn't load; a read that fails is counted, and nothing else
-    /// changes.
+    /// What the store holds, as it says, or why it doesn't load. A read that fails is counted, and where the store is
+    /// honest nothing else changes.
     pub fn progress(&mut self) -> Result<Option<Progress>, StoreError>
         ensures held { IsTrue self.old.honest → (w : WorldState) → Stands self.old w
             → IfOk result (λ held. held ≡ w.held) }
