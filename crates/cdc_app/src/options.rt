@@ -157,7 +157,7 @@ pub fn window_option<'a>(alloc: Global) -> Arg<'a> {
         .long("window")
         .value_name("N")
         .action(ArgAction::Set)
-        .help("For how many events a session waits at a time, 1 to 64")
+        .help("For how many events a session waits at a time: 1 to 64, or 1")
 }
 
 /// The flag `--explain`.
