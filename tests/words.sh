@@ -970,6 +970,10 @@ for seed in {1..50}; do
     run simulate two-phase.script random.steps --window $((seed % 3 + 1))
     same "the steps of the seed $seed among what is told, played again" "$made" "$out"
 done
+# As many faults as are asked for are made: where all is done, one of them makes more to do.
+run simulate two-phase.script --random 7 --steps 1000 --faults 100
+same 'faults by chance: at least 40 that show in the steps' yes \
+    "$([ "$(grep -cE '^(crash|rewind|break|close)( |$)' errors)" -ge 40 ] && echo yes)"
 run simulate two-phase.script --random 7 --steps 0
 same 'no steps by chance' 'steps 0 of 0' "$(head -n 1 output)"
 same 'no steps by chance: standard error' '# relayplum simulate FILE --random 7 --steps 0 --faults 10 --window 1

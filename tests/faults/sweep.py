@@ -8,8 +8,11 @@ A small library, faults.c, is built and loaded before the C library; it refuses 
 run below, and for every call of it in turn:
 - a growth that is refused ends it with the one line of want of memory and status 1. Under `simulate` it refuses a step
   where it is the step's own: what is then printed is the state that the steps before it make when they are played
-  alone. Each kind of step that always takes memory is refused so at some of its growths. Steps that are made by chance are
-  the same ones whatever is refused later, or none.
+  alone. Each kind of step that always takes memory is refused so at some of its growths. Steps that are made by chance
+  stand on standard error as they are without a refusal, or the command gives up.
+- a growth that is refused once all is printed changes neither that nor the status; what standard error tells with
+  `--explain`, `--trace` and `--diagram`, and the notes, is told whole or not at all. Of a step that lacked memory none of
+  it is told.
 - a read that is refused ends it with the one line of read_fault and status 1;
 - a write that is refused ends it with status 1, a beginning of what it prints, and the write_fault on standard error;
   one of standard error's changes nothing that is printed, nor the status;
@@ -40,9 +43,18 @@ TOP = os.path.dirname(os.path.dirname(HERE))
 JOBS = 2
 SECONDS = 60
 NO_MEMORY = (1, b"fault: out_of_memory\n")
-NOT_READ = (1, b"fault: read_fault\n")
-REFUSED = re.compile(rb"^steps (\d+) of (\d+)\nrefused (\d+) out_of_memory\n", re.M)
-STEPS = re.compile(rb"^steps \d+ of \d+\n", re.M)
+NO_MEMORY_JSON = (1, b'{"kind":"fault","name":"out_of_memory"}\n')
+NOT_READ = {False: (1, b"fault: read_fault\n"), True: (1, b'{"kind":"fault","name":"read_fault"}\n')}
+REFUSED = {
+    False: re.compile(rb"^steps (\d+) of (\d+)\nrefused (\d+) out_of_memory\n", re.M),
+    True: re.compile(
+        rb'^{"kind":"steps","done":(\d+),"of":(\d+)}\n{"kind":"refused_step","step":(\d+),"name":"out_of_memory"}\n', re.M
+    ),
+}
+STEPS = re.compile(rb'^(steps \d+ of \d+|{"kind":"steps","done":\d+,"of":\d+})\n', re.M)
+# The last line of standard error where a command gave up.
+GAVE_UP = b"relayplum: out_of_memory: no memory was left\n"
+TOLD = {"--explain", "--trace", "--diagram"}
 # The kinds of steps that always take memory.
 GROWING = {b"batch", b"poll", b"publish", b"arrive", b"send", b"take"}
 failures = []
@@ -67,6 +79,12 @@ CASES = [
     (["simulate", example("two-phase.script"), example("faults.steps")], None),
     (["simulate", EVERY, os.path.join(HERE, "every-step.steps")], None),
     (["simulate", example("two-phase.script"), "--random", "7", "--steps", "120"], None),
+    (["books", "--json", EVERY], None),
+    (["messages", example("two-phase.script"), "--json"], None),
+    (["simulate", EVERY, os.path.join(HERE, "every-step.steps"), "--json"], None),
+    (["books", EVERY, "--explain"], None),
+    (["books", example("refusals.script"), "--explain", "--json"], None),
+    (["simulate", EVERY, os.path.join(HERE, "every-step.steps"), "--explain", "--trace", "--diagram"], None),
 ]
 
 
@@ -101,17 +119,32 @@ class Case:
         self.folder = os.path.join(room, str(number))
         os.mkdir(self.folder)
         calls = os.path.join(self.folder, "calls")
+        self.is_json = "--json" in words
         self.good = Run(words, stdin, CALLS=calls)
         with open(calls, "rb") as file:
             self.calls = {kind.decode(): int(count) for kind, count in (line.split() for line in file)}
         self.played = {}
+        self.made = b""
         if words[0] == "simulate":
             if "--random" in words:
-                text = self.good.errors
+                text = self.made = self.good.errors
             else:
                 with open(words[2], "rb") as file:
                     text = file.read()
             self.steps = [line for line in text.split(b"\n") if line.strip() and line[:1] != b"#"]
+        self.told_errors = self.errors_where_told()
+
+    def errors_where_told(self):
+        """What standard error may have once all is printed: what is told and the notes, each whole or not at all. Where
+        nothing is asked for, it may be anything."""
+        if not TOLD & set(self.words):
+            return None
+        plain = Run([it for it in self.words if it not in TOLD], self.stdin).errors
+        notes = b"".join(line for line in plain.splitlines(True) if b": note: " in line)
+        told = self.good.errors[: len(self.good.errors) - len(notes)]
+        if self.good.errors != told + notes or not told:
+            failures.append(f"failed: {self.name}: without a refusal standard error isn't what is told and then the notes")
+        return {told + notes, told, notes, b""}
 
     def run(self, plan):
         return Run(self.words, self.stdin, FAULT=plan)
@@ -127,17 +160,32 @@ class Case:
             steps = os.path.join(self.folder, f"{done}.steps")
             with open(steps, "wb") as file:
                 file.write(b"".join(step + b"\n" for step in self.steps[:done]))
-            self.played[done] = STEPS.sub(b"", Run([*self.words[:2], steps], self.stdin).end[1])
+            words = [*self.words[:2], steps] + (["--json"] if self.is_json else [])
+            self.played[done] = STEPS.sub(b"", Run(words, self.stdin).end[1])
         return self.played[done]
 
     def refused_step(self, run):
         """The number of the step that was refused for want of memory, where the rest is as it has to be; else None."""
-        found = REFUSED.search(run.end[1])
+        found = REFUSED[self.is_json].search(run.end[1])
         if self.words[0] != "simulate" or run.end[0] != 1 or not found:
             return None
         done, count, refused = map(int, found.groups())
         rest = run.end[1][: found.start()] + run.end[1][found.end() :]
         return refused if count == len(self.steps) and refused == done + 1 and rest == self.after(done) else None
+
+    def no_memory(self):
+        """How a command ends that lacks memory: as text, too, where it does before its words are read."""
+        return [NO_MEMORY, NO_MEMORY_JSON] if self.is_json else [NO_MEMORY]
+
+    def errors_are_right(self, step, run):
+        """Whether standard error is as it has to be where a growth was refused."""
+        if run.end in self.no_memory():
+            return run.errors.endswith(GAVE_UP)
+        if self.told_errors is None:
+            return run.errors.startswith(self.made)
+        if step is None:
+            return run.errors in self.told_errors
+        return b"out_of_memory" in run.errors and not any(told and told in run.errors for told in self.told_errors)
 
     def growths(self, pool):
         """Each growth is refused in turn."""
@@ -145,7 +193,7 @@ class Case:
         ended = list(zip(plans, pool.map(self.run, plans)))
         steps = [self.refused_step(run) for _, run in ended]
         for step, (plan, run) in zip(steps, ended):
-            if step is None and run.end not in (self.good.end, NO_MEMORY):
+            if step is None and run.end not in (self.good.end, *self.no_memory()) or not self.errors_are_right(step, run):
                 self.fail(plan, run)
         found = [step for step in steps if step is not None]
         if found != sorted(found):
@@ -153,7 +201,7 @@ class Case:
         if self.words[0] == "simulate":
             for word in sorted(GROWING - {self.steps[step - 1].split()[0] for step in found}):
                 failures.append(f"failed: {self.name}: no step `{word.decode()}` is refused for want of memory")
-        told = Counter("refused a step" if step else "ended the command" if run.end == NO_MEMORY else "changed nothing"
+        told = Counter("refused a step" if step else "ended the command" if run.end in self.no_memory() else "changed nothing"
                        for step, (_, run) in zip(steps, ended))
         return f"{len(plans)} growths ({', '.join(f'{count} {what}' for what, count in sorted(told.items()))})"
 
@@ -161,7 +209,7 @@ class Case:
         """Each read is refused in turn."""
         plans = [f"read:{n}" for n in range(1, self.calls["read"] + 1)]
         for plan, run in zip(plans, pool.map(self.run, plans)):
-            if run.end != NOT_READ or b": read_fault: " not in run.errors:
+            if run.end != NOT_READ[self.is_json] or b": read_fault: " not in run.errors:
                 self.fail(plan, run)
         return f"{len(plans)} reads"
 
