@@ -19,6 +19,8 @@ import re
 import subprocess
 import threading
 
+import json_text
+
 SECONDS = 20
 # How often all growths of a run are refused once more, where an end has met none.
 AGAIN = 30
@@ -43,12 +45,14 @@ NONE_KEPT = "subscriber {} applied 0 last 0 ended yes closed no\n"
 OF_TWO = "batch 1: 0 0\nbatch 2: 0\nbatch 3: 0 0\nbatch 4: 0\nsubscriber 1 applied 2 last T ended yes closed no\n"
 OF_TWO += "account 1 0 5 0 0\naccount 2 0 0 0 5\naccount 3 0 7 0 0\naccount 4 0 0 0 7\n"
 OTHERS_KEPT = "subscriber 2 applied 1 last T ended yes closed no\naccount 3 0 7 0 0\naccount 4 0 0 0 7\n"
-# The scripts, what a run of each prints, and the windows.
+# The scripts, what a run of each prints, the windows, and what else is asked for.
 CASES = [
-    ("one client, two subscribers", ALL + POSTED + HOLD_AND_POST, BATCHES + ALL_KEPT + POSTED_KEPT, (1, 2)),
-    ("one client, one subscriber", ALL + HOLD_AND_POST, BATCHES + ALL_KEPT, (2,)),
-    ("two clients, two subscribers", ALL + OTHERS + TWO_CLIENTS, OF_TWO + OTHERS_KEPT, (1, 2)),
-    ("two clients, one subscriber", ALL + TWO_CLIENTS, OF_TWO, (1,)),
+    ("one client, two subscribers", ALL + POSTED + HOLD_AND_POST, BATCHES + ALL_KEPT + POSTED_KEPT, (1, 2), []),
+    ("one client, one subscriber", ALL + HOLD_AND_POST, BATCHES + ALL_KEPT, (2,), []),
+    ("two clients, two subscribers", ALL + OTHERS + TWO_CLIENTS, OF_TWO + OTHERS_KEPT, (1, 2), []),
+    ("two clients, one subscriber", ALL + TWO_CLIENTS, OF_TWO, (1,), []),
+    ("objects", ALL + HOLD_AND_POST, BATCHES + ALL_KEPT, (2,), ["--json"]),
+    ("told", ALL + POSTED + HOLD_AND_POST, BATCHES + ALL_KEPT + POSTED_KEPT, (2,), ["--explain", "--trace"]),
 ]
 # What a run of the first script prints that goes on from a moment.
 LATER = {
@@ -63,6 +67,11 @@ KIND_OF = {"open": "open", "look": "open", "read": "read", "write": "write", "sy
 HOW = ["", " after", " end", " after end"]
 RECORD = re.compile(rb"tb-cdc (?:1 (?=\d+ \d+\n)|2 (?=\d+ \d+ \d+\n))(\d+) (\d+)(?: 0)?\n")
 WANTED = re.compile(r"relayplum: out_of_memory: (no memory was left|no thread could be started)(?: for ([a-z]+(?: [a-z]+| \d+)))?\n")
+# The lines of a trace where the run had no memory to note all that it tells of.
+LACKING = re.compile(
+    rb"there was no memory to tell of all publishes|again \d: there was no memory to tell of all"
+    rb"|subscriber \d: \d+ deliver(?:y|ies), \d+ applied, each once; the other (?:one|\d+) came again, .*"
+)
 BEGINNING = re.compile(rb"(t|tb|tb-|tb-c|tb-cd|tb-cdc|tb-cdc [0-9 ]*\n?)?")
 
 
@@ -93,6 +102,19 @@ def places_of(script):
     clients = sorted({int(it.split()[1]) for it in lines if it.startswith("client ")} or {1})
     subscribers = range(1, 1 + sum(it.startswith("subscriber ") for it in lines))
     return ["the ledger", *[f"client {it}" for it in clients], "the connector", "the broker", *[f"subscriber {it}" for it in subscribers]]
+
+
+def is_told(errors, told_of):
+    """Whether standard error tells of a run what it does without a refusal, less what lacked memory."""
+    return all(line in told_of.splitlines() or LACKING.fullmatch(line) for line in errors.splitlines())
+
+
+def as_text(printed):
+    """The text that objects stand for; what is none is left as it is."""
+    try:
+        return json_text.rendered(printed)
+    except (ValueError, KeyError, TypeError):
+        return printed
 
 
 def settled(text):
@@ -136,19 +158,19 @@ class Sweep:
             done = subprocess.run(words, input=script.encode(), capture_output=True, env=env, cwd=folder, timeout=SECONDS)
         except subprocess.TimeoutExpired:
             return ("none", f"it hasn't ended after {SECONDS} seconds"), b""
-        return (done.returncode, done.stdout), done.stderr
+        return (done.returncode, as_text(done.stdout) if "--json" in words else done.stdout), done.stderr
 
     # -- growths and threads
 
-    def sweep_case(self, pool, name, script, printed, window):
+    def sweep_case(self, pool, name, script, printed, window, asked):
         """Each growth and each start of a thread is refused."""
-        words = ["--window", str(window)]
+        words = ["--window", str(window), *asked]
         reads = (lambda text: text) if script.count("client") < 2 else settled
         is_right = lambda ended: ended[0] == 0 and reads(ended[1].decode()) == printed
         calls, folder = {"growth": 0, "thread": 0}, self.folder()
         # (how many growths there are hangs on the threads)
         for _ in range(3):
-            ended, _ = self.run(script, words, CALLS=os.path.join(folder, "calls"))
+            ended, told_of = self.run(script, words, CALLS=os.path.join(folder, "calls"))
             if not is_right(ended):
                 self.fail(f"{name}, window {window}, no fault: {ended}")
             found = dict(line.split() for line in contents(os.path.join(folder, "calls")).decode().splitlines())
@@ -168,7 +190,7 @@ class Sweep:
             elif refused:
                 # (to start a thread takes some memory too)
                 refused = said[2] in places
-            if not refused and not (plan.startswith("growth") and is_right(ended)):
+            if not refused and not (kind == "growth" and is_right(ended) and is_told(errors, told_of)):
                 self.fail(f"{name}, window {window}, {plan}: {ended}, {errors!r}")
             told[refused] = told.get(refused, 0) + 1
         if calls["thread"] != len(places):
@@ -280,8 +302,8 @@ class Sweep:
         print(f"run, {name}: {len(numbers)} growths", flush=True)
 
     def sweep(self, pool):
-        for name, script, printed, windows in CASES:
+        for name, script, printed, windows, asked in CASES:
             for window in windows:
-                self.sweep_case(pool, name, script, printed, window)
+                self.sweep_case(pool, name, script, printed, window, asked)
         for name, start in STARTS.items():
             self.sweep_saves(pool, name, start)
