@@ -129,7 +129,9 @@ class Case:
         self.made = b""
         if words[0] == "simulate":
             if "--random" in words:
-                text = self.made = self.good.errors
+                text = self.good.errors
+                # (comments behind the last step say what came of the play)
+                self.made = text[: re.match(rb"(?:.*\n)*(?!#).*\n", text).end()]
             else:
                 with open(words[2], "rb") as file:
                     text = file.read()
