@@ -85,6 +85,7 @@ CASES = [
     (["books", EVERY, "--check"], None),
     (["simulate", EVERY, os.path.join(HERE, "every-step.steps"), "--check", "--json"], None),
     (["books", EVERY, "--explain"], None),
+    (["books", os.path.join(HERE, "noted.script"), "--explain"], None),
     (["books", example("refusals.script"), "--explain", "--json"], None),
     (["simulate", EVERY, os.path.join(HERE, "every-step.steps"), "--explain", "--trace", "--diagram"], None),
 ]
