@@ -2,7 +2,7 @@
 # Tests of the script `relayplum`: when it builds, what it says meanwhile, and what it hands on. Nothing is proved here:
 # a copy of the script stands in a small repository of its own, and an `rt` of these tests takes the toolchain's place.
 set -uo pipefail
-here=$(cd "$(dirname "${BASH_SOURCE[0]}")/.." && pwd)
+here=$(cd "$(dirname "${BASH_SOURCE[0]}")/../.." && pwd)
 room=$(mktemp -d)
 trap 'rm -rf "$room"' EXIT
 passed=0
