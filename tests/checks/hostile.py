@@ -4,7 +4,8 @@
     tests/checks/hostile.py [PROGRAM]    PROGRAM: crates/cdc_app/out/cdc_app
 
 Each case has a folder of its own. A run that is refused says so in the last line of standard output, names the file on standard
-error, and leaves the folder as it was; one that isn't leaves the record, in the file that was named, and no other file. Where it is run as root, the program is run as nobody, so that modes and owners count.
+error, and leaves the folder as it was; one that isn't leaves the record, in the file that was named, and no other file. If the
+check is run as root, the program is run as nobody, so that modes and owners count.
 
 Runs that may not have all their threads, or whose address space is small, are out of memory. A run that comes while another
 one is held in a save is refused; without a C compiler, cc, that part is left out, and a line says so. Then runs are ended in

@@ -13,6 +13,7 @@ The last line is 'scripts: N passed, M failed'; the status is 1 if one failed.
 import argparse
 import concurrent.futures
 import os
+import shutil
 import subprocess
 import sys
 import tempfile
@@ -28,8 +29,9 @@ SECONDS, JOBS = 300, 2
 # alone, and end with a traceback if nobody reads it: their bytes are part of a record, or they are about to move.
 WITHOUT_HELP = {"tests/checks/launcher.sh"}
 WITH_TRACEBACK = {"tests/wrong_bodies.py", "tests/records.py"}
-# Which scripts need the newer Python, since they read the model.
-OF_MODEL = {"tests/checks/soak.py", "tests/checks/stress.py", "tests/checks/kill.py", "tests/bench/speed.py", "tests/common/model.py"}
+# Which scripts need the newer Python, since they read the model, and which need rt even for their help.
+OF_MODEL = {f"tests/{it}.py" for it in ("checks/soak", "checks/stress", "checks/kill", "bench/speed", "common/model")}
+WITH_RT = {"tests/wrong_bodies.py"}
 passed, failures = 0, []
 
 
@@ -102,9 +104,10 @@ def parts_left_out():
         printed = call([f"{TOP}/tests/checks/guide.sh", "/bin/true"], env)[1]
         same("guide, without jq", True, " blocks: there is no jq (Debian package jq)\nguide: " in printed)
         same("jq is named as elsewhere", "there is no jq (Debian package jq)", needs.no_command("jq"))
-        words = f"import sys; sys.path.insert(0, '{TOP}/tests/common'); import holding; holding.library_in('.', 'stress', 'a run that waits')"
+        words = f"import sys; sys.path.insert(0, '{TOP}/tests/common'); import holding; holding.library_in('.', 'stress', 'a part')"
         ended = call([sys.executable, "-c", words], env)
-        same("stress and hostile, without cc", (0, "stress: not tried: a run that waits: there is no cc (Debian package gcc)\n", ""), ended)
+        same("stress and hostile, without cc", (0, f"stress: not tried: a part: {needs.no_command('cc')}\n", ""), ended)
+        same("cc is named with its package", "there is no cc (Debian package gcc)", needs.no_command("cc"))
 
 
 def main(words):
@@ -119,6 +122,9 @@ def main(words):
         if needs.python_version() < (3, 10):
             print("scripts: not tried: the scripts that read the model, which need Python 3.10")
             names = [it for it in names if it not in OF_MODEL]
+        if shutil.which("rt") is None:
+            print(f"scripts: not tried: tests/wrong_bodies.py: {needs.no_command('rt')}")
+            names = [it for it in names if it not in WITH_RT]
         with concurrent.futures.ThreadPoolExecutor(JOBS) as pool:
             for found in pool.map(lambda name: helps(name, env), names):
                 for it in found:

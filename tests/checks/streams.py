@@ -25,6 +25,7 @@ import rooms
 # A script whose book is good, and says so.
 SCRIPT = b"subscriber all\n"
 PAGE = 4096
+F_SETPIPE_SZ = 1031  # the module fcntl has it from Python 3.10 on
 SECONDS = 300  # that a run may take: a last guard against one that hangs
 program = None
 failures = []
@@ -125,7 +126,7 @@ def writes_that_fail():
             whole = run([command, *files], subprocess.DEVNULL).stdout
             same(f"{command}: the report is longer than the pipe", True, len(whole) > PAGE)
             reader, writer = os.pipe()
-            fcntl.fcntl(writer, fcntl.F_SETPIPE_SZ, PAGE)
+            fcntl.fcntl(writer, F_SETPIPE_SZ, PAGE)
             os.set_blocking(writer, False)
             ran = run([command, *files], subprocess.DEVNULL, writer)
             os.close(writer)

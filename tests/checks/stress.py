@@ -492,7 +492,7 @@ def run_test(test, options, runner, processors):
     leave = on_processors(processors)
     for time_ in range(1, options.times + 1):
         words = [options.tests, test]
-        ran = subprocess.run(words, cwd=runner.folder, capture_output=True, timeout=60, preexec_fn=leave)
+        ran = subprocess.run(words, cwd=runner.folder, capture_output=True, timeout=SECONDS, preexec_fn=leave)
         found = ran.returncode if ran.returncode == 0 else (ran.returncode, ran.stdout[-500:], ran.stderr[-500:])
         runner.note(f'{test}, time {time_}', [0], found)
     print(f'{test}: {options.times} times on {processors} processors', flush=True)
