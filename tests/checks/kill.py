@@ -3,7 +3,8 @@
 
     tests/checks/kill.py [--program PATH] [--kills N] [--seed S]
 
-A run of one client keeps its progress in a file, and is killed at a random moment, now and then several times in a row.
+A run of one client keeps its progress in a file, and is killed, now and then several times in a row: at a random moment, or in
+a random save, where it is held (holding.py), so that kills come there however fast the machine is.
 What the file holds then has to be a whole record, not behind the one before it, and at an event's moment. Then the run
 is begun again and comes to its end. It makes the ledger's events anew, the same ones; of those after the saved moment
 each has to come to its subscribers, once, and no other: their lines have to be what the outside model (model.py) has
@@ -22,6 +23,7 @@ import time
 
 sys.path.insert(0, os.path.join(os.path.dirname(os.path.realpath(__file__)), '..', 'common'))
 import ending
+import holding
 import model
 import rooms
 import scripts
@@ -45,10 +47,13 @@ class Killing:
         self.script = model.read_script(script.encode('ascii'))
         self.ledger, self.batches = model.run_batches(self.script)
         self.moments = [0] + [event.timestamp for event in self.ledger.events]
+        self.library = holding.library_in(folder, 'kill', 'kills in a save')
+        os.mkfifo(self.folder / 'hold')
         self.start = None  # the moment after which the run starts, where it is told to
         self.seconds = self.length()
         # Kills before anything was saved, before the first event was, between events, and after the last one.
         self.when = dict.fromkeys(['before the start', 'before an event', 'between events', 'after the last event'], 0)
+        self.in_save = 0  # kills of runs that were held in a save
         self.ended = 0  # runs that came to their end before they were killed
         self.passed = 0
         self.failed = 0
@@ -78,7 +83,9 @@ class Killing:
         return ran.stdout.decode('ascii') if ran.returncode == 0 else f'status {ran.returncode}: {ran.stdout[-300:]}'
 
     def kill_one(self):
-        """Starts a run and kills it after a while; whether it was still there."""
+        """Starts a run and kills it, in one of its saves or after a while; whether it was still there."""
+        if self.library is not None and self.rng.random() < 0.5:
+            return self.kill_in_save(self.rng.randint(1, self.rng.choice([3, len(self.moments)])))
         delay = self.rng.choice([self.rng.uniform(0, 1), self.rng.uniform(0, 1), self.rng.uniform(0, 0.1)])
         with subprocess.Popen(
             self.words(), cwd=self.folder, stdout=subprocess.DEVNULL, stderr=subprocess.DEVNULL
@@ -89,6 +96,18 @@ class Killing:
                 run.kill()
                 return run.wait() == -9
         return False
+
+    def kill_in_save(self, number):
+        """Starts a run and kills it in the save of this number, where it is held; whether it came to that."""
+        how = {'stdout': subprocess.DEVNULL, 'stderr': subprocess.DEVNULL, 'env': holding.environment(self.library, number)}
+        with subprocess.Popen(self.words(), cwd=self.folder, **how) as run:
+            held = holding.wait_until_held(run, self.folder / 'hold')
+            if held is None:
+                return False
+            run.kill()
+            os.close(held)
+            self.in_save += 1
+            return run.wait() == -9
 
     def saved(self):
         """The record in the file: session, moment and start, or None where there is no file."""
@@ -168,7 +187,7 @@ class Killing:
 
     def told(self):
         text = f'a run takes {self.seconds:.3f} s; killed ' + ', '.join(f'{name} {n}' for name, n in self.when.items())
-        text += f'; {self.ended} ended before that\nkill: {self.passed} passed, {self.failed} failed'
+        text += f'; {self.in_save} in a save; {self.ended} ended before that\nkill: {self.passed} passed, {self.failed} failed'
         return text
 
 
