@@ -7,10 +7,12 @@ It waits on a free port of this machine, prints its number, and hands on what pa
 has come to the broker, and its confirm has come back as far as here: that it doesn't reach the publisher is the fault.
 It runs until it is ended (SIGTERM).
 """
+import argparse
 import socket
 import struct
-import sys
 import threading
+
+import console
 
 METHOD, CONTENT_HEADER, CONTENT_BODY = 1, 2, 3
 PUBLISH, CONFIRM = (60, 40), (60, 80)
@@ -107,8 +109,24 @@ class Breaker:
             self.confirmed.set()
 
 
+def count_of(word):
+    """A number from 1."""
+    if not (word.isascii() and word.isdecimal() and int(word) > 0):
+        raise argparse.ArgumentTypeError(f'{word} is no number from 1')
+    return int(word)
+
+
+def read_words():
+    """The broker's port, and after how many publishes the connection breaks."""
+    parser = argparse.ArgumentParser(description=__doc__, formatter_class=argparse.RawDescriptionHelpFormatter)
+    parser.add_argument('port', metavar='BROKER_PORT', type=count_of, help='the port of the broker, on this machine')
+    parser.add_argument('every', metavar='N', type=count_of, help='after every Nth publish the connection breaks')
+    words = parser.parse_args()
+    return words.port, words.every
+
+
 def main():
-    broker_port, every = (int(word) for word in sys.argv[1:])
+    broker_port, every = read_words()
     breaker = Breaker(every)
     with socket.create_server(('127.0.0.1', 0)) as door:
         print(door.getsockname()[1], flush=True)
@@ -119,4 +137,4 @@ def main():
 
 
 if __name__ == '__main__':
-    main()
+    console.run(main)

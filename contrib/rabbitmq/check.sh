@@ -4,6 +4,12 @@
 # Ends with 1 where something differs, and with 2 where the second half couldn't be tried: RabbitMQ, pika or the program
 # isn't there.
 set -uo pipefail
+case ${1-} in
+-h | --help)
+    sed -n '2,/^[^#]/s/^# \{0,1\}//p' "$0"
+    exit 0
+    ;;
+esac
 here=$(cd "$(dirname "$(readlink -f "${BASH_SOURCE[0]}")")" && pwd)
 program=$(realpath -m "${1:-$here/../../crates/cdc_app/out/cdc_app}")
 python=/usr/bin/python3

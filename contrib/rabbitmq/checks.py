@@ -10,6 +10,7 @@ import sys
 import tempfile
 import unittest
 
+import console
 import relay
 import stream
 from console import BAD_WORDS, FAILED, Stop
@@ -215,6 +216,15 @@ class Words(Case):
         self.assertRegex(said, text)
         self.assertEqual(said.count('\n'), 1, said)
 
+    def test_help(self):
+        self.file('raise ImportError\n', 'pika.py')
+        for variables in (os.environ, {**os.environ, 'PYTHONPATH': str(self.room)}):
+            for script in ('book.py', 'breaker.py', 'bridge.py', 'queues.py', 'rates.py'):
+                with self.subTest(script):
+                    run = subprocess.run([sys.executable, HERE / script, '--help'], env=variables, capture_output=True, text=True)
+                    self.assertEqual((run.returncode, run.stderr), (0, ''))
+                    self.assertIn(f'{script} ', run.stdout)
+
     def test_no_pika(self):
         self.file('raise ImportError\n', 'pika.py')
         for script in ('bridge.py', 'book.py'):
@@ -239,4 +249,4 @@ class Words(Case):
 
 
 if __name__ == '__main__':
-    unittest.main()
+    console.run(unittest.main)

@@ -4,12 +4,13 @@ import logging
 import re
 import sys
 
-from console import BAD_WORDS, Stop, say
+from console import BAD_WORDS, Stop, help_alone, say
 
 try:
     import pika
     from pika.exceptions import AuthenticationError, ProbableAccessDeniedError, ProbableAuthenticationError
 except ImportError:
+    help_alone()
     say(f'{sys.executable} has no pika: on Debian apt-get install python3-pika, for the system\'s own python3')
     sys.exit(BAD_WORDS)
 

@@ -1,4 +1,5 @@
 """What the scripts here tell a person, and how they end."""
+import os
 import pathlib
 import sys
 
@@ -19,11 +20,27 @@ def say(sentence):
 
 
 def run(main):
-    """Runs a script and exits with its status; where it has to stop, with a sentence and no trace."""
+    """Runs a script and exits with its status. If it has to stop, or nobody reads what it prints, there is no trace."""
     try:
-        sys.exit(main())
+        try:
+            status = main()
+        finally:
+            if sys.stdout is not None:
+                sys.stdout.flush()
     except Stop as why:
         say(why)
-        sys.exit(why.status)
+        status = why.status
     except KeyboardInterrupt:
-        sys.exit(130)
+        status = 130
+    except BrokenPipeError:
+        # What is left unwritten is dropped, so that Python doesn't try again.
+        os.dup2(os.open(os.devnull, os.O_WRONLY), sys.stdout.fileno())
+        status = FAILED
+    sys.exit(status)
+
+
+def help_alone():
+    """Prints the comment at the head of the script and ends it, if its help is asked for. A script that lacks what it needs to
+    read its arguments calls this first."""
+    if {'-h', '--help'} & set(sys.argv[1:]):
+        run(lambda: print(sys.modules['__main__'].__doc__))

@@ -6,6 +6,12 @@
 # ended, with a late start, with bridges that are ended and resumed, with bindings that change, and with logins that the
 # broker refuses.
 set -uo pipefail
+case ${1-} in
+-h | --help)
+    sed -n '2,/^[^#]/s/^# \{0,1\}//p' "$0"
+    exit 0
+    ;;
+esac
 here=$(cd "$(dirname "$(readlink -f "${BASH_SOURCE[0]}")")" && pwd)
 top=$(cd "$here/../.." && pwd)
 program=$1

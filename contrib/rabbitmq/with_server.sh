@@ -5,6 +5,12 @@
 # free ports of 127.0.0.1, and is ended behind the command; one that the system runs isn't touched. Ends with 2 where no
 # RabbitMQ is installed.
 set -uo pipefail
+case ${1-} in
+-h | --help)
+    sed -n '2,/^[^#]/s/^# \{0,1\}//p' "$0"
+    exit 0
+    ;;
+esac
 # The distribution's own scripts: those in /usr/sbin start as another user.
 scripts=/usr/lib/rabbitmq/bin
 if [ ! -x "$scripts/rabbitmq-server" ]; then

@@ -9,7 +9,7 @@ import os
 import subprocess
 import threading
 
-SECONDS = 60
+SECONDS = 300  # that a run may take: a last guard against one that hangs
 NAMES = ["items", "batch", "results", "delivery", "packet", "binding", "body"]
 # The statuses: the value wasn't made, the words name no call, and something couldn't be said.
 NOT_MADE, BAD_WORDS, NOT_SAID = 2, 8, 9

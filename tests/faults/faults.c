@@ -4,6 +4,8 @@
  *   FAULT   words, of which the first is KIND:N, if one is:
  *           KIND:N   the call of this kind that comes as number N, from 1, is refused: growth (memory is asked for),
  *                    open, read, write, sync, rename or thread (a thread is started)
+ *           on-thread:THREAD:N   the Nth allocation on one thread is refused; threads are numbered from 1, in the order in
+ *                    which they are started
  *           after    what is refused is done first, if it isn't a growth or a thread, and answered as refused all the same
  *           end      in the place of the answer the process ends, with the status 70
  *           short    a read gives one byte, and a write takes one
@@ -51,9 +53,20 @@ static int says(const char *word) { return strstr(plan(), word) != NULL; }
 
 static int is_short(void) { return says("short"); }
 
+/* The number of this thread, which is 0 for the first one of the process, and of its allocations so far. */
+static __thread long thread_number, own_allocations;
+
+/* Counts an allocation on its thread, and returns whether it is the one that fails. */
+static int fails_on_thread(void) {
+    long thread, number;
+    own_allocations++;
+    return sscanf(plan(), "on-thread:%ld:%ld", &thread, &number) == 2 && thread == thread_number && number == own_allocations;
+}
+
 /* Counts a call, and says whether it is the one that fails. */
 static int fails(enum kind kind) {
     long number = __atomic_add_fetch(&counts[kind], 1, __ATOMIC_SEQ_CST);
+    if (kind == GROWTH && strncmp(plan(), "on-thread:", 10) == 0) return fails_on_thread();
     size_t length = strlen(names[kind]);
     if (strncmp(plan(), names[kind], length) != 0 || plan()[length] != ':') return 0;
     return atol(plan() + length + 1) == number;
@@ -241,10 +254,26 @@ int unlinkat(int folder, const char *path, int flags) { return removed(folder, p
 
 /* ---- threads */
 
+/* What each thread runs, by its number. */
+static struct beginning {
+    void *(*start)(void *);
+    void *with;
+} beginnings[64];
+
+static void *begin(void *number) {
+    thread_number = (long)number;
+    return beginnings[thread_number].start(beginnings[thread_number].with);
+}
+
 int pthread_create(pthread_t *thread, const pthread_attr_t *how, void *(*start)(void *), void *with) {
     static int (*own)(pthread_t *, const pthread_attr_t *, void *(*)(void *), void *);
     if (!own) *(void **)&own = dlsym(RTLD_NEXT, "pthread_create");
-    if (!fails(THREAD)) return own(thread, how, start, with);
+    if (!fails(THREAD)) {
+        long number = counts[THREAD];
+        if (number >= (long)(sizeof beginnings / sizeof *beginnings)) abort();
+        beginnings[number] = (struct beginning){start, with};
+        return own(thread, how, begin, (void *)number);
+    }
     end_here();
     return EAGAIN;
 }

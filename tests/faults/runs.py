@@ -3,7 +3,7 @@ of sweep.py.
 
 - A growth that is refused is want of memory, whichever thread it was on, or changes nothing; a thread that can't be started is
   want of memory. Standard error names the end that met it, and each end of a run meets one. No end that heard of it hides
-  it, and no run waits for good: each has 20 seconds.
+  it, and no run waits for good.
 - A run of one client with one event in its window saves four records, one after another; the trace of a good run says which
   call is of which save. Where one of these calls is refused, or done and answered as refused, or where the process ends there,
   before the call or after it:
@@ -21,9 +21,9 @@ import threading
 
 import json_text
 
-SECONDS = 20
-# How often all growths of a run are refused once more, where an end has met none.
-AGAIN = 30
+SECONDS = 300  # that a run may take: a last guard against one that hangs
+# How many allocations of each thread are refused one by one; its actor has to run out of memory at one of them.
+OF_THREAD = 8
 NO_MEMORY = (1, b"fault: out_of_memory\n")
 STORE = (1, b"fault: store\n")
 NOT_READ = (1, b"fault: read_fault\n")
@@ -175,7 +175,7 @@ class Sweep:
                 self.fail(f"{name}, window {window}, no fault: {ended}")
             found = dict(line.split() for line in contents(os.path.join(folder, "calls")).decode().splitlines())
             calls = {kind: max(count, int(found[kind])) for kind, count in calls.items()}
-        told, places, met = {}, places_of(script), set()
+        told, places = {}, places_of(script)
         plans = [f"{kind}:{number}" for kind, count in calls.items() for number in range(1, count + 1)]
         for plan, (ended, errors) in zip(plans, pool.map(lambda plan: self.run(script, words, FAULT=plan), plans)):
             said = WANTED.fullmatch(errors.decode())
@@ -186,7 +186,6 @@ class Sweep:
                 refused = said.groups() == ("no thread could be started", places[-int(number)])
             elif refused and said[1] == "no memory was left":
                 refused = said[2] in (None, *places)
-                met.add(said[2])
             elif refused:
                 # (to start a thread takes some memory too)
                 refused = said[2] in places
@@ -195,18 +194,24 @@ class Sweep:
             told[refused] = told.get(refused, 0) + 1
         if calls["thread"] != len(places):
             self.fail(f"{name}, window {window}: {calls['thread']} threads were started, not {len(places)}")
-        # (which end a growth is of hangs on the threads, so all are refused again until each end has met one)
-        growths = [plan for plan in plans if plan.startswith("growth")]
-        for _ in range(AGAIN):
-            if met.issuperset(places):
-                break
-            for _, errors in pool.map(lambda plan: self.run(script, words, FAULT=plan), growths):
-                said = WANTED.fullmatch(errors.decode())
-                met.add(said and said[2])
-        if not met.issuperset(places):
-            self.fail(f"{name}, window {window}: no fault was met by {', '.join(it for it in places if it not in met)}")
+        is_unmoved = lambda ended, errors: is_right(ended) and is_told(errors, told_of)
+        self.sweep_threads(pool, f"{name}, window {window}", lambda plan: self.run(script, words, FAULT=plan), places, is_unmoved)
         ends = f"{told.get(True, 0)} ended it, {told.get(False, 0)} changed nothing"
         print(f"run, {name}, window {window}: {calls['growth']} growths, {calls['thread']} threads ({ends})", flush=True)
+
+    def sweep_threads(self, pool, what, run, places, is_unmoved):
+        """The first allocations of each thread are refused. These belong to one actor, however the threads are scheduled: either
+        standard error names that actor, or nothing changes. Each actor is named at least once."""
+        for thread, place in enumerate(reversed(places), 1):
+            plans, met = [f"on-thread:{thread}:{number}" for number in range(1, OF_THREAD + 1)], 0
+            for plan, (ended, errors) in zip(plans, pool.map(run, plans)):
+                said = WANTED.fullmatch(errors.decode())
+                is_met = ended == NO_MEMORY and said is not None and said.groups() == ("no memory was left", place)
+                met += is_met
+                if not is_met and not is_unmoved(ended, errors):
+                    self.fail(f"{what}, {plan}, {place}: {ended}, {errors!r}")
+            if not met:
+                self.fail(f"{what}: {place} was out of memory at none of the first {OF_THREAD} allocations of its thread")
 
     # -- saves and loads
 

@@ -33,15 +33,16 @@ from collections import Counter
 from concurrent.futures import ThreadPoolExecutor
 
 sys.dont_write_bytecode = True
-sys.path.append(os.path.dirname(os.path.dirname(os.path.realpath(__file__))))
+sys.path += [os.path.join(os.path.dirname(os.path.realpath(__file__)), "..", it) for it in ("common", "checks")]
 import calls
+import ending
+import needs
 import rooms
 import runs
 
 HERE = os.path.dirname(os.path.realpath(__file__))
-TOP = os.path.dirname(os.path.dirname(HERE))
 JOBS = 2
-SECONDS = 60
+SECONDS = 300  # that a run may take: a last guard against one that hangs
 NO_MEMORY = (1, b"fault: out_of_memory\n")
 NO_MEMORY_JSON = (1, b'{"kind":"fault","name":"out_of_memory"}\n')
 NOT_READ = {False: (1, b"fault: read_fault\n"), True: (1, b'{"kind":"fault","name":"read_fault"}\n')}
@@ -57,13 +58,15 @@ GAVE_UP = b"relayplum: out_of_memory: no memory was left\n"
 TOLD = {"--explain", "--trace", "--diagram"}
 # The kinds of steps that always take memory.
 GROWING = {b"batch", b"poll", b"publish", b"arrive", b"send", b"take"}
+# The program, the library that refuses calls, and the folder for what runs read and write.
+program = library = room = None
 failures = []
 counts = Counter()
 counting = threading.Lock()
 
 
 def example(name):
-    return os.path.join(TOP, "examples", name)
+    return os.path.join(rooms.TOP, "examples", name)
 
 
 EVERY = os.path.join(HERE, "every-request.script")
@@ -94,7 +97,7 @@ CASES = [
 def built_library(folder):
     """Builds the library that refuses calls."""
     if not shutil.which("cc"):
-        sys.exit("faults: there is no C compiler, cc, so nothing was tried")
+        sys.exit(f"faults: {needs.no_command('cc')}, so nothing was tried")
     library = os.path.join(folder, "faults.so")
     subprocess.run(["cc", "-shared", "-fPIC", "-O1", "-Wall", "-Werror", "-o", library, f"{HERE}/faults.c"], check=True)
     return library
@@ -243,34 +246,45 @@ class Case:
         print(f"{self.name}: {', '.join(parts)}", flush=True)
 
 
-def program_of(place, name):
-    """The program of the tests that is named at this place of the words, or stands beside PROGRAM; None where it is left out."""
-    path = os.path.realpath(given[place] if len(given) > place else f"{crates}/{name}/out/{name}")
+def caller_of(options):
+    """The program of the tests that makes the calls which no command makes; None if it is left out."""
+    path = os.path.realpath(options.calls or f"{options.program}/../../../cdc_calls/out/cdc_calls")
     if os.access(path, os.X_OK):
         return path
-    if not as_built:
-        sys.exit(f"faults: there is no program {path}, which `rt run` makes in crates/{name}")
-    print(f"faults: not tried: {name}, which isn't built")
+    if not options.as_built:
+        sys.exit(f"faults: there is no program {path}, which `rt run` makes in crates/cdc_calls")
+    print("faults: not tried: cdc_calls, which isn't built")
     return None
 
 
-as_built = "--as-built" in sys.argv[1:]
-given = [it for it in sys.argv[1:] if it != "--as-built"]
-program = os.path.realpath(given[0] if given else f"{TOP}/crates/cdc_app/out/cdc_app")
-crates = os.path.dirname(os.path.dirname(os.path.dirname(program)))
-caller = program_of(1, "cdc_calls")
-with rooms.room("faults-") as room:
-    library = built_library(room)
-    with ThreadPoolExecutor(JOBS) as pool:
-        for number, (words, stdin) in enumerate(CASES):
-            Case(number, words, stdin).sweep(pool)
-        parts = [runs.Sweep(program, library, room)]
-        parts += [calls.Sweep(caller, library, room)] if caller else []
-        for part in parts:
-            part.sweep(pool)
-            counts["runs"] += part.runs
-            failures += part.failures
-for it in failures[:20]:
-    print(it)
-print(f"faults: {counts['runs']} runs, {len(failures)} failed")
-sys.exit(1 if failures else 0)
+def options_of(words):
+    parser = rooms.parser_of_first(__doc__)
+    parser.add_argument("calls", nargs="?", metavar="CALLS", help="default: cdc_calls, from the same tree as PROGRAM")
+    parser.add_argument("--as-built", action="store_true", help="leaves the part of cdc_calls out if that isn't built")
+    return rooms.options_of(parser, words)
+
+
+def main(words):
+    global program, library, room
+    options = options_of(words)
+    program = options.program
+    caller = caller_of(options)
+    with rooms.room("faults-") as room:
+        library = built_library(room)
+        with ThreadPoolExecutor(JOBS) as pool:
+            for number, (words, stdin) in enumerate(CASES):
+                Case(number, words, stdin).sweep(pool)
+            parts = [runs.Sweep(program, library, room)]
+            parts += [calls.Sweep(caller, library, room)] if caller else []
+            for part in parts:
+                part.sweep(pool)
+                counts["runs"] += part.runs
+                failures.extend(part.failures)
+    for it in failures[:20]:
+        print(it)
+    print(f"faults: {counts['runs']} runs, {len(failures)} failed")
+    return 1 if failures else 0
+
+
+if __name__ == "__main__":
+    ending.run(main)

@@ -1,8 +1,8 @@
 #!/usr/bin/env python3
 """Counts the instructions that the program takes, and prints them beside their limits.
 
-  tests/cost.py [PROGRAM] [--jobs N] [--only PART]..    PROGRAM: crates/cdc_app/out/cdc_app
-  tests/cost.py [PROGRAM] --top N                     the N functions that a full script spends most in
+  tests/checks/cost.py [PROGRAM] [--jobs N] [--only PART]..    PROGRAM: crates/cdc_app/out/cdc_app
+  tests/checks/cost.py [PROGRAM] --top N                     the N functions that a full script spends most in
 
 The parts are accounts-2 and accounts-5000 (`books` on more and more transfers), full (a script of the greatest size),
 subscribers (what each further one takes), phases (pending transfers, posts and a pulse), chains (transfers that are linked),
@@ -10,7 +10,6 @@ log (reads of the log under `simulate`) and memory (the bytes that `books` asks 
 machine disturbs no figure. All of it takes some minutes of processor time. The last line is 'N passed, M failed', of the figures
 that have limits; exit status 1 where one is over, 2 where nothing could be counted.
 """
-import argparse
 import concurrent.futures
 import math
 import os
@@ -20,9 +19,12 @@ import subprocess
 import sys
 import tempfile
 
-HERE = os.path.dirname(os.path.realpath(__file__))
-SCRIPT_BYTES = 1_048_576
-BATCH_ITEMS = 1_000
+sys.dont_write_bytecode = True
+sys.path.insert(0, os.path.join(os.path.dirname(os.path.realpath(__file__)), "..", "common"))
+import ending
+import rooms
+from counting import bytes_of, counted, tool_words, total_of
+from scripts import BATCH_ITEMS, SCRIPT_BYTES, TRANSFERS, batches, most_transfers, opened, script, single_phase, transfer
 
 # The limits.
 GROWTH = 3.0  # per cent, of what a further transfer costs, for each doubling
@@ -39,49 +41,11 @@ FIRST = 395_000  # bytes that the first transfer may ask for: a segment of the l
 
 NOTED = 1.5  # what a transfer may cost in a script whose moments go back, in those of one that doesn't
 
-# The moments of the first batch of each kind, before the next kind's, and all before a timeout of a second ends.
-ACCOUNTS, TRANSFERS, POSTS = 10, 10_000_000, 20_000_000
+# The timestamp of the first batch of posts: after those of transfers, and before a timeout of a second ends.
+POSTS = 20_000_000
 
 
 # ---------------------------------------------------------------- Scripts
-
-
-def batches(kind, lines, start):
-    """The text of as many batches as these requests need, the first at this moment, and each behind the one before it: a script
-    that goes back is noted, which takes a second ledger."""
-    return "".join(f"{kind} {start + at}\n" + "".join(lines[at:at + BATCH_ITEMS]) for at in range(0, len(lines), BATCH_ITEMS))
-
-
-def opened(accounts):
-    lines = [f"account id={number} ledger=1 code=1\n" for number in range(1, accounts + 1)]
-    return "subscriber all\n" + batches("accounts", lines, ACCOUNTS)
-
-
-def transfer(number, accounts, more=""):
-    """A transfer between two neighbours among the accounts; each pair has its turn."""
-    debit = 2 * (number - 1) % accounts + 1
-    return (f"transfer id={number} debit_account_id={debit} credit_account_id={debit + 1}"
-            f" amount=1 ledger=1 code=1{more}\n")
-
-
-def single_phase(count, accounts):
-    return [transfer(number, accounts) for number in range(1, count + 1)]
-
-
-def script(accounts, count, start=TRANSFERS):
-    return opened(accounts) + batches("transfers", single_phase(count, accounts), start)
-
-
-def most_transfers(accounts, more=""):
-    """How many transfers between these accounts a script has room for, behind so much more text."""
-    low, high = 0, SCRIPT_BYTES
-    while high - low > 1:
-        middle = (low + high) // 2
-        if len(more) + len(script(accounts, middle)) <= SCRIPT_BYTES:
-            low = middle
-        else:
-            high = middle
-    return low
 
 
 def pending(count, accounts, timeout):
@@ -140,40 +104,6 @@ class Counter:
     def total(self, text, steps=None):
         """A future of the instructions that the run takes."""
         return self.run("cachegrind", text, steps)
-
-
-def tool_words(tool, out):
-    if tool == "memcheck":
-        return ["valgrind", "--leak-check=no", "--undef-value-errors=no", f"--log-file={out}"]
-    words = ["valgrind", "--quiet", f"--tool={tool}"]
-    if tool == "cachegrind":
-        return words + ["--cache-sim=no", f"--cachegrind-out-file={out}"]
-    return words + [f"--callgrind-out-file={out}"]
-
-
-def counted(words, out):
-    """Runs it, and returns the file that Valgrind wrote; a run that doesn't end well stops all."""
-    ran = subprocess.run(words, capture_output=True)
-    if ran.returncode != 0 or b"refused" in ran.stdout:
-        print(f"cost: {' '.join(words)}: status {ran.returncode}\n{ran.stdout[:300]!r}\n{ran.stderr[:300]!r}")
-        os._exit(2)
-    return out
-
-
-def total_of(out):
-    with open(out) as file:
-        for line in file:
-            if line.startswith("summary:"):
-                return int(line.split()[1])
-    sys.exit("cost: Valgrind has written no total")
-
-
-def bytes_of(out):
-    with open(out) as file:
-        asked = re.search(r"total heap usage: .* ([\d,]+) bytes allocated", file.read())
-    if asked is None:
-        sys.exit("cost: Valgrind has written no bytes")
-    return int(asked[1].replace(",", ""))
 
 
 # ---------------------------------------------------------------- The table
@@ -372,31 +302,26 @@ COUNTS = {"accounts-2": accounts_2, "accounts-5000": accounts_5000, "full": full
           "phases": phases, "chains": chains, "log": log, "memory": memory}
 
 
-def main():
-    parser = argparse.ArgumentParser(usage=__doc__)
-    parser.add_argument("program", nargs="?", default=f"{HERE}/../crates/cdc_app/out/cdc_app")
+def main(words):
+    parser = rooms.parser_of_first(__doc__)
     parser.add_argument("--jobs", type=int, default=2)
     parser.add_argument("--only", action="append", choices=COUNTS)
     parser.add_argument("--top", type=int)
-    words = parser.parse_args()
-    program = os.path.realpath(words.program)
+    options = rooms.options_of(parser, words)
     if shutil.which("valgrind") is None:
-        print("cost: valgrind isn't there, and nothing else counts instructions whatever the load: install it first")
-        return 2
-    if not os.access(program, os.X_OK):
-        print(f"cost: there is no program {program}: build it first, as `./relayplum --version` does")
+        print("cost: there is no valgrind (Debian package valgrind), and nothing else counts instructions whatever the load")
         return 2
     table = Table()
     with tempfile.TemporaryDirectory(prefix="cost-") as folder:
-        counter = Counter(program, folder, words.jobs)
-        if words.top:
-            top(counter, words.top)
+        counter = Counter(options.program, folder, options.jobs)
+        if options.top:
+            top(counter, options.top)
             return 0
-        for part in words.only or COUNTS:
+        for part in options.only or COUNTS:
             COUNTS[part](counter, table)
     print(f"\n{table.within} passed, {table.over} failed")
     return 1 if table.over else 0
 
 
 if __name__ == "__main__":
-    sys.exit(main())
+    ending.run(main)

@@ -1,9 +1,10 @@
 #!/usr/bin/env python3
-"""Tests how tests/wrong_bodies.py takes, tries and writes the record of answers: tests/wrong_bodies_test.py
+"""Tests how tests/wrong_bodies.py takes, tries and writes the record of answers: tests/checks/wrong_bodies_test.py
 
 It runs the script over a small tree of its own, with a stand-in for the toolchain and for the trial of a crate, so it takes
 seconds and proves nothing. The last line is 'N passed, M failed'; the status is 0 where nothing failed, and 1 else.
 """
+import argparse
 import os
 import re
 import shutil
@@ -12,8 +13,9 @@ import sys
 import tempfile
 
 sys.dont_write_bytecode = True
-HERE = os.path.dirname(os.path.realpath(__file__))
-sys.path.insert(0, HERE)
+TESTS = os.path.realpath(f"{os.path.dirname(os.path.realpath(__file__))}/..")
+sys.path[:0] = [TESTS, f"{TESTS}/common"]
+import ending
 import wrong_bodies_record as records
 
 # In the place of the toolchain: three crates, of which high stands on low, and no check at all.
@@ -103,7 +105,7 @@ class Tree:
         os.chmod(f"{folder}/bin/rt", 0o755)
         os.mkdir(f"{folder}/tests")
         for it in ("wrong_bodies.py", "wrong_bodies_record.py"):
-            shutil.copy(f"{HERE}/{it}", f"{folder}/tests")
+            shutil.copy(f"{TESTS}/{it}", f"{folder}/tests")
 
     def put(self, name, text, how="w"):
         os.makedirs(os.path.dirname(f"{self.folder}/{name}"), exist_ok=True)
@@ -397,7 +399,8 @@ def test_commit(tree):
         assert re.fullmatch("[0-9a-f]{40,64}", records.commit_of(tree.folder))
 
 
-def main():
+def main(words):
+    argparse.ArgumentParser(description=__doc__, formatter_class=argparse.RawDescriptionHelpFormatter).parse_args(words)
     tests = [it for name, it in sorted(globals().items()) if name.startswith("test_")]
     failed = 0
     for it in tests:
@@ -412,4 +415,4 @@ def main():
 
 
 if __name__ == "__main__":
-    sys.exit(main())
+    ending.run(main)

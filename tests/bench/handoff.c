@@ -4,7 +4,7 @@
 
    Two threads take turns, so often. One that waits looks so many times, a pause after each, then leaves its processor to
    others so many times and looks after each, and sleeps then. Prints the microseconds that a hand-off took.
-   tests/speed.py --hand-offs builds and runs it. */
+   tests/bench/speed.py --hand-offs builds and runs it. */
 #define _GNU_SOURCE
 #include <linux/futex.h>
 #include <pthread.h>

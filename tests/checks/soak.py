@@ -1,8 +1,8 @@
 #!/usr/bin/env python3
 """Runs the program on random scripts and step files, and compares what it prints with the model in model.py.
 
-    tests/soak.py --seed S --count N [--seconds T] [--program PATH] [--jobs J]
-    tests/soak.py --seed S --case K
+    tests/checks/soak.py --seed S --count N [--seconds T] [--program PATH] [--jobs J]
+    tests/checks/soak.py --seed S --case K
 
 A case is a script, a step file and the words of a run, made of the seed and the case's number alone. The program runs
 on it under `books`, `messages`, `simulate` and `run`; output and exit status have to be the model's, and under `run`
@@ -16,6 +16,7 @@ Without --count it goes on for --seconds; with neither, 1,000 cases. Exit status
 """
 import collections
 import multiprocessing
+import os
 import pathlib
 import random
 import signal
@@ -25,12 +26,14 @@ import tempfile
 import time
 from dataclasses import asdict, dataclass, replace
 
+sys.path.insert(0, os.path.join(os.path.dirname(os.path.realpath(__file__)), '..', 'common'))
+import ending
 import model
 import orders
 import rooms
 
 CHUNK = 20  # cases that a worker takes at once
-LONGEST = 60  # seconds that a run may take
+LONGEST = 300  # seconds that a run may take: a last guard against one that hangs
 MOST_TRIES = 2000  # runs while a difference is shrunk
 LONGEST_SHRINKING = 120  # seconds
 MOST_SHOWN = 3  # differences that are shrunk and shown
@@ -1007,7 +1010,7 @@ def file_in_words(name, data):
 def told(seed, number, command, case, report, found):
     """A difference, and how to bring it back."""
     text = f'case {number} of seed {seed} differs under {command}; it comes back with\n'
-    text += f'    tests/soak.py --seed {seed} --case {number}\n'
+    text += f'    tests/checks/soak.py --seed {seed} --case {number}\n'
     text += 'and, shrunk, with\n'
     text += file_in_words('soak.script', case.script)
     if command == 'simulate':
@@ -1349,4 +1352,4 @@ def main(words):
 
 
 if __name__ == '__main__':
-    sys.exit(main(sys.argv[1:]))
+    ending.run(main)

@@ -1,7 +1,7 @@
 #!/usr/bin/env python3
 """Runs the program on each row of tests/rows, and compares standard output and exit status byte for byte.
 
-  tests/rows.py [PROGRAM] [WORD]    PROGRAM: crates/cdc_app/out/cdc_app; WORD: only rows with this in their names
+  tests/checks/rows.py [PROGRAM] [WORD]    PROGRAM: crates/cdc_app/out/cdc_app; WORD: only rows with this in their names
 
 A row NAME is the files NAME.args, with a word of the command line on each line, NAME.stdout and NAME.status, and as far
 as it needs them NAME.script, NAME.steps and NAME.progress. A word FILE or STEPS stands for the path of the script or of
@@ -15,10 +15,14 @@ import subprocess
 import sys
 import tempfile
 
-HERE = os.path.dirname(os.path.realpath(__file__))
-ROWS = f"{HERE}/rows"
+sys.dont_write_bytecode = True
+sys.path.insert(0, os.path.join(os.path.dirname(os.path.realpath(__file__)), "..", "common"))
+import ending
+import rooms
+
+ROWS = f"{rooms.TOP}/tests/rows"
 PARTS = ("args", "script", "steps", "progress", "stdout", "status")
-SECONDS = 60
+SECONDS = 300  # that a run may take: a last guard against one that hangs
 
 
 def read(name, part):
@@ -76,10 +80,13 @@ def complaint(program, name, parts, folder):
     return None if ran.stdout == wanted else first_difference(wanted, ran.stdout)
 
 
-def try_rows(step, complaint):
-    """Tries the rows of the command line's words, prints each that fails and a last line of this name, and returns the status."""
-    program = os.path.realpath(sys.argv[1] if len(sys.argv) > 1 else f"{HERE}/../crates/cdc_app/out/cdc_app")
-    word = sys.argv[2] if len(sys.argv) > 2 else ""
+def try_rows(step, text, complaint, words):
+    """Tries the rows that the command line names, prints each that fails and a last line of this name, and returns the status.
+    The text is the script's help."""
+    parser = rooms.parser_of_first(text)
+    parser.add_argument("word", nargs="?", default="", metavar="WORD", help="only rows with this in their names")
+    options = rooms.options_of(parser, words)
+    program, word = options.program, options.word
     found = {name: parts for name, parts in rows().items() if word in name}
     failed = 0
     with tempfile.TemporaryDirectory(prefix=f"{step}-") as folder:
@@ -93,4 +100,4 @@ def try_rows(step, complaint):
 
 
 if __name__ == "__main__":
-    sys.exit(try_rows("rows", complaint))
+    ending.run(lambda words: try_rows("rows", __doc__, complaint, words))

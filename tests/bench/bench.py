@@ -1,7 +1,7 @@
 #!/usr/bin/env python3
 """Measures the program, and prints one table: commands by scripts, in instructions, memory and time.
 
-    tests/bench.py [--program PATH] [--times N] [--jobs N] [--only SCRIPT].. [--write]
+    tests/bench/bench.py [--program PATH] [--times N] [--jobs N] [--only SCRIPT].. [--write]
 
 The scripts have 1,000 events, as many as a script has room for, as many between 5,000 accounts, and as many for eight
 subscribers. Of each command that works on one thread Valgrind counts the instructions, which other work on the machine
@@ -10,7 +10,7 @@ system says of a run (spent.c, which wants `cc`). By the clock the commands of a
 (15, and no fewer count as a measure): the least and the middle, with the load before and after.
 
 The table is compared with the last one of docs/MEASURED.md: what takes a fiftieth more instructions or memory is named.
-With --write it is put there, at the top, with the commit. Limits that fail are those of tests/cost.py, which the gate
+With --write it is put there, at the top, with the commit. Limits that fail are those of tests/checks/cost.py, which the gate
 runs.
 """
 import concurrent.futures
@@ -23,11 +23,14 @@ import subprocess
 import sys
 import tempfile
 
-import cost
+sys.path.insert(0, os.path.join(os.path.dirname(os.path.realpath(__file__)), '..', 'common'))
+import counting
+import ending
 import rooms
+import scripts
 import spent
 
-MEASURED = rooms.PROGRAM.parents[3] / 'docs/MEASURED.md'
+MEASURED = rooms.TOP / 'docs/MEASURED.md'
 HEAD = '| Script | Command | Instructions | of each event | Memory, MB | Least, s | Middle, s | Processors, s |'
 # What may be more than in the last table before it is named.
 MORE = 1.02
@@ -51,8 +54,8 @@ def script_of(name):
     """A script, with its number of events and of subscribers."""
     accounts, count, subscribers = SCRIPTS[name]
     more = further(subscribers)
-    count = count or cost.most_transfers(accounts, more)
-    return more + cost.script(accounts, count), count, subscribers
+    count = count or scripts.most_transfers(accounts, more)
+    return more + scripts.script(accounts, count), count, subscribers
 
 
 def steps_of(text, events, subscribers, window=64):
@@ -82,8 +85,8 @@ def commands_of(subscribers, has_steps):
 def instructions(program, words, folder):
     """What Valgrind counts of a run."""
     with tempfile.NamedTemporaryFile(dir=folder) as out:
-        cost.counted([*cost.tool_words('cachegrind', out.name), program, *words], out.name)
-        return cost.total_of(out.name)
+        counting.counted([*counting.tool_words('cachegrind', out.name), program, *words], out.name)
+        return counting.total_of(out.name)
 
 
 class Bench:
@@ -102,7 +105,7 @@ class Bench:
         (folder / 'bench.script').write_text(text)
         steps = steps_of(text, events, subscribers)
         (folder / 'bench.steps').write_text(steps)
-        commands = commands_of(subscribers, len(steps) <= cost.SCRIPT_BYTES)
+        commands = commands_of(subscribers, len(steps) <= scripts.SCRIPT_BYTES)
         counted = {
             it: self.pool.submit(instructions, self.program, [self.within(folder, word) for word in words], folder)
             for it, words in commands.items() if not it.startswith('run')
@@ -180,7 +183,7 @@ def main(words):
     processors = len(os.sched_getaffinity(0))
     title = f'## `{commit()}`, {datetime.date.today()}: the benchmark\n'
     load = f'a load of {before:.1f} before and {os.getloadavg()[0]:.1f} after'
-    about = f'By `tests/bench.py`, {options.times} runs of each by the clock, {processors} processors, {load}.\n'
+    about = f'By `tests/bench/bench.py`, {options.times} runs of each by the clock, {processors} processors, {load}.\n'
     print(bench.table(), end='')
     more = [*changes(bench.rows, last_table())]
     print('\n'.join(['bench: more than in the last table:', *more] if more else ['bench: nothing takes more than in the last table']))
@@ -189,4 +192,4 @@ def main(words):
 
 
 if __name__ == '__main__':
-    main(sys.argv[1:])
+    ending.run(main)

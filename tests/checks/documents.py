@@ -8,16 +8,21 @@
 - The files of definitions that PROOFS.md has a reader believe, and the definitions that it picks of them, are told in
   docs/DEFINITIONS.md.
 
-  tests/documents.py
+  tests/checks/documents.py
 
 Prints each check that fails; the last line is 'documents: N checks, M failed'. Needs Python 3.8 or later.
 """
+import argparse
 import fnmatch
 import os
 import re
 import sys
 
-TOP = os.path.dirname(os.path.dirname(os.path.realpath(__file__)))
+sys.dont_write_bytecode = True
+TOP = os.path.realpath(f"{os.path.dirname(os.path.realpath(__file__))}/../..")
+sys.path.insert(0, f"{TOP}/tests/common")
+import ending
+
 MOST = 300
 OF_TODAY = ["README.md", "docs/*.md", "contrib/*/README.md"]
 OF_OTHER_DAYS = "docs/MEASURED.md"
@@ -129,7 +134,8 @@ def believed_in(proofs):
                 yield crate, path.rpartition("specs/")[2], re.findall(r"\w+", picked)
 
 
-def main():
+def main(words):
+    argparse.ArgumentParser(description=__doc__, formatter_class=argparse.RawDescriptionHelpFormatter).parse_args(words)
     passed, failed = 0, 0
     for is_right, said in checks(Tree()):
         passed, failed = passed + is_right, failed + (not is_right)
@@ -140,4 +146,4 @@ def main():
 
 
 if __name__ == "__main__":
-    sys.exit(main())
+    ending.run(main)

@@ -1,15 +1,15 @@
 #!/usr/bin/env python3
 """Runs with a file of progress that can't be one, that isn't the run's own, or that another run has.
 
-    tests/hostile.py [PROGRAM]    PROGRAM: crates/cdc_app/out/cdc_app
+    tests/checks/hostile.py [PROGRAM]    PROGRAM: crates/cdc_app/out/cdc_app
 
-Each case has a folder of its own, and each run 20 seconds. A run that is refused says so in the last line of standard output,
-names the file on standard error, and leaves the folder as it was; one that isn't leaves the record, in the file that was named,
-and nothing beside it. Where it is run as root, the program is run as nobody, so that modes and owners count.
+Each case has a folder of its own. A run that is refused says so in the last line of standard output, names the file on standard
+error, and leaves the folder as it was; one that isn't leaves the record, in the file that was named, and no other file. Where it is run as root, the program is run as nobody, so that modes and owners count.
 
-Runs that may not have all their threads, or whose address space is small, want memory. Then runs are ended in the middle, by SIGTERM and by a standard output that
-nobody reads any more: the file holds a whole record, or isn't there; what is beside it is at most the beginning of a record,
-which the next run takes away.
+Runs that may not have all their threads, or whose address space is small, are out of memory. A run that comes while another
+one is held in a save is refused; without a C compiler, cc, that part is left out, and a line says so. Then runs are ended in
+the middle, by SIGTERM and by a standard output that nobody reads any more: the file holds a whole record, or isn't there; the
+file next to it holds at most a prefix of a record, and the next run removes it.
 
 The last line is `hostile: N passed, M failed`; the status is 1 where one failed.
 """
@@ -26,11 +26,13 @@ import sys
 import time
 
 sys.dont_write_bytecode = True
+sys.path.insert(0, os.path.join(os.path.dirname(os.path.realpath(__file__)), "..", "common"))
+import ending
+import holding
 import rooms
-import stress
+import scripts
 
-HERE = os.path.dirname(os.path.realpath(__file__))
-SECONDS = 20  # that a run may take
+SECONDS = 300  # that a run may take: a last guard against one that hangs
 NOBODY = 65534
 SCRIPT = b"""subscriber all
 accounts 1000
@@ -117,9 +119,9 @@ class Hostile:
 
     # -- runs
 
-    def start(self, folder, saved, script="script", **limits):
+    def start(self, folder, saved, script="script", env=None, **limits):
         words = [self.program, "run", script, "--progress", saved]
-        how = {"stdin": subprocess.DEVNULL, "stdout": subprocess.PIPE, "stderr": subprocess.PIPE}
+        how = {"stdin": subprocess.DEVNULL, "stdout": subprocess.PIPE, "stderr": subprocess.PIPE, "env": env}
         return subprocess.Popen(words, cwd=folder, preexec_fn=lambda: as_nobody(**limits), **how)
 
     def end(self, run):
@@ -298,15 +300,8 @@ def small_spaces(hostile):
 
 def long_folder(hostile):
     folder = hostile.folder()
-    hostile.write(folder, "long", stress.long_script(TRANSFERS, 50).encode())
+    hostile.write(folder, "long", scripts.long_script(TRANSFERS, 50).encode())
     return folder
-
-
-def wait_for(path):
-    """Waits until there is such a file."""
-    until = time.monotonic() + SECONDS
-    while not os.path.exists(path) and time.monotonic() < until:
-        time.sleep(0.002)
 
 
 def one_goes_on(hostile, what, folder, ends):
@@ -320,17 +315,27 @@ def one_goes_on(hostile, what, folder, ends):
     hostile.check(f"{what}: the new name", False, "saved.new" in left)
 
 
-def two_runs(hostile):
-    # The second one comes while the first stands still, with a record saved, for as long as the second takes.
+def a_run_while_another_is_on(hostile):
+    """The second run comes while the first is held in its second save, with a record saved."""
+    what = "a run that comes while another is on"
+    library = holding.library_in(hostile.room, "hostile", what)
+    if library is None:
+        return
     folder = long_folder(hostile)
-    first = hostile.start(folder, "saved", "long")
-    wait_for(f"{folder}/saved")
-    first.send_signal(signal.SIGSTOP)
+    hostile.make(folder, "hold", os.mkfifo)
+    first = hostile.start(folder, "saved", "long", env=holding.environment(library, at=2))
+    held = holding.wait_until_held(first, f"{folder}/hold")
+    hostile.check(f"{what}: it is on, with a record saved", True, held is not None and os.path.exists(f"{folder}/saved"))
     second = hostile.end(hostile.start(folder, "saved", "long"))
-    first.send_signal(signal.SIGCONT)
+    hostile.check(f"{what}: it is refused", (1, STORE), second[0])
+    if held is not None:
+        os.close(held)
     ends = [hostile.end(first), second]
-    one_goes_on(hostile, "a run that comes while another is on", folder, ends)
-    hostile.check("a run that comes while another is on: not both", 1, [ended[0] for ended, _ in ends].count(0))
+    hostile.check(f"{what}: not both", 1, [ended[0] for ended, _ in ends].count(0))
+    one_goes_on(hostile, what, folder, ends)
+
+
+def two_runs(hostile):
     for _ in range(4):
         folder = long_folder(hostile)
         runs = [hostile.start(folder, "saved", "long") for _ in range(2)]
@@ -372,15 +377,15 @@ def ended_runs(hostile, seed=1):
         hostile.check(f"{how}: nothing is left beside the record", False, "saved.new" in contents(folder))
 
 
-def main():
-    program = os.path.realpath(sys.argv[1] if len(sys.argv) > 1 else f"{HERE}/../crates/cdc_app/out/cdc_app")
+def main(words):
+    program = rooms.options_of(rooms.parser_of_first(__doc__), words).program
     with rooms.room("hostile-") as room:
         hostile = Hostile(program, room)
-        for part in (unreachable, unwritable, no_record, in_the_way, kept, few_threads, small_spaces, two_runs, ended_runs):
+        for part in (unreachable, unwritable, no_record, in_the_way, kept, few_threads, small_spaces, a_run_while_another_is_on, two_runs, ended_runs):
             part(hostile)
     print(f"hostile: {hostile.passed} passed, {hostile.failed} failed")
     return 1 if hostile.failed else 0
 
 
 if __name__ == "__main__":
-    sys.exit(main())
+    ending.run(main)

@@ -4,7 +4,7 @@ import pathlib
 import subprocess
 import sys
 
-import stress
+import rooms
 
 Spent = collections.namedtuple('Spent', 'wall used memory')
 SOURCE = pathlib.Path(__file__).parent / 'spent.c'
@@ -19,7 +19,7 @@ class Meter:
 
     def run(self, words, folder, processors=None):
         """The seconds by the clock, those of processor time and the most bytes of a run, which has to end well."""
-        leave = stress.on_processors(processors)
+        leave = rooms.on_processors(processors)
         ran = subprocess.run([*self.words, *words], cwd=folder, stdout=subprocess.PIPE, text=True, preexec_fn=leave)
         if ran.returncode:
             sys.exit(f'{" ".join(map(str, words))}: status {ran.returncode}')

@@ -1,7 +1,7 @@
 #!/usr/bin/env python3
 """Runs one script with each single thing that may go wrong, in small, middle and great windows: the output is always the same.
 
-    tests/losses.py [PROGRAM]    PROGRAM: crates/cdc_app/out/cdc_app
+    tests/checks/losses.py [PROGRAM]    PROGRAM: crates/cdc_app/out/cdc_app
 
 The script and what a run of it prints are those of a row of tests/rows. A lost confirm, a lost publish, a restart of the
 connector and a queue that goes back mustn't show in what is printed, wherever they come.
@@ -13,9 +13,13 @@ import os
 import subprocess
 import sys
 
-HERE = os.path.dirname(os.path.realpath(__file__))
-ROW = f"{HERE}/rows/run-a-confirm-is-lost-and-the-connector-restarts"
-SECONDS, JOBS = 20, 2
+sys.dont_write_bytecode = True
+sys.path.insert(0, os.path.join(os.path.dirname(os.path.realpath(__file__)), "..", "common"))
+import ending
+import rooms
+
+ROW = f"{rooms.TOP}/tests/rows/run-a-confirm-is-lost-and-the-connector-restarts"
+SECONDS, JOBS = 300, 2  # that a run may take, a last guard against one that hangs; runs at a time
 WINDOWS = (1, 2, 64)
 # Each thing that may go wrong, once: a flag with its word. The script has three events: the first queue gets all of them and the
 # end mark, the second one event and the end mark. So some of these name what there never is.
@@ -42,8 +46,8 @@ def complaint(program, words):
     return f"{' '.join(words)}: status {ran.returncode}, {ran.stdout[-300:]!r}, {ran.stderr[-200:]!r}"
 
 
-def main():
-    program = os.path.realpath(sys.argv[1] if len(sys.argv) > 1 else f"{HERE}/../crates/cdc_app/out/cdc_app")
+def main(words):
+    program = rooms.options_of(rooms.parser_of_first(__doc__), words).program
     runs = [["run", "-", "--window", str(window), *fault] for window in WINDOWS for fault in FAULTS]
     with concurrent.futures.ThreadPoolExecutor(JOBS) as pool:
         wrong = [it for it in pool.map(lambda words: complaint(program, words), runs) if it]
@@ -54,4 +58,4 @@ def main():
 
 
 if __name__ == "__main__":
-    sys.exit(main())
+    ending.run(main)

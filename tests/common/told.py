@@ -1,4 +1,4 @@
-"""What `run --trace` tells of a run on standard error, beside its plan and what it printed: for stress.py."""
+"""What `run --trace` tells of a run on standard error, beside its plan and what it printed: for tests/checks/stress.py."""
 import re
 
 ITEM = re.compile(r'(?:event (?P<moment>\d+), transfer \d+.*?|end mark): sent by session (?P<sent>.*)')

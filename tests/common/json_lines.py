@@ -1,10 +1,13 @@
 #!/usr/bin/env python3
 """Reads what `messages` prints with Python's own JSON reader, and compares headers, layout and members.
 
-    relayplum messages FILE | json_lines.py EVENTS
+    relayplum messages FILE | tests/common/json_lines.py EVENTS
 """
+import argparse
 import json
 import sys
+
+import ending
 
 TRANSFER = {'amount', 'code', 'flags', 'id', 'pending_id', 'timeout', 'timestamp', 'user_data_128', 'user_data_32', 'user_data_64'}
 ACCOUNT = {'code', 'credits_pending', 'credits_posted', 'debits_pending', 'debits_posted', 'flags', 'id', 'timestamp', 'user_data_128', 'user_data_32', 'user_data_64'}
@@ -43,11 +46,19 @@ def check(headers, body):
     return int(event['timestamp'])
 
 
-lines = sys.stdin.read().split('\n')
-assert lines.pop() == '', 'the last line has no end'
-assert len(lines) == 2 * int(sys.argv[1]), f'{len(lines)} lines'
-last = 0
-for place in range(0, len(lines), 2):
-    timestamp = check(lines[place], lines[place + 1])
-    assert timestamp > last, f'timestamp {timestamp} after {last}'
-    last = timestamp
+def main(words):
+    parser = argparse.ArgumentParser(description=__doc__, formatter_class=argparse.RawDescriptionHelpFormatter)
+    parser.add_argument('events', type=int, metavar='EVENTS', help='how many messages there have to be')
+    events = parser.parse_args(words).events
+    lines = sys.stdin.read().split('\n')
+    assert lines.pop() == '', 'the last line has no end'
+    assert len(lines) == 2 * events, f'{len(lines)} lines'
+    last = 0
+    for place in range(0, len(lines), 2):
+        timestamp = check(lines[place], lines[place + 1])
+        assert timestamp > last, f'timestamp {timestamp} after {last}'
+        last = timestamp
+
+
+if __name__ == '__main__':
+    ending.run(main)

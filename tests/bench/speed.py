@@ -1,8 +1,8 @@
 #!/usr/bin/env python3
 """Times `run` beside `books`, on a script that is as long as one may be.
 
-    tests/speed.py [--program PATH] [--times N] [--processors N]
-    tests/speed.py --hand-offs
+    tests/bench/speed.py [--program PATH] [--times N] [--processors N]
+    tests/bench/speed.py --hand-offs
 
 For 1, 2, 4 and 8 subscribers, and for 1 client and 4: the least and the middle of the wall times and of the processor
 times, commands in turn, the most memory, and how many events a second come from the first line of the script to the
@@ -19,10 +19,11 @@ import statistics
 import subprocess
 import sys
 
+sys.path.insert(0, os.path.join(os.path.dirname(os.path.realpath(__file__)), '..', 'common'))
+import ending
 import model
 import rooms
 import spent
-import stress
 
 COMMANDS = {'books': ['books'], 'run': ['run', '--window', '1']}
 # How many clients and subscribers.
@@ -61,7 +62,7 @@ def print_hand_offs(times=50_000, looks=256, yields=64):
         for how, *counts in ways:
             for processors in (1, 2):
                 words = [program, *map(str, (times, *counts))]
-                leave = stress.on_processors(processors)
+                leave = rooms.on_processors(processors)
                 found = subprocess.run(words, capture_output=True, text=True, check=True, preexec_fn=leave)
                 took = found.stdout.strip()
                 print(f'processors {processors}, one that waits {how}: {took} microseconds a hand-off')
@@ -103,4 +104,4 @@ def main(words):
 
 
 if __name__ == '__main__':
-    main(sys.argv[1:])
+    ending.run(main)

@@ -6,10 +6,10 @@ laid beside the program: `soak.py` compares the two on random scripts. Balances 
 what the broker accepted cut by a binding, and so on: it is meant to be read, and to be right on scripts of some
 hundred lines.
 
-    tests/model.py books FILE
-    tests/model.py messages FILE
-    tests/model.py simulate FILE STEPS [--window N]
-    tests/model.py run FILE [--lose-confirm N].. [--lose-publish N].. [--restart-after N].. [--repeat QUEUE:POSITION]..
+    tests/common/model.py books FILE
+    tests/common/model.py messages FILE
+    tests/common/model.py simulate FILE STEPS [--window N]
+    tests/common/model.py run FILE [--lose-confirm N].. [--lose-publish N].. [--restart-after N].. [--repeat QUEUE:POSITION]..
                             [--close SUBSCRIBER:N].. [--window N] [--prefetch N] [--start-after N]
 
 FILE may be `-`. Output and exit status are those of `relayplum` with the same words; under `run`, of a script with
@@ -18,6 +18,8 @@ batches of several clients, what it prints where they come to the ledger in the 
 import json
 import sys
 from dataclasses import dataclass, field, fields, replace
+
+import ending
 
 MOST_BYTES = 1_048_576
 MOST_ITEMS = 1_000
@@ -1450,6 +1452,9 @@ def main(words):
         window = int(words[-1])
         words = words[:-2]
     match words:
+        case ['-h' | '--help']:
+            print(__doc__)
+            return 0
         case [] | ['books', '-']:
             report = books(bytes_of('-'))
         case ['books', name]:
@@ -1465,4 +1470,4 @@ def main(words):
 
 
 if __name__ == '__main__':
-    sys.exit(main(sys.argv[1:]))
+    ending.run(main)

@@ -2,7 +2,8 @@
 # The program as a process: its words, its files, its exit statuses, and what standard error says to a person.
 # Takes the program's path, crates/cdc_app/out/cdc_app where none is given. Prints each check that fails.
 set -uo pipefail
-top=$(cd "$(dirname "${BASH_SOURCE[0]}")/.." && pwd)
+top=$(cd "$(dirname "${BASH_SOURCE[0]}")/../.." && pwd)
+. "$top/tests/common/help.sh"
 program=$(realpath "${1:-$top/crates/cdc_app/out/cdc_app}")
 folder=$(mktemp -d)
 trap 'rm -rf "$folder"' EXIT
@@ -337,7 +338,7 @@ with subprocess.Popen([program], stdin=terminal, stdout=subprocess.PIPE, stderr=
     os.close(terminal)
     with open(script, 'rb') as lines:
         os.write(typed, lines.read() + b'\x04')
-    out, err = run.communicate(timeout=60)
+    out, err = run.communicate(timeout=300)
 sys.stdout.buffer.write(b'status %d\n' % run.returncode + err + out)
 END
 run books one.script
@@ -473,7 +474,7 @@ bad_script binding.script 1 bad_binding 'subscriber some\n'
 bad_script client.script 2 bad_client 'subscriber all\nclient 9\n'
 bad_script none.script 0 no_subscriber ''
 
-# What is said of each mistake: tests/words/faults.rows has a row for each, of the kind of the file, its text and what
+# What is said of each mistake: tests/checks/words/faults.rows has a row for each, of the kind of the file, its text and what
 # standard error says behind the file's name.
 while IFS=$'\t' read -r kind text wanted; do
     printf '%b' "$text" >mistaken
@@ -481,7 +482,7 @@ while IFS=$'\t' read -r kind text wanted; do
     same "the mistake '$text': status" 2 "$status"
     same "the mistake '$text'" "mistaken:$wanted
 " "$err"
-done <"$top/tests/words/faults.rows"
+done <"$top/tests/checks/words/faults.rows"
 
 for _ in 1 2 3 4 5 6 7 8 9; do echo 'subscriber all'; done >many
 "$program" books many >output 2>errors
@@ -802,9 +803,9 @@ crowded.script:1004: batch 2 refused: 3 timestamps_exhausted: the timestamps of 
 crowded.script:1010: batch 5 refused: 3 timestamps_exhausted: the timestamps of its items would pass the greatest one, 2^63-1
 ' "$err"
 
-# Each result in words: tests/words/results.errors has them all, and nothing else stands on standard error. Standard output
+# Each result in words: tests/checks/words/results.errors has them all, and nothing else stands on standard error. Standard output
 # and the status are as without the flag.
-cp "$top/tests/words/results.script" .
+cp "$top/tests/checks/words/results.script" .
 # (its requests that are refused for other reasons leave their amount out, which is noted)
 its_notes='results.script:38: note: a post with no amount takes 0; the whole is 340282366920938463463374607431768211455 (5 in this script)
 results.script:35: note: a transfer with no amount moves 0 (7 in this script)
@@ -816,7 +817,7 @@ plain=$out
 run books --explain results.script
 same 'each result, explained: status' 0 "$status"
 same 'each result, explained: standard output' "$plain" "$out"
-same 'each result, explained' "$(cat "$top/tests/words/results.errors")
+same 'each result, explained' "$(cat "$top/tests/checks/words/results.errors")
 $its_notes" "$err"
 run books --explain one.script
 same 'nothing to explain: standard output' "$its_book" "$out"
@@ -888,7 +889,7 @@ saved_is script.saved 'it holds something else than a record of progress: name a
 saved_is folder.saved 'it is no regular file: name another one'
 saved_is no-folder/saved "can't be"
 
-# Objects in the place of text: tests/json_text.py has all rows; here what stays as it is.
+# Objects in the place of text: tests/checks/json_text.py has all rows; here what stays as it is.
 run books --json no-such.script
 same 'objects of no file: status' 1 "$status"
 same 'objects of no file' '{"kind":"fault","name":"read_fault"}
@@ -913,31 +914,31 @@ if [ -w /dev/full ]; then
 fi
 
 # What each step did, line by line, and as a diagram. Standard output is as without the flags.
-run simulate "$top/examples/two-phase.script" "$top/tests/words/repeats.steps"
+run simulate "$top/examples/two-phase.script" "$top/tests/checks/words/repeats.steps"
 plain=$out
 same 'steps that are told: their end' 'steps 31 of 31' "$(grep '^steps' output)"
-run simulate --trace "$top/examples/two-phase.script" "$top/tests/words/repeats.steps"
+run simulate --trace "$top/examples/two-phase.script" "$top/tests/checks/words/repeats.steps"
 same 'a trace: status' 0 "$status"
 same 'a trace: standard output' "$plain" "$out"
-same 'a trace' "$(cat "$top/tests/words/repeats.trace")
+same 'a trace' "$(cat "$top/tests/checks/words/repeats.trace")
 " "$err"
-run simulate --diagram "$top/examples/two-phase.script" "$top/tests/words/repeats.steps"
+run simulate --diagram "$top/examples/two-phase.script" "$top/tests/checks/words/repeats.steps"
 same 'a diagram: status' 0 "$status"
 same 'a diagram: standard output' "$plain" "$out"
-same 'a diagram' "$(cat "$top/tests/words/repeats.diagram")
+same 'a diagram' "$(cat "$top/tests/checks/words/repeats.diagram")
 " "$err"
-run simulate --diagram=drawn "$top/examples/two-phase.script" "$top/tests/words/repeats.steps"
-same 'a diagram in a file' "$(cat "$top/tests/words/repeats.diagram")" "$(cat drawn)"
+run simulate --diagram=drawn "$top/examples/two-phase.script" "$top/tests/checks/words/repeats.steps"
+same 'a diagram in a file' "$(cat "$top/tests/checks/words/repeats.diagram")" "$(cat drawn)"
 same 'a diagram in a file: standard output' "$plain" "$out"
 ends_well 'a diagram in a file'
-run simulate --diagram=no-folder/drawn "$top/examples/two-phase.script" "$top/tests/words/repeats.steps"
+run simulate --diagram=no-folder/drawn "$top/examples/two-phase.script" "$top/tests/checks/words/repeats.steps"
 same 'a diagram that cannot be written: status' 0 "$status"
 same 'a diagram that cannot be written: standard output' "$plain" "$out"
 has 'a diagram that cannot be written: why' 'no-folder/drawn: write_fault: No such file' "$err"
-run simulate --diagram=drawn "$top/examples/two-phase.script" "$top/tests/words/repeats.steps"
-same 'a diagram in the place of an older one' "0 $(cat "$top/tests/words/repeats.diagram")" "$status $(cat drawn)"
+run simulate --diagram=drawn "$top/examples/two-phase.script" "$top/tests/checks/words/repeats.steps"
+same 'a diagram in the place of an older one' "0 $(cat "$top/tests/checks/words/repeats.diagram")" "$status $(cat drawn)"
 cp "$top/examples/two-phase.script" precious.script
-run simulate --diagram=./precious.script precious.script "$top/tests/words/repeats.steps"
+run simulate --diagram=./precious.script precious.script "$top/tests/checks/words/repeats.steps"
 same 'a diagram in the place of the script: status' 2 "$status"
 same 'a diagram in the place of the script: standard output' '' "$out"
 has 'a diagram in the place of the script: why' 'error: --diagram=./precious.script: this file holds something else than a diagram' "$err"
@@ -1096,7 +1097,7 @@ ends_well 'a large script: its messages'
 # Bodies are JSON texts to an outside reader too.
 if command -v python3 >/dev/null; then
     for events in "one.script 1" "$top/examples/two-phase.script 7"; do
-        "$program" messages "${events% *}" | python3 "$top/tests/json_lines.py" "${events##* }" ||
+        "$program" messages "${events% *}" | python3 "$top/tests/common/json_lines.py" "${events##* }" ||
             wrong 'bodies as JSON' "$events events" 'see above'
         checks=$((checks + 1))
     done

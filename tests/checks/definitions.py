@@ -1,8 +1,8 @@
 #!/usr/bin/env python3
 """docs/DEFINITIONS.md: the definitions that a reader has to believe, made from the comments of the definitions.
 
-  tests/definitions.py            says whether the page is current
-  tests/definitions.py --write    writes the page
+  tests/checks/definitions.py            says whether the page is current
+  tests/checks/definitions.py --write    writes the page
 
 A crate's definitions stand in its specs/, each behind the comment that says what it is, or behind another one of
 which the same comment speaks; each file begins with a comment of its own. Told one by one are those that the clauses
@@ -18,7 +18,10 @@ import re
 import sys
 
 sys.dont_write_bytecode = True
-TOP = os.path.dirname(os.path.dirname(os.path.realpath(__file__)))
+TOP = os.path.realpath(f"{os.path.dirname(os.path.realpath(__file__))}/../..")
+sys.path.insert(0, f"{TOP}/tests/common")
+import ending
+
 PAGE = "docs/DEFINITIONS.md"
 # The sources whose clauses carry the two theorems (docs/PROOFS.md).
 CARRIERS = [
@@ -60,7 +63,7 @@ What only the commands, or a promise of a single crate, need beside it is named 
 code of a world keeps; it is told in the same way where it stands. A definition that private contracts and proofs \
 alone cite isn't here: nobody has to believe it.
 
-This page is made from the comments of the definitions (`tests/definitions.py --write`).
+This page is made from the comments of the definitions (`tests/checks/definitions.py --write`).
 """
 NAMES = """\
 ## Numbers and names
@@ -285,19 +288,19 @@ def page():
     return "\n".join([*lines, NAMES, f"{', '.join(named)}.\n", READ, *said, "", OTHERS, *others, ""])
 
 
-def main():
+def main(words):
     asked = argparse.ArgumentParser(description=__doc__, formatter_class=argparse.RawDescriptionHelpFormatter)
     asked.add_argument("--write", action="store_true", help="writes the page")
     text = page()
-    if asked.parse_args().write:
+    if asked.parse_args(words).write:
         with open(f"{TOP}/{PAGE}", "w", encoding="utf-8") as file:
             file.write(text)
     is_current = read(f"{TOP}/{PAGE}") == text
     if not is_current:
-        print(f"definitions: {PAGE} is not what the comments of the definitions say: tests/definitions.py --write")
+        print(f"definitions: {PAGE} is not what the comments of the definitions say: tests/checks/definitions.py --write")
     print("1 passed, 0 failed" if is_current else "0 passed, 1 failed")
     return int(not is_current)
 
 
 if __name__ == "__main__":
-    sys.exit(main())
+    ending.run(main)

@@ -1,7 +1,7 @@
 #!/usr/bin/env python3
 """Reads and writes that fail in mid-stream, and whether the program goes on after them.
 
-  tests/streams.py [PROGRAM]    PROGRAM: crates/cdc_app/out/cdc_app
+  tests/checks/streams.py [PROGRAM]    PROGRAM: crates/cdc_app/out/cdc_app
 
 A socket whose peer resets the connection gives what was sent, then one failure, then the end: a program that went on
 reading after the failure would see a whole script. A stop interrupts a read. A pipe that nobody empties takes what fits,
@@ -17,11 +17,16 @@ import sys
 import tempfile
 import time
 
-HERE = os.path.dirname(os.path.realpath(__file__))
+sys.dont_write_bytecode = True
+sys.path.insert(0, os.path.join(os.path.dirname(os.path.realpath(__file__)), "..", "common"))
+import ending
+import rooms
+
 # A script whose book is good, and says so.
 SCRIPT = b"subscriber all\n"
 PAGE = 4096
-SECONDS = 60
+SECONDS = 300  # that a run may take: a last guard against one that hangs
+program = None
 failures = []
 checks = 0
 
@@ -72,21 +77,25 @@ def reads_that_fail():
             same(f"{words[0]}, a read that fails: why", True, b"standard input" in ran.stderr and b"reset" in ran.stderr)
 
 
+def stop_for_a_moment(process):
+    """Stops a process, waits until it stands still or has ended, and lets it go on."""
+    process.send_signal(signal.SIGSTOP)
+    os.waitid(os.P_PID, process.pid, os.WSTOPPED | os.WEXITED | os.WNOWAIT)
+    process.send_signal(signal.SIGCONT)
+
+
 def a_read_that_is_interrupted():
     """It is a failed read, and isn't tried again. A stop interrupts a read from a socket with a time limit."""
     sender, reader = socket.socketpair()
-    reader.setsockopt(socket.SOL_SOCKET, socket.SO_RCVTIMEO, struct.pack("ll", SECONDS, 0))
+    reader.setsockopt(socket.SOL_SOCKET, socket.SO_RCVTIMEO, struct.pack("ll", 10 * SECONDS, 0))
     sender.sendall(SCRIPT)
     how = {"stdin": reader, "stdout": subprocess.PIPE, "stderr": subprocess.PIPE}
     with subprocess.Popen([program, "books", "-"], **how) as process:
-        # once it has begun, it waits for more of the script, and the first stop ends it
-        for _ in range(30):
-            time.sleep(0.1)
-            if process.poll() is not None:
-                break
-            process.send_signal(signal.SIGSTOP)
-            time.sleep(0.1)
-            process.send_signal(signal.SIGCONT)
+        # once it waits for more of the script, a stop ends it; one that comes before that changes nothing
+        until = time.monotonic() + SECONDS
+        while process.poll() is None and time.monotonic() < until:
+            stop_for_a_moment(process)
+            time.sleep(0.02)
         sender.close()
         out, err = process.communicate(timeout=SECONDS)
     reader.close()
@@ -128,12 +137,18 @@ def writes_that_fail():
             same(f"{command}, a write that fails: nothing else is said", 1, ran.stderr.count(b"\n"))
 
 
-program = os.path.realpath(sys.argv[1] if len(sys.argv) > 1 else f"{HERE}/../crates/cdc_app/out/cdc_app")
-behaviour_of_a_broken_stream()
-reads_that_fail()
-a_read_that_is_interrupted()
-writes_that_fail()
-for it in failures:
-    print(it)
-print(f"streams: {checks} checks, {len(failures)} failed")
-sys.exit(1 if failures else 0)
+def main(words):
+    global program
+    program = rooms.options_of(rooms.parser_of_first(__doc__), words).program
+    behaviour_of_a_broken_stream()
+    reads_that_fail()
+    a_read_that_is_interrupted()
+    writes_that_fail()
+    for it in failures:
+        print(it)
+    print(f"streams: {checks} checks, {len(failures)} failed")
+    return 1 if failures else 0
+
+
+if __name__ == "__main__":
+    ending.run(main)

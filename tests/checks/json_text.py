@@ -1,17 +1,20 @@
 #!/usr/bin/env python3
 """Runs the program with --json on each row of tests/rows: what it prints says what the row's text says.
 
-  tests/json_text.py [PROGRAM] [WORD]    PROGRAM: crates/cdc_app/out/cdc_app; WORD: only rows with this in their names
+  tests/checks/json_text.py [PROGRAM] [WORD]    PROGRAM: crates/cdc_app/out/cdc_app; WORD: only rows with this in their names
 
 Each line is a JSON object in the shortest form, of a kind and with the members that docs/FORMATS.md names and no others. The
 objects, written as text after the same document, are the row's standard output byte for byte, and the exit status is the row's.
 Rows that name no command are run as `run -`. Prints each row that fails, and what differs.
 """
 import json
+import os
 import subprocess
 import sys
 
 sys.dont_write_bytecode = True
+sys.path.insert(0, os.path.join(os.path.dirname(os.path.realpath(__file__)), "..", "common"))
+import ending
 import rows
 
 # The members of each kind, in their order.
@@ -109,4 +112,4 @@ def complaint(program, name, parts, folder):
 
 
 if __name__ == "__main__":
-    sys.exit(rows.try_rows("json_text", complaint))
+    ending.run(lambda words: rows.try_rows("json_text", __doc__, complaint, words))

@@ -1,8 +1,8 @@
 #!/usr/bin/env python3
 """Runs scripts on threads again and again, under random faults, and compares what is printed and saved.
 
-    tests/stress.py [--program PATH] [--runs N] [--seed S] [--processors P]
-    tests/stress.py [--program PATH] --times N [--tests PATH] [--processors P]
+    tests/checks/stress.py [--program PATH] [--runs N] [--seed S] [--processors P]
+    tests/checks/stress.py [--program PATH] --times N [--tests PATH] [--processors P]
 
 Each run is of a script of 1 to 4 clients and 1 to 8 subscribers: a short one, drawn anew, or one of some 500 transfers. Its
 plan loses confirms and publishes, restarts the connector, lets queues go back and closes subscribers, at random counts,
@@ -11,7 +11,7 @@ output has to be what the outside model (model.py) has for the order of batches 
 of three start after a moment. A long one closes nothing, and its first book tells the order of its batches: the output has to be what `books` prints of a
 script in this order. Half of the runs save their progress to a file; from the record that is left, the plan did what it
 says, where the window is 1. What `--trace` tells of each has to agree with its plan and with what it printed (told.py). A run that takes longer than SECONDS hangs, and has failed. One run more is held for a while,
-in its first save (hold.c), and must take no processor time meanwhile.
+in its first save (holding.py), and must take no processor time meanwhile.
 
 Then four clients hand in 1,000 transfers each, a batch a transfer, and it is printed how many batches of one client came
 to the ledger in a row, at the most: nothing is claimed of that.
@@ -27,20 +27,24 @@ import os
 import pathlib
 import random
 import re
-import shutil
 import subprocess
 import sys
 import time
 from types import SimpleNamespace
 
+sys.path.insert(0, os.path.join(os.path.dirname(os.path.realpath(__file__)), '..', 'common'))
+import ending
+import holding
 import model
 import orders
 import rooms
 import told
+from rooms import on_processors, shortened
+from scripts import long_script
 
-SECONDS = 120  # that a run may take
+SECONDS = 300  # that a run may take: a last guard against one that hangs
 HOLD = 1  # seconds for which a run that waits is looked at
-MOST_HOLDS = 20
+MOST_HOLDS = 300
 PROCESSORS = (2, 4)
 MOST_SHOWN = 3  # failures that are shown
 TRANSFERS = 500  # of a long script, about
@@ -113,31 +117,6 @@ REPEATED = {
 TESTS = ('overlap::two_ends_at_once', 'overlap::twelve_ends_at_once')
 
 
-def long_script(transfers, a_batch):
-    """So many transfers between five accounts, some of them pending ones and posts of these, in batches."""
-    lines = ['subscriber all', 'subscriber any event_type=two_phase_posted transfer_code=2', 'accounts 1000']
-    lines += [f'account id={number} ledger=700 code=10' for number in range(1, 6)]
-    for number in range(1, transfers + 1):
-        if number % a_batch == 1:
-            lines.append(f'transfers {1000 * number + 1000}')
-        debit, credit = 1 + number % 5, 1 + (number + 1 + number // 5 % 4) % 5
-        if number % 10 == 7:
-            lines.append(f'transfer id={number} pending_id={number - 1} amount={number % 5} flags=4')
-            continue
-        flags = ' flags=2' if number % 10 == 6 else ''
-        lines.append(
-            f'transfer id={number} debit_account_id={debit} credit_account_id={credit} amount={5 + number % 89}'
-            f' ledger=700 code={1 + number % 3}{flags}'
-        )
-    return '\n'.join(lines) + '\n'
-
-
-def on_processors(count):
-    """What leaves a process the first so many processors that there are."""
-    those = sorted(os.sched_getaffinity(0))[:count]
-    return lambda: os.sched_setaffinity(0, those)
-
-
 class Runner:
     def __init__(self, program, folder):
         self.program = program
@@ -177,11 +156,6 @@ class Runner:
     def told(self):
         print(f'stress: {self.passed} passed, {self.failed} failed', flush=True)
         return 1 if self.failed else 0
-
-
-def shortened(outcome):
-    text = str(outcome)
-    return text if len(text) < 1000 else f'{text[:300]} .. {text[-600:]}'
 
 
 # ---------------------------------------------------------------- Random scripts
@@ -450,40 +424,45 @@ def ticks(process):
     return int(fields[11]) + int(fields[12])
 
 
+def is_asleep(process):
+    """Whether all threads of a process sleep: one that only waits for a processor doesn't."""
+    threads = pathlib.Path(f'/proc/{process.pid}/task').glob('*/stat')
+    return all(it.read_text().rpartition(')')[2].split()[0] in 'SD' for it in threads)
+
+
 def has_rested(process):
-    """Whether a process took no processor time in some HOLD seconds; it may have to come so far first."""
+    """Whether all threads of a process sleep, and it takes no processor time in some HOLD seconds. Those that aren't held may
+    have something to do first, for at most MOST_HOLDS times as long: a last guard."""
     for _ in range(MOST_HOLDS):
-        before = ticks(process)
+        before, slept = ticks(process), is_asleep(process)
         time.sleep(HOLD)
-        if ticks(process) - before <= 1:
+        if slept and is_asleep(process) and ticks(process) - before <= 1:
             return True
     return False
 
 
 def run_waiting(runner):
     """A run whose connector is held in its first save, and all others with it."""
-    compiler, library = shutil.which('cc'), runner.folder / 'hold.so'
-    if compiler is None:
-        print('stress: not tried: a run that waits, for want of cc')
+    library = holding.library_in(runner.folder, 'stress', 'a run that waits')
+    if library is None:
         return
-    source = pathlib.Path(__file__).parent / 'hold.c'
-    subprocess.run([compiler, '-shared', '-fPIC', '-O1', '-o', library, source], check=True)
     script = long_script(2000, 100)
     book = runner.run(['books', '-'], script)
     pipe = runner.folder / 'hold'
     os.mkfifo(pipe)
     (runner.folder / 'stress.script').write_text(script)
     words = [runner.program, 'run', 'stress.script', '--progress', 'held']
-    held = {**os.environ, 'LD_PRELOAD': str(library)}
-    with subprocess.Popen(words, cwd=runner.folder, stdout=subprocess.PIPE, env=held) as run:
+    env = holding.environment(library)
+    with subprocess.Popen(words, cwd=runner.folder, stdout=subprocess.PIPE, env=env) as run:
+        held = holding.wait_until_held(run, pipe)
+        rested = held is not None and has_rested(run)
+        if held is not None:
+            os.close(held)
         try:
-            rested = has_rested(run)
-            # Without a reader this is refused, and doesn't wait.
-            os.close(os.open(pipe, os.O_WRONLY | os.O_NONBLOCK))
             found = run.communicate(timeout=SECONDS)[0].decode('utf-8', 'backslashreplace')
-        except (OSError, subprocess.TimeoutExpired) as error:
+        except subprocess.TimeoutExpired as error:
             run.kill()
-            rested, found = False, repr(error)
+            found = repr(error)
     runner.note('a run that waits', [(True, book)], (rested, found))
 
 
@@ -545,4 +524,4 @@ def main(words):
 
 
 if __name__ == '__main__':
-    sys.exit(main(sys.argv[1:]))
+    ending.run(main)

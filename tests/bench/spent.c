@@ -4,7 +4,7 @@
      spent PROGRAM WORD..
 
    Prints the seconds by the clock, those of processor time, and the most memory in KiB. What the program writes to
-   standard output goes nowhere; its exit status is this one's. tests/spent.py builds and runs it. */
+   standard output goes nowhere; its exit status is this one's. tests/bench/spent.py builds and runs it. */
 #define _GNU_SOURCE
 #include <fcntl.h>
 #include <stdio.h>

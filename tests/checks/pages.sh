@@ -11,7 +11,8 @@ if [ "${1-}" == --write ]; then
     writes=true
     shift
 fi
-top=$(cd "$(dirname "${BASH_SOURCE[0]}")/.." && pwd)
+top=$(cd "$(dirname "${BASH_SOURCE[0]}")/../.." && pwd)
+. "$top/tests/common/help.sh"
 program=$(realpath "${1:-$top/crates/cdc_app/out/cdc_app}")
 page=$top/docs/relayplum.1
 bash_words=$top/completions/relayplum.bash
@@ -93,7 +94,7 @@ for name in relayplum version $with_flags; do
     checks=$((checks + 1))
     "$program" "${words[@]}" | cmp -s - "$top/docs/help/$name.txt" && continue
     failed=$((failed + 1))
-    printf 'failed: docs/help/%s.txt is not what the program prints (tests/pages.sh --write writes it)\n' "$name"
+    printf 'failed: docs/help/%s.txt is not what the program prints (tests/checks/pages.sh --write writes it)\n' "$name"
 done
 
 echo "pages: $checks checks, $failed failed"

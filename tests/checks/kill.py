@@ -1,7 +1,7 @@
 #!/usr/bin/env python3
 """Kills runs that save their progress, begins them again, and looks for what was lost.
 
-    tests/kill.py [--program PATH] [--kills N] [--seed S]
+    tests/checks/kill.py [--program PATH] [--kills N] [--seed S]
 
 A run of one client keeps its progress in a file, and is killed at a random moment, now and then several times in a row.
 What the file holds then has to be a whole record, not behind the one before it, and at an event's moment. Then the run
@@ -12,6 +12,7 @@ moment, which each record has to keep; another one of three goes on from a recor
 
 The last line is `kill: N passed, M failed`; exit status 1 where one failed.
 """
+import os
 import pathlib
 import random
 import re
@@ -19,11 +20,13 @@ import subprocess
 import sys
 import time
 
+sys.path.insert(0, os.path.join(os.path.dirname(os.path.realpath(__file__)), '..', 'common'))
+import ending
 import model
 import rooms
-import stress
+import scripts
 
-SECONDS = 30  # that a run may take
+SECONDS = 300  # that a run may take: a last guard against one that hangs
 NUMBER = rb'(0|[1-9][0-9]*)'
 RECORD = re.compile(rb'tb-cdc 2 %b %b %b\n' % (NUMBER, NUMBER, NUMBER))
 EARLIER = re.compile(rb'tb-cdc 1 %b %b\n' % (NUMBER, NUMBER))  # its start is 0
@@ -37,7 +40,7 @@ class Killing:
         self.rng = random.Random(options.seed)
         self.folder = pathlib.Path(folder)
         self.progress = self.folder / 'kill.progress'
-        script = stress.long_script(TRANSFERS, 50)
+        script = scripts.long_script(TRANSFERS, 50)
         (self.folder / 'kill.script').write_text(script)
         self.script = model.read_script(script.encode('ascii'))
         self.ledger, self.batches = model.run_batches(self.script)
@@ -101,7 +104,7 @@ class Killing:
             return
         self.failed += 1
         if self.failed <= MOST_SHOWN:
-            print(f'failed: {what}\nwanted: {stress.shortened(wanted)}\nfound: {stress.shortened(found)}', flush=True)
+            print(f'failed: {what}\nwanted: {rooms.shortened(wanted)}\nfound: {rooms.shortened(found)}', flush=True)
 
     def check_record(self, before, after):
         """A record is whole, goes on from the one before, and is at an event, or where the run began."""
@@ -186,4 +189,4 @@ def main(words):
 
 
 if __name__ == '__main__':
-    sys.exit(main(sys.argv[1:]))
+    ending.run(main)
