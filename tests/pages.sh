@@ -98,6 +98,14 @@ done
 
 same 'fish: launcher options' "$launcher_flags" "$(grep -e "; and __relayplum_may_be_launcher' -l " "$fish_words" | fish_flags)"
 
+# The launcher: each of these options stands in quotes in its own sources.
+for flag in $launcher_flags; do
+    checks=$((checks + 1))
+    grep -qsF -e "\"$flag\"" -e "'$flag'" "$top/relayplum" "$top"/tools/build/*.py && continue
+    failed=$((failed + 1))
+    printf 'failed: the launcher: neither relayplum nor tools/build has %s\n' "$flag"
+done
+
 # docs/help: a text for the program, one for its version, and one for each command.
 for name in relayplum version $with_flags; do
     case $name in
