@@ -26,8 +26,8 @@ import needs
 SECONDS, JOBS = 300, 2
 # Scripts that say nothing of themselves: the launcher's test takes no arguments. And those that have their help from argparse
 # alone, and end with a traceback if nobody reads it: their bytes are part of a record, or they are about to move.
-WITHOUT_HELP = {"tests/checks/launcher.sh"}
-WITH_TRACEBACK = {"tests/wrong_bodies.py", "tests/records.py"}
+WITHOUT_HELP = {"tests/checks/launcher.sh", "tests/checks/proved.sh"}
+WITH_TRACEBACK = {"tests/wrong_bodies.py"}
 # Which scripts need the newer Python, since they read the model.
 OF_MODEL = {"tests/checks/soak.py", "tests/checks/stress.py", "tests/checks/kill.py", "tests/bench/speed.py", "tests/common/model.py"}
 passed, failures = 0, []

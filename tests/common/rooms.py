@@ -28,7 +28,7 @@ def options_of(parser, words):
     options = parser.parse_args(words)
     options.program = str(pathlib.Path(options.program).resolve())
     if not os.path.isfile(options.program) or not os.access(options.program, os.X_OK):
-        parser.error(f'{options.program} is no program; ./relayplum --version builds it')
+        parser.error(f'{options.program} is no program; `./relayplum books examples/first-transfer.script` builds it')
     return options
 
 
