@@ -181,8 +181,7 @@ def optimised():
 
 
 def main(words):
-    parser = rooms.parser_of(__doc__)
-    parser.set_defaults(program=None)
+    parser = rooms.parser_of(__doc__, default=None)
     parser.add_argument('--times', type=int, default=15)
     parser.add_argument('--jobs', type=int, default=2)
     parser.add_argument('--only', action='append', choices=SCRIPTS)
