@@ -1,16 +1,26 @@
 # The words of relayplum for bash. Source this file, or put it, under the name relayplum, into the folder
 # bash-completion/completions of ~/.local/share or /usr/share.
 _relayplum() {
-    local word=${COMP_WORDS[COMP_CWORD]} words=''
+    local word=${COMP_WORDS[COMP_CWORD]} words='' launcher='' first=1
     COMPREPLY=()
-    if [ "$COMP_CWORD" = 1 ]; then
-        words='books messages simulate run help -h --help -V --version'
-    elif [ "${COMP_WORDS[1]}" = help ]; then
+    # Called by a path, it may be the launcher in the repository, which takes options before the command.
+    [[ ${COMP_WORDS[0]} != */* ]] || launcher='--from-records --prove --unproved --optimised --install'
+    while [ "$first" -lt "$COMP_CWORD" ] && [[ " $launcher " == *" ${COMP_WORDS[first]} "* ]]; do
+        [ "${COMP_WORDS[first]}" != --install ] || first=$((first + 1))
+        first=$((first + 1))
+    done
+    if [ "$COMP_CWORD" -lt "$first" ]; then
+        # A folder follows --install.
+        compopt -o filenames 2>/dev/null
+        mapfile -t COMPREPLY < <(compgen -d -- "$word")
+    elif [ "$COMP_CWORD" = "$first" ]; then
+        words="books messages simulate run help -h --help -V --version $launcher"
+    elif [ "${COMP_WORDS[first]}" = help ]; then
         words='books messages simulate run help'
     elif [ "${COMP_WORDS[COMP_CWORD - 1]}" = --window ]; then
         words='1 2 8 64'
     elif [[ $word == -* ]]; then
-        case ${COMP_WORDS[1]} in
+        case ${COMP_WORDS[first]} in
             books) words='--explain --json --check -h --help' ;;
             messages) words='--json --check -h --help' ;;
             simulate) words='--random --steps --faults --window --explain --trace --diagram --json --check -h --help' ;;

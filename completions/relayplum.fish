@@ -25,3 +25,12 @@ complete -c relayplum -n '__fish_seen_subcommand_from run' -l repeat -x -d 'Let 
 complete -c relayplum -n '__fish_seen_subcommand_from run' -l close -x -d 'Close a subscriber after N applied events: SUBSCRIBER:N'
 complete -c relayplum -n '__fish_seen_subcommand_from run' -l start-after -x -d 'Start the first session after this moment, in nanoseconds'
 complete -c relayplum -n '__fish_seen_subcommand_from run' -l progress -r -d 'The file that the connector saves its progress in'
+# Called by a path, it may be the launcher in the repository, which takes options before the command.
+function __relayplum_may_be_launcher
+    string match -q '*/*' -- (commandline -opc)[1]
+end
+complete -c relayplum -n '__fish_use_subcommand; and __relayplum_may_be_launcher' -l from-records -d 'Build each crate from its proof record'
+complete -c relayplum -n '__fish_use_subcommand; and __relayplum_may_be_launcher' -l prove -d 'Prove every crate here, and use no record'
+complete -c relayplum -n '__fish_use_subcommand; and __relayplum_may_be_launcher' -l unproved -d 'Run the sources as they are, without a proof'
+complete -c relayplum -n '__fish_use_subcommand; and __relayplum_may_be_launcher' -l optimised -d 'Have LLVM build the program'
+complete -c relayplum -n '__fish_use_subcommand; and __relayplum_may_be_launcher' -l install -x -a '(__fish_complete_directories)' -d 'Put the program, the man page and the completions into a folder'

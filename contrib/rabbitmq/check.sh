@@ -22,5 +22,5 @@ not_tried() {
 "$python" "$here/checks.py" || exit 1
 [ -x /usr/lib/rabbitmq/bin/rabbitmq-server ] || not_tried 'there is no RabbitMQ here: on Debian apt-get install rabbitmq-server'
 "$python" -c 'import pika' 2>/dev/null || not_tried "$python has no pika: on Debian apt-get install python3-pika"
-[ -x "$program" ] || not_tried "there is no $program: ./relayplum --version builds it"
+[ -x "$program" ] || not_tried "there is no $program: ./relayplum books FILE builds it"
 "$here/with_server.sh" "$here/through.sh" "$program"

@@ -240,7 +240,7 @@ def read_words():
     words = parser.parse_args()
     words.program = str(pathlib.Path(words.program).resolve())
     if not os.access(words.program, os.X_OK):
-        raise Stop(f'there is no {words.program}: ./relayplum --version builds it', BAD_WORDS)
+        raise Stop(f'there is no {words.program}: `./relayplum books FILE` builds it', BAD_WORDS)
     return words
 
 

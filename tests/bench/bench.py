@@ -1,5 +1,6 @@
 #!/usr/bin/env python3
-"""Measures the program, and prints one table: commands by scripts, in instructions, memory and time.
+"""Measures the program, and prints one table: commands by scripts, in instructions, memory and time. With no --program it is
+the one that LLVM makes, which is built first, as `./relayplum --optimised` does it.
 
     tests/bench/bench.py [--program PATH] [--times N] [--jobs N] [--only SCRIPT].. [--write]
 
@@ -23,12 +24,15 @@ import subprocess
 import sys
 import tempfile
 
-sys.path.insert(0, os.path.join(os.path.dirname(os.path.realpath(__file__)), '..', 'common'))
+HERE = os.path.dirname(os.path.realpath(__file__))
+sys.path[:0] = [os.path.join(HERE, '..', 'common'), os.path.join(HERE, '..', '..', 'tools')]
 import counting
 import ending
 import rooms
 import scripts
 import spent
+from build.jobs import OPTIMISING
+from build.program import Program
 
 MEASURED = rooms.TOP / 'docs/MEASURED.md'
 HEAD = '| Script | Command | Instructions | of each event | Memory, MB | Least, s | Middle, s | Processors, s |'
@@ -168,13 +172,22 @@ def write(block):
     MEASURED.write_text(f'{head}\n{block}\n## {rest}', encoding='utf-8')
 
 
+def optimised():
+    """Returns the program as LLVM makes it."""
+    program = Program(str(rooms.TOP))
+    if not program.is_current(compiler=OPTIMISING):
+        program.build(compiler=OPTIMISING)
+    return program.path
+
+
 def main(words):
-    parser = rooms.parser_of(__doc__)
+    parser = rooms.parser_of(__doc__, default=None)
     parser.add_argument('--times', type=int, default=15)
     parser.add_argument('--jobs', type=int, default=2)
     parser.add_argument('--only', action='append', choices=SCRIPTS)
     parser.add_argument('--write', action='store_true')
-    options = rooms.options_of(parser, words)
+    given = parser.parse_args(words)
+    options = rooms.options_of(parser, [*words, '--program', given.program or optimised()])
     before = os.getloadavg()[0]
     with rooms.room('bench-') as folder:
         bench = Bench(options.program, folder, options.times, options.jobs)

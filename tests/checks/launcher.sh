@@ -1,233 +1,219 @@
 #!/usr/bin/env bash
-# Tests of the script `relayplum`: when it builds, what it says meanwhile, and what it hands on. Nothing is proved here:
-# a copy of the script stands in a small repository of its own, and an `rt` of these tests takes the toolchain's place.
-set -uo pipefail
-here=$(cd "$(dirname "${BASH_SOURCE[0]}")/../.." && pwd)
-room=$(mktemp -d)
-trap 'rm -rf "$room"' EXIT
-passed=0
-failed=0
+# Tests of the launcher `relayplum` and of tools/build: when the program is built, what is printed meanwhile, and what is handed
+# on. Nothing is proved here (common/launching.sh).
+NAME=launcher
+. "$(dirname "${BASH_SOURCE[0]}")/../common/launching.sh"
 
-check() { # check NAME WANTED FOUND
-    if [ "$2" = "$3" ]; then
-        passed=$((passed + 1))
-    else
-        failed=$((failed + 1))
-        printf 'relayplum: %s: wanted\n%s\nfound\n%s\n' "$1" "$2" "$3"
-    fi
-}
-
-has() { # has NAME PATTERN TEXT
-    if grep -q -- "$2" <<<"$3"; then
-        passed=$((passed + 1))
-    else
-        failed=$((failed + 1))
-        printf 'relayplum: %s: no line with %s in\n%s\n' "$1" "$2" "$3"
-    fi
-}
-
-# A repository of two crates, a program that stands on them and one more crate, and a toolchain of these tests, which writes
-# down how it is called.
-mkdir -p "$room/bin" "$room/kit/bin" "$room/top/crates"/{low,high,cdc_app,aside}/src "$room/top/crates/low/specs" "$room/elsewhere"
-cp "$here/relayplum" "$room/top/relayplum"
-printf '# lowest first\nlow:\naside: low\nhigh: low\ncdc_app: low high clap\n' >"$room/top/crates.txt"
-for crate in low aside high; do echo "// $crate" >"$room/top/crates/$crate/src/lib.rt"; done
-echo '// cdc_app' >"$room/top/crates/cdc_app/src/main.rt"
-echo '-- a definition' >"$room/top/crates/low/specs/Low.antt"
-echo 'a toolchain 1' >"$room/kit/KIT-ID"
-cat >"$room/bin/rt" <<'RT'
-#!/usr/bin/env bash
-case "$1" in
-doc) echo "${0%/bin/rt}/kit/START-HERE.md" ;;
-try)
-    echo "$(basename "$PWD"): $*" >>"$CALLS"
-    echo "tried: $*"
-    for word in "$@"; do case "$word" in *=*) cat "${word#*=}" 2>/dev/null ;; esac; done
-    echo "interpreter: no-answer: a call of a function of an \`extern\` block" >&2
-    echo "the program's own line" >&2
-    echo "checked: ended status=0" >&2
-    echo "run=ended status=0 proved=no" >&2
-    ;;
-esac
-RT
-cat >"$room/kit/bin/rattle" <<'RATTLE'
-#!/usr/bin/env bash
-name='' to='' jobs='' record='' all=" $* "
-while [ $# -gt 0 ]; do
-    case "$1" in
-    --crate-name) name=$2 ;;
-    -o) to=$2 ;;
-    --jobs) jobs=$2 ;;
-    --crate-checked) record=$2 ;;
-    esac
-    shift
-done
-# each library that it stands on has to be there
-for word in $all; do
-    case "$word" in
-    *=*/start/*.rlib) [ -e "${word#*=}" ] || { echo "error: $word is missing"; exit 2; } ;;
-    esac
-done
-if [ -n "$record" ]; then
-    echo "$name: record" >>"$CALLS"
-    grep -q proved "$record/verdict" || { echo 'error: a record is not as it was written'; exit 1; }
-    if [ -e "$record/toolchain" ]; then echo "$name: has $(cd "$record/toolchain" && head -c 99 -- *)" >>"$CALLS"; fi
-else
-    echo "$name: proved, jobs $jobs" >>"$CALLS"
-    # one that is named in SLOW waits for the other that is named there, and at most so many seconds
-    if [ -f "$SLOW" ] && grep -q "^$name " "$SLOW"; then
-        read -r _ other seconds < <(grep "^$name " "$SLOW")
-        for _ in $(seq $((10 * seconds))); do
-            if grep -q "^$other: " "$CALLS"; then break; fi
-            sleep 0.1
-        done
-        echo "$name: done" >>"$CALLS"
-    fi
-fi
-if [ -f "$REFUSED" ] && [ "$name" = "$(cat "$REFUSED")" ]; then
-    echo "no proof: a goal is open"
-    exit 1
-fi
-echo "$name" >"$to"
-RATTLE
-cat >"$room/kit/bin/rattle-link" <<'LINK'
-#!/usr/bin/env bash
-while [ "$1" != -o ]; do shift; done
-printf '#!/bin/sh\necho "run with $*"\n[ "$1" != fail ]\n' >"$2"
-chmod +x "$2"
-LINK
-chmod +x "$room/bin/rt" "$room/kit/bin"/*
-export PATH=$room/bin:$PATH CALLS=$room/calls REFUSED=$room/refused SLOW=$room/slow
-
-call() { # runs the script; $out, $err, $status and $calls say what came of it
-    : >"$CALLS"
-    status=0
-    out=$("$@" 2>"$room/err") || status=$?
-    err=$(cat "$room/err")
-    calls=$(cat "$CALLS")
-}
-
-built='low: proved, jobs 1
-high: proved, jobs 1
-cdc_app: proved, jobs 1'
-upwards='high: proved, jobs 1
-cdc_app: proved, jobs 1'
-# one job at a time, where nothing else is said
-export RT_JOBS=1
-
-call "$room/top/relayplum" books x
+start books x
 check 'the first call builds each crate below the program in its order' "$built" "$calls"
 check 'the first call then runs the program' 'run with books x' "$out"
-has 'it says what it waits for' '^relayplum: proving low, 1 of 3$' "$err"
-has 'it says what is proved' '^relayplum: high proved, [0-9]* s$' "$err"
-has 'it says that of the program too' '^relayplum: cdc_app proved, [0-9]* s$' "$err"
-has 'it says what was proved here' '^relayplum: proved here: low high cdc_app$' "$err"
+has 'it prints what it waits for' '^relayplum: proving low, 1 of 3$' "$err"
+has 'it prints what is proved' '^relayplum: high proved, 2 of 3, [0-9]* s$' "$err"
+has 'it prints that of the program too' '^relayplum: cdc_app proved, 3 of 3, [0-9]* s$' "$err"
+has 'it prints what was proved here' '^relayplum: proved here: low high cdc_app$' "$err"
 
-call "$room/top/relayplum" books x
+start books x
 check 'the second call builds nothing' '' "$calls"
-check 'the second call says nothing' '' "$err"
+check 'the second call prints nothing else' '' "$err"
 check 'the second call runs the program' 'run with books x' "$out"
+until_noted
+start books x
+check 'where nothing changed, no Python is started' '' "$(cat "$CALLS.python" 2>/dev/null)"
+check 'and the program runs' 'run with books x' "$out"
 
-sleep 1.1
-touch "$room/top/crates/low/src/lib.rt"
-call "$room/top/relayplum" books x
+touch "$low"
+start books x
 check 'a touched source builds nothing' '' "$calls"
 check 'a touched source: the program runs' 'run with books x' "$out"
-sleep 1.1
-mv "$room/top/crates/low/src/lib.rt" "$room/kept"
-cp "$room/kept" "$room/top/crates/low/src/lib.rt"
-call "$room/top/relayplum" books x
+mv "$low" "$room/kept"
+cp "$room/kept" "$low"
+start books x
 check 'a source away and back builds nothing' '' "$calls"
-sleep 1.1
 echo '// more' >>"$room/top/crates/aside/src/lib.rt"
-call "$room/top/relayplum" books x
+start books x
 check 'a source of a crate that the program does not stand on builds nothing' '' "$calls"
 
 echo '// elder' >"$room/elder"
 touch -d '2 days ago' "$room/elder"
-cp -p "$room/elder" "$room/top/crates/low/src/lib.rt"
-call "$room/top/relayplum" books x
-check 'an older file in the place of a source builds' "$built" "$calls"
-
-sleep 1.1
-echo '// more' >>"$room/top/crates/low/src/lib.rt"
-call "$room/top/relayplum" books x
+cp -p "$room/elder" "$low"
+touch "$program"
+start books x
+check 'an older source is built, also under a program that was touched since' "$built" "$calls"
+until_noted
+echo '// more' >>"$low"
+start books x
 check 'a changed source builds' "$built" "$calls"
-check 'a changed source: the program runs' 'run with books x' "$out"
-call "$room/top/relayplum" books x
+start books x
 check 'and builds once' '' "$calls"
-sleep 1.1
 rm "$room/top/crates/low/specs/Low.antt"
-call "$room/top/relayplum" books x
+start books x
 check 'a removed file builds' "$built" "$calls"
+until_noted
+printf '#!/bin/sh\necho another\n' >"$program"
+start books x
+check 'a program that is another than the one that was built is not run' 'run with books x' "$out"
+check 'and nothing is proved again for it' '' "$calls"
+rm "$program.built"
+start books x
+check 'nor is one of which nothing is noted' 'run with books x' "$out"
 
-echo high >"$REFUSED"
-sleep 1.1
+# The toolchain: its compiler and its logic decide, not its name.
+echo 'kit-2 logic l1' >"$room/kit/KIT-ID"
+start books x
+check 'a kit of another name builds nothing' '' "$calls"
+echo 'kit-2 logic l2' >"$room/kit/KIT-ID"
+start books x
+check 'another logic builds' "$built" "$calls"
+until_noted
+echo '# another compiler' >>"$room/kit/bin/rattle"
+start books x
+check 'another compiler builds' "$built" "$calls"
+PATH_WITHOUT=$room/few
+mkdir "$PATH_WITHOUT"
+for it in sh bash python3 readlink find cmp cat env grep dirname basename rm; do ln -s "$(command -v $it)" "$PATH_WITHOUT/$it"; done
+PATH=$PATH_WITHOUT start books x
+check 'without a toolchain the program runs, since it fits the sources' 'run with books x' "$out"
+
+echo 'echo "no proof: a goal is open"; exit 1' >"$DO/high"
 echo '// wrong' >>"$room/top/crates/high/src/lib.rt"
-call "$room/top/relayplum" books x
+start books x
 check 'a crate that is refused ends the script' 1 "$status"
 check 'what it stands on is not proved again' 'high: proved, jobs 1' "$calls"
 check 'no program runs then' '' "$out"
 has 'it names the crate' '^relayplum: high isn.t proved$' "$err"
 has 'it shows why' 'a goal is open' "$err"
-call "$room/top/relayplum" books x
+start books x
 check 'and again, until it is mended' 1 "$status"
-rm "$REFUSED"
-call "$room/top/relayplum" books x
+rm "$DO/high"
+start books x
 check 'a mended crate builds, and what stands on it' "$upwards" "$calls"
+
+# What is built is what stood there when the build began: a compiler that edits a source meanwhile.
+echo '// as committed' >"$low"
+echo "echo '// edited meanwhile' >>'$low'; rm \"\$DO/low\"" >"$DO/low"
+start books x
+check 'an edit during the build: it fails' 1 "$status"
+has 'an edit during the build: it is said' '^relayplum: crates/low/src/lib.rt changed while the program was built: start it again$' "$err"
+check 'an edit during the build: no program runs' '' "$out"
+check 'an edit during the build: the library is of what stood there' '// as committed' "$(cat "$room/top/crates/cdc_app/out/start/low.rlib/lib")"
+echo 'grep -q edited src/lib.rt && { echo "no proof: a goal is open"; exit 1; }' >"$DO/low"
+start books x
+check 'the edited source is what is built next, and is refused' 1 "$status"
+check 'the program of the source before does not run' '' "$out"
+rm "$DO/low"
+echo '// as committed' >"$low"
+start books x
+check 'the source as it was: the program runs' 'run with books x' "$out"
+echo "echo '// edited later' >>'$low'; rm \"\$DO/high\"" >"$DO/high"
+echo '// more' >>"$room/top/crates/high/src/lib.rt"
+start books x
+check 'an edit of a crate that is made already fails too' 1 "$status"
+has 'an edit of a crate that is made already: it is said' '^relayplum: crates/low/src/lib.rt changed while' "$err"
+start books x
+check 'and then all is built of it' "$built" "$calls"
+check 'and the library is of it' "$(cat "$low")" "$(cat "$room/top/crates/cdc_app/out/start/low.rlib/lib")"
+echo "printf 'x' >>'$room/top/crates/low/src/new.rt'; rm \"\$DO/cdc_app\"" >"$DO/cdc_app"
+echo '// more' >>"$room/top/crates/cdc_app/src/main.rt"
+start books x
+has 'a file that comes during the build' '^relayplum: crates/low/src/new.rt changed while' "$err"
+rm "$room/top/crates/low/src/new.rt"
+
+# A check that is ended by the system.
+echo 'kill -9 $$' >"$DO/low"
+echo '// killed' >>"$low"
+start books x
+check 'a check that is killed ends the script' 1 "$status"
+has 'a check that is killed: it is said' '^relayplum: the system ended the check of low, most likely since memory ran out: RT_JOBS=1' "$err"
+lacks 'a check that is killed is no refusal' 'isn.t proved' "$err"
+rm "$DO/low"
+start books x
+check 'a check that was killed: the next call builds' "$built" "$calls"
 
 # Side by side: `side` stands on nothing, so it starts beside `low`, and `high` only after both. Lines come in any order.
 mkdir -p "$room/top/crates/side/src"
 echo '// side' >"$room/top/crates/side/src/lib.rt"
-echo '// beside' >>"$room/top/crates/low/src/lib.rt"
+echo '// beside' >>"$low"
 printf 'cdc_app : low, high side clap\nhigh may_abort=0: low  side # both\n\nlow:\nside:\n' >"$room/top/crates.txt"
-printf 'low side 30\nside low 30\n' >"$SLOW"
-RT_JOBS=2 call "$room/top/relayplum" books x
+waits_for() { # waits_for CRATE OTHER: the check of a crate goes on once that of another has begun
+    echo "until grep -q '^$2: ' \"\$CALLS\"; do sleep 0.05; done; echo '$1: done' >>\"\$CALLS\"" >"$DO/$1"
+}
+waits_for low side
+waits_for side low
+RT_JOBS=2 start books x
 check 'side by side: the program runs' 'run with books x' "$out"
 check 'side by side: each has begun before the other ends' "$(printf '%s\n' 'low: proved, jobs 1' 'side: proved, jobs 1')" \
     "$(head -n 2 <<<"$calls" | LC_ALL=C sort)"
-check 'side by side: what stands on both comes after them' "$(printf '%s\n' 'low: done' 'side: done' 'high: proved, jobs 2' \
-    'cdc_app: proved, jobs 2')" "$(tail -n +3 <<<"$calls" | sed '1,2{s/^side: done$/low: done/;}' | sed '2s/low/side/')"
-has 'side by side: it says what it waits for' '^relayplum: proving side, [12] of 4$' "$err"
-has 'side by side: the last' '^relayplum: cdc_app proved, [0-9]* s$' "$err"
-
+check 'side by side: what stands on both comes after them' "$(printf '%s\n' 'high: proved, jobs 2' \
+    'cdc_app: proved, jobs 2, by rattle')" "$(tail -n 2 <<<"$calls")"
+rm "$DO"/*
 echo '// again' >>"$room/top/crates/side/src/lib.rt"
-rm "$SLOW"
-RT_JOBS=1 call "$room/top/relayplum" books x
+start books x
 check 'a change proves what stands on it, and nothing else' "$(printf '%s\n' 'side: proved, jobs 1' 'high: proved, jobs 1' \
-    'cdc_app: proved, jobs 1')" "$calls"
-RT_JOBS=1 call "$room/top/relayplum" --prove books x
-check '--prove proves all' "$(printf '%s\n' 'cdc_app: proved, jobs 1' 'high: proved, jobs 1' 'low: proved, jobs 1' \
-    'side: proved, jobs 1')" "$(LC_ALL=C sort <<<"$calls")"
-check '--prove: the program runs' 'run with books x' "$out"
-
-echo '// four' >>"$room/top/crates/side/src/lib.rt"
-echo '// four' >>"$room/top/crates/low/src/lib.rt"
-printf 'low side 30\nside low 30\n' >"$SLOW"
-RT_JOBS=4 call "$room/top/relayplum" books x
+    'cdc_app: proved, jobs 1, by rattle')" "$calls"
+for crate in low side; do echo '// four' >>"$room/top/crates/$crate/src/lib.rt"; done
+waits_for low side
+waits_for side low
+RT_JOBS=4 start books x
 check 'four jobs: two for each of two' "$(printf '%s\n' 'low: proved, jobs 2' 'side: proved, jobs 2')" \
     "$(head -n 2 <<<"$calls" | LC_ALL=C sort)"
 check 'four jobs: all for what everything left stands on' 'high: proved, jobs 4' "$(grep '^high: proved' <<<"$calls")"
 
-# One that is refused ends the other that is being proved.
-echo low >"$REFUSED"
+# One that is refused ends the other that is being proved, which would never end by itself.
 for crate in low side; do echo '// wrong' >>"$room/top/crates/$crate/src/lib.rt"; done
-printf 'low side 30\nside none 5\n' >"$SLOW"
-RT_JOBS=2 call "$room/top/relayplum" books x
+waits_for low side
+echo 'echo "no proof: a goal is open"; exit 1' >>"$DO/low"
+echo 'echo $$ >"$DO/side.id"; exec sleep 100000' >"$DO/side"
+RT_JOBS=2 start books x
 check 'side by side: one that is refused ends the script' 1 "$status"
 has 'side by side: it names the crate' '^relayplum: low isn.t proved$' "$err"
 has 'side by side: it shows why' 'a goal is open' "$err"
-sleep 6
-check 'side by side: the other is ended too' '' "$(grep 'side: done' "$CALLS")"
-rm "$REFUSED" "$SLOW"
-
+gone() { ! kill -0 "$1" 2>/dev/null || [ "$(cut -d' ' -f3 "/proc/$1/stat" 2>/dev/null)" = Z ]; }
+check 'side by side: the other is ended too' gone "$(gone "$(cat "$DO/side.id")" && echo gone)"
+rm "$DO"/*
 printf 'low: side\nside: low\nhigh:\ncdc_app: high low\n' >"$room/top/crates.txt"
-call "$room/top/relayplum" books x
+start books x
 check 'crates that wait for one another: the script ends' 1 "$status"
-has 'crates that wait for one another: it says so' '^relayplum: crates.txt: these wait for one another: low side$' "$err"
-printf 'low:\nhigh: low\ncdc_app: low high clap\n' >"$room/top/crates.txt"
-call "$room/top/relayplum" books x
+has 'crates that wait for one another: it is said' '^relayplum: crates.txt: these wait for one another: low side$' "$err"
+lines
+start books x
 check 'and then the program runs again' 'run with books x' "$out"
+
+# Ended from the keyboard while it builds, it ends what it has started, and prints no more.
+echo '// more' >>"$low"
+echo 'echo $$ >"$DO/low.id.new"; mv "$DO/low.id.new" "$DO/low.id"; exec sleep 100000' >"$DO/low"
+rm -f "$DO/low.id"
+: >"$CALLS"
+python3 -c 'import os, signal, sys; signal.signal(signal.SIGINT, signal.default_int_handler); os.execv(sys.argv[1], sys.argv[1:])' \
+    "$room/top/relayplum" books x 2>"$room/err" &
+started=$!
+until_there "$DO/low.id"
+kill -INT "$started"
+wait "$started"
+check 'an interrupt: its status' 130 $?
+check 'an interrupt: what it printed' 'relayplum: proving low, 1 of 3' "$(tail -n +2 "$room/err")"
+check 'an interrupt: what it started is ended' gone "$(gone "$(cat "$DO/low.id")" && echo gone)"
+rm "$DO"/*
+start books x
+check 'an interrupt: the next call builds' "$built" "$calls"
+
+# --prove goes on where it was interrupted, and takes nothing that was not proved here.
+start --prove books x
+check '--prove: what is proved here is not proved again' '' "$calls"
+echo '// prove' >>"$low"
+echo 'exit 1' >"$DO/cdc_app"
+start --prove books x
+check '--prove: refused' 1 "$status"
+rm "$DO"/*
+start --prove books x
+check '--prove goes on where it was' 'cdc_app: proved, jobs 1, by rattle' "$calls"
+check '--prove: the program runs' 'run with books x' "$out"
+start --optimised books x
+check '--optimised has LLVM make the program, and nothing else' 'cdc_app: proved, jobs 1, by llvm' "$calls"
+start books x
+check 'a program that LLVM made serves as well' '' "$calls"
+start --version
+check '--version: built by proofs' 'relayplum
+built from proofs made here, with kit-2, by LLVM' "$out"
 
 ln -s "$room/top/relayplum" "$room/elsewhere/link"
 cd "$room/elsewhere" || exit 1
@@ -236,18 +222,26 @@ check 'a symbolic link runs the program' 'run with books two words' "$out"
 check 'a symbolic link builds nothing' '' "$calls"
 call ./link fail
 check 'the status is the program'"'"'s' 1 "$status"
+cd "$room/top" || exit 1
+call ./relayplum books x
+check 'from its own folder' 'run with books x' "$out"
+cd "$room/elsewhere" || exit 1
+mv "$room/top" "$room/a folder"
+call "$room/a folder/relayplum" books x
+check 'a folder with a space, moved: nothing is built' '' "$calls"
+check 'a folder with a space, moved: the program runs' 'run with books x' "$out"
+mv "$room/a folder" "$room/top"
 
 echo 'a script' >"$room/elsewhere/a script"
 call ./link --unproved books 'a script' --window 2
 check 'unproved: no crate is built' "cdc_app: try --data 1-a script=$room/elsewhere/a script -- books 1-a script --window 2" "$calls"
 has 'unproved: a file is handed on' '^a script$' "$out"
-has 'unproved: it says that nothing is proved' '^relayplum: nothing is proved' "$err"
-has 'unproved: the program'"'"'s own words on standard error' '^the program.s own line$' "$err"
+has 'unproved: it prints that nothing is proved' '^relayplum: nothing is proved' "$err"
+has 'unproved: the program'"'"'s own lines on standard error' '^the program.s own line$' "$err"
 check 'unproved: nothing else there' 2 "$(wc -l <<<"$err")"
-
 touch books 7 ./-
 call ./link --unproved books - --window 7
-check 'unproved: files with the name of another word' 'cdc_app: try -- books - --window 7' "$calls"
+check 'unproved: files with the name of another argument' 'cdc_app: try -- books - --window 7' "$calls"
 call ./link --unproved simulate books -
 check 'unproved: files with such names where files are meant' \
     "cdc_app: try --data 1-books=$room/elsewhere/books --data 2--=$room/elsewhere/- -- simulate 1-books 2--" "$calls"
@@ -260,144 +254,97 @@ rm 7 1:2
 touch 'a = b'
 call ./link --unproved books 'a = b'
 check 'unproved: a name with an equals sign' "cdc_app: try --data 1-a - b=$room/elsewhere/a = b -- books 1-a - b" "$calls"
-
 call ./link --unproved simulate 'a script' 'a script' --diagram=out.mmd
 check 'unproved: a diagram goes where it is to be' "--diagram=$room/elsewhere/out.mmd" "$(grep -o -- '--diagram=.*' <<<"$calls")"
+PATH=$PATH_WITHOUT call ./link --unproved books 'a script'
+check 'unproved, without a toolchain' '1 relayplum: there is no `rt` on the path: Rattle'"'"'s toolchain is needed' "$status $err"
+call ./link --unproved --prove books x
+check 'unproved and proved: a usage error' 2 "$status"
+call ./link --prove --from-records books x
+check 'two ways: a usage error' 2 "$status"
+call ./link --install
+check '--install without a folder: a usage error' 2 "$status"
 
-# Ended from the keyboard while it builds, it ends what it has started, and says no more.
-echo '// more' >>"$room/top/crates/low/src/lib.rt"
-echo 'low none 40' >"$SLOW"
-call timeout -s INT 6 ./link books x
-check 'an interrupt: its status' 124 "$status"
-check 'an interrupt: no words but its own' '' "$(grep -v '^relayplum: ' <<<"$err")"
-sleep 1
-check 'an interrupt: what it started is ended' '' "$(pgrep -f "$room/kit/bin/rattle")"
-rm "$SLOW"
-call ./link books x
-check 'an interrupt: the next call builds' "$built" "$calls"
-
-# Records of proofs: one is taken where it is of what stands here, and what stands on another crate than it is of is proved.
-record_of() { # record_of CRATE FILE..: writes the record of a crate
-    local crate=$1 file
-    shift
-    mkdir -p "$room/record" "$room/top/proved"
-    echo 'logic=proved' >"$room/record/verdict"
-    (cd "$room/top/crates/$crate" && for file in "$@"; do
-        printf 'file "%s" %s\n' "$file" "$(sha256sum <"$file" | cut -d' ' -f1)"
-    done) >"$room/record/inputs"
-    tar -C "$room/record" -c verdict inputs | xz >"$room/top/proved/$crate.tar.xz"
-    echo "$crate a1b2c3 a toolchain 1" >>"$room/top/proved/WRITTEN"
-}
-anew() { rm -rf "$room/top/crates/cdc_app/out"; }
-mkdir -p "$room/top/crates/low/specs"
-record_of low src/lib.rt
-record_of high src/lib.rt
-anew
-call ./link books x
-check 'records: what has one is built from it, and the rest is proved' \
-    "$(printf '%s\n' 'low: record' 'high: record' 'cdc_app: proved, jobs 1')" "$calls"
-has 'records: it says so' '^relayplum: 2 of 3 crates built from the records of their proofs at a1b2c3; ./relayplum --prove proves them here$' "$err"
-has 'records: it says what was proved' '^relayplum: proved here: cdc_app$' "$err"
-call ./link --prove books x
-check '--prove takes no record' "$built" "$calls"
-record_of cdc_app src/main.rt
-anew
-call ./link books x
-check 'records: the program is built from them' "$(printf '%s\n' 'low: record' 'high: record' 'cdc_app: record')" "$calls"
-has 'records: it says that of all' '^relayplum: all crates built from the records of their proofs at a1b2c3' "$err"
-check 'records: the program runs' 'run with books x' "$out"
-echo '// other' >>"$room/top/crates/high/src/lib.rt"
-call ./link books x
-check 'records: a crate of other sources is proved, and what stands on it' "$upwards" "$calls"
-has 'records: it names the one that is not taken' '^relayplum: the record of the proof of high was not taken: it is of other sources$' "$err"
-has 'records: and what stands on it' '^relayplum: the record of the proof of cdc_app was not taken: it stands on high' "$err"
-record_of high src/lib.rt
-echo 'logic=proved not' >"$room/record/verdict"
-sed -i 's/proved/open/' "$room/record/verdict"
-tar -C "$room/record" -c verdict inputs | xz >"$room/top/proved/low.tar.xz"
-(cd "$room/top/crates/low" && printf 'file "src/lib.rt" %s\n' "$(sha256sum <src/lib.rt | cut -d' ' -f1)") >"$room/record/inputs"
-tar -C "$room/record" -c verdict inputs | xz >"$room/top/proved/low.tar.xz"
-anew
-call ./link books x
-check 'records: one that the toolchain refuses is not taken' "$(printf '%s\n' 'low: record' "$built")" "$calls"
-has 'records: it says who refused it' 'of low was not taken: the toolchain refuses it: error: a record is not' "$err"
-echo 'not xz' >"$room/top/proved/low.tar.xz"
-anew
-call ./link books x
-check 'records: one that is no archive is not taken' "$built" "$calls"
-record_of low src/lib.rt
-# (what many records have stands in proved/shared.xz once)
-shared() { # shared PART..: writes the parts that records share
-    (for part in "$@"; do printf '%s %d\n' "$(sha256sum <<<"$part" | cut -c 1-16)" "$((${#part} + 1))"; done && echo && printf '%s\n' "$@") |
-        xz >"$room/top/proved/shared.xz"
-}
-mkdir "$room/record/toolchain"
-echo 'its own' >"$room/record/toolchain/checked.own"
-{ echo "4 $(sha256sum <<<one | cut -c 1-16)" && echo "12 $(sha256sum <<<two | cut -c 1-16)"; } >"$room/record/toolchain/checked.cut"
-tar -C "$room/record" -c verdict inputs toolchain/checked.own toolchain/checked.cut | xz >"$room/top/proved/low.tar.xz"
-shared two three one
-anew
-call ./link books x
-check 'records: shared parts are put into their places' \
-    "$(printf '%s\n' 'low: record' 'low: has its one' 'own' 'two' 'high: record' 'cdc_app: record')" "$calls"
-shared two three
-anew
-call ./link books x
-check 'records: one of which a part is missing is not taken' "$built" "$calls"
-has 'records: it says that a part is missing' 'of low was not taken: a part of it isn.t among those' "$err"
-echo 'not xz' >"$room/top/proved/shared.xz"
-anew
-call ./link books x
-check 'records: nor where the parts are no archive' "$built" "$calls"
-rm -r "$room/record/toolchain"
-record_of low src/lib.rt
-echo 'a toolchain 2' >"$room/kit/KIT-ID"
-anew
-call ./link books x
-check 'records: of those that a kit of another name wrote the toolchain decides' 'low: record' "$(head -n 1 <<<"$calls")"
-has 'records: it takes one that is of its own logic' '^relayplum: low built from the record of its proof' "$err"
-sed -i 's/proved/open/' "$room/record/verdict"
-tar -C "$room/record" -c verdict inputs | xz >"$room/top/proved/low.tar.xz"
-anew
-call ./link books x
-check 'records: one that it refuses is not taken' "$(printf '%s\n' 'low: record' "$built")" "$calls"
-has 'records: it says of which kit that was' 'of low was not taken: the toolchain, a toolchain 2 and not a toolchain 1, refuses it: error' "$err"
-rm -r "$room/top/proved"
-
-# Words that need no program, before there is one.
+# Arguments that need no program, before there is one.
 mkdir -p "$room/top/docs/help"
 printf 'Usage: relayplum <COMMAND>\n\nCommands:\n  books  Print\n  run    Run\n  help   Print this\n\nOptions:\n  -h, --help     Print help\n\nMore\n' \
     >"$room/top/docs/help/relayplum.txt"
 printf 'Usage: relayplum books [OPTIONS] <FILE>\n\nOptions:\n      --window <N>  How many\n      --check       Check\n  -h, --help        Print help\n' \
     >"$room/top/docs/help/books.txt"
 echo 'relayplum 7' >"$room/top/docs/help/version.txt"
-anew
+from_scratch
 call ./link --help
 check 'at once: help' "$(cat "$room/top/docs/help/relayplum.txt")" "$out"
 call ./link books --help
 check 'at once: the help of a command' "$(cat "$room/top/docs/help/books.txt")" "$out"
 call ./link help books
-check 'at once: the same, in other words' "$(cat "$room/top/docs/help/books.txt")" "$out"
+check 'at once: the same, by the command help' "$(cat "$room/top/docs/help/books.txt")" "$out"
+for flag in --prove --from-records --optimised; do
+    call ./link $flag --help
+    check "at once: $flag --help" "$(cat "$room/top/docs/help/relayplum.txt")" "$out"
+done
 call ./link --version
-check 'at once: the version' 'relayplum 7' "$out"
+check 'at once: the version' 'relayplum 7
+not built: the first command builds it' "$out"
 call ./link boks x
-check 'at once: a command that there is not' 2 "$status"
-has 'at once: it says which there are' '^error: there is no command boks: the commands are books, run, help$' "$err"
+check 'at once: an unknown command' 2 "$status"
+has 'at once: the commands are listed' '^relayplum: there is no command boks: the commands are books, run, help$' "$err"
 call ./link books --wndow 3 x
-check 'at once: a flag that there is not' 2 "$status"
-has 'at once: it names the flag' '^error: books has no flag --wndow$' "$err"
+check 'at once: an unknown flag' 2 "$status"
+has 'at once: the flag is named' '^relayplum: books has no flag --wndow$' "$err"
 check 'at once: nothing is built for any of them' '' "$(find "$room/top/crates/cdc_app/out" 2>/dev/null)"
-call ./link books --window -3 x
-check 'at once: good words are the program'"'"'s' 'run with books --window -3 x' "$out"
-call ./link --help
-check 'with a program, it is the one that answers' 'run with --help' "$out"
 
-# A program that the gate built has no note of its sources: its time decides.
-rm -f "$room/top/crates/cdc_app/out/cdc_app.sources"
-sleep 1.1
-touch "$room/top/crates/cdc_app/out/cdc_app"
+# Standard output that can't be written to, and folders: a sentence each, and no traceback.
+sentence() { # sentence NAME STATUS SENTENCE
+    check "$1" "$2 $3" "$status $err"
+}
+call sh -c './link --help >&-'
+sentence 'help, standard output closed' 1 'relayplum: standard output: Bad file descriptor'
+call sh -c './link --help >/dev/full'
+sentence 'help, a full disk' 1 'relayplum: standard output: No space left on device'
+mkfifo "$room/pipe"
+call bash -c 'exec 3<>"$0/pipe" 4>"$0/pipe" 3<&-; trap "" PIPE; ./link --help >&4' "$room"
+check 'help, a reader that has gone: no traceback' '1 ' "$status $err"
+call sh -c './link --help 0<&- 2>&-'
+check 'help, nothing else open' 0 "$status"
+mkdir -p "$room/top/crates/cdc_app"
+touch "$room/top/crates/cdc_app/out"
 call ./link books x
-check 'a program newer than all sources is taken' '' "$calls"
+has 'where nothing can be made' "^relayplum: $room/top/crates/cdc_app/out/start: Not a directory$" "$err"
+lacks 'where nothing can be made: no traceback' Traceback "$err"
+rm "$room/top/crates/cdc_app/out"
+KIT=$room/elsewhere call ./link books x
+sentence 'a toolchain without its id' 1 "relayplum: \`rt doc\` names the folder $room/elsewhere, which has no KIT-ID: it is no toolchain's folder"
+PATH=$PATH_WITHOUT call ./link books x
+sentence 'no toolchain' 1 'relayplum: there is no `rt` on the path: Rattle'"'"'s toolchain is needed'
+if [ "$(id -u)" = 0 ] && command -v setpriv >/dev/null && [ -x /usr/bin/python3 ]; then
+    chmod -R a+rX "$room"
+    chmod a+rwx "$room"
+    as_nobody() { PATH=$room/kit/bin:/usr/bin:/bin setpriv --reuid=65534 --regid=65534 --clear-groups "$@"; }
+    call as_nobody ./link books x
+    has 'a folder that is read-only, unbuilt' "^relayplum: $room/top/crates/cdc_app/out[^ ]*: Permission denied$" "$err"
+    lacks 'a folder that is read-only: no traceback' Traceback "$err"
+    call ./link books x
+    chmod -R a+rX "$room"
+    call as_nobody ./link books x
+    check 'a folder that is read-only, built: the program runs' '0 run with books x' "$status $out"
+fi
+call ./link books x
+call sh -c './link books x >&-'
+lacks 'a program, standard output closed: no traceback' Traceback "$err"
+rm -f "$program.stamps"
+call sh -c './link books x >&-'
+lacks 'a program that is compared, standard output closed: no traceback' Traceback "$err"
 
-echo "relayplum: $passed passed, $failed failed"
-[ "$failed" = 0 ]
+# --install puts the program, the man page and the completions in their places.
+mkdir -p "$room/top/completions"
+for file in docs/relayplum.1 completions/relayplum.bash completions/_relayplum completions/relayplum.fish; do echo "$file" >"$room/top/$file"; done
+call ./link --install "$room/usr/local"
+check '--install: status' 0 "$status"
+check '--install: the program' 'run with books x' "$("$room/usr/local/bin/relayplum" books x)"
+check '--install: each file' "$(printf '%s\n' bin/relayplum share/bash-completion/completions/relayplum share/fish/vendor_completions.d/relayplum.fish \
+    share/man/man1/relayplum.1 share/zsh/site-functions/_relayplum)" "$(cd "$room/usr/local" && find . -type f | sed 's/..//' | LC_ALL=C sort)"
+call ./link "--install=$room/full" books x
+check '--install=DIR' 'run with books x' "$("$room/full/bin/relayplum" books x)"
+
+ended

@@ -1,7 +1,7 @@
 #!/usr/bin/env bash
-# The page of the manual and the completions beside the program's own help: each command and each flag that the help
-# names stands in each of them, and no other does. Flags are compared command by command but for the page, which has them
-# in one list.
+# The man page and the completions, compared with the program's own help: each command and each flag that the help
+# names stands in each of them, and no other does. Flags are compared command by command, except in the man page, which has
+# them in one list. The launcher options, which ./relayplum takes before the command, are compared in the same way.
 # Then docs/help, which `relayplum` answers from before there is a program: each text is what the program prints.
 # Takes the program's path, crates/cdc_app/out/cdc_app where none is given; with `--write` before it, it writes docs/help.
 # Prints each check that fails.
@@ -41,19 +41,22 @@ flags() { "$program" "$@" --help | sed -n '/^Options:/,/^$/s/^ *\(-[^ ].*\)/\1/p
 all_commands=$(commands)
 with_flags=$(grep -v '^help$' <<<"$all_commands")
 all_flags=$({ flags; for command in $with_flags; do flags "$command"; done; } | sorted)
+launcher_flags=$("$program" --help | sed -n '/^Launcher options/,/^$/s/^  \(-[^ ].*\)/\1/p' | sed 's/  .*//' | flags_in)
 
 # The page: its lists of commands and of options, and what else it says of flags.
 part() { sed -n "/^\.SH $1\$/,/^\.SH/p" "$page" | sed 's/\\-/-/g'; }
 same 'the page: commands' "$all_commands" "$(part COMMANDS | grep -A 1 '^\.TP' | sed -n 's/^\.BR \([a-z]*\) .*/\1/p' | sorted)"
 same 'the page: synopsis' "$all_commands" "$(part SYNOPSIS | sed -n 's/^\.B relayplum \([a-z]*\).*/\1/p' | sorted)"
 same 'the page: options' "$all_flags" "$(part OPTIONS | grep -A 1 '^\.TP' | grep '^\.BR' | flags_in)"
-same 'the page: flags anywhere' "$all_flags" "$(sed 's/\\-/-/g' "$page" | flags_in)"
+same 'the page: launcher options' "$launcher_flags" "$(part 'LAUNCHER OPTIONS' | grep -A 1 '^\.TP' | grep '^\.BR' | flags_in)"
+same 'the page: flags anywhere' "$(sorted <<<"$all_flags"$'\n'"$launcher_flags")" "$(sed 's/\\-/-/g' "$page" | flags_in)"
 
 # bash: what is offered, by the function itself.
 . "$bash_words"
-offered() {
-    COMP_WORDS=(relayplum "$@")
-    COMP_CWORD=$#
+offered() { offered_to relayplum "$@"; }
+offered_to() {
+    COMP_WORDS=("$@")
+    COMP_CWORD=$(($# - 1))
     _relayplum
     printf '%s\n' "${COMPREPLY[@]}" | sorted
 }
@@ -63,9 +66,20 @@ for command in $with_flags; do
     same "bash: $command" "$(flags "$command")" "$(offered "$command" -)"
     same "bash: $command, a file" '' "$(offered "$command" '')"
 done
+# The launcher, which is called by its path: its options stand before the command, one or several, and a folder follows --install.
+first=$({ commands; flags; printf '%s\n' $launcher_flags; } | sorted)
+same 'bash: the launcher, the first argument' "$first" "$(offered_to ./relayplum '')"
+for flag in $launcher_flags; do
+    before=("$flag")
+    [ "$flag" != --install ] || before=(--install /usr)
+    same "bash: the launcher, after $flag" "$first" "$(offered_to ./relayplum "${before[@]}" '')"
+    same "bash: the launcher, run after $flag" "$(flags run)" "$(offered_to ./relayplum --optimised "${before[@]}" run -)"
+done
+same 'bash: the launcher, the folder' "$top/crates" "$(offered_to ./relayplum --optimised --install "$top/crate")"
 
 # zsh: what its file says, command by command; `$help` and its like stand for a list further up.
 zsh_list() { sed -n "/^    $1=/p" "$zsh_words" | flags_in; }
+same 'zsh: launcher options' "$launcher_flags" "$(sed -n "/^ *launcher=(/,/^ *)/s/^ *'\(--[a-z-]*\)\[.*/\1/p" "$zsh_words" | sorted)"
 same 'zsh: commands' "$all_commands" "$(sed -n "/^    commands=(/,/^    )/s/^ *'\([a-z]*\):.*/\1/p" "$zsh_words" | sorted)"
 same 'zsh: the first word' "$(flags)" "$({ zsh_list help; grep -- '--version' "$zsh_words" | flags_in; } | sorted)"
 for command in $with_flags; do
@@ -81,6 +95,16 @@ same 'fish: the first word' "$(flags)" "$(grep -e '-n __fish_use_subcommand' -e 
 for command in $with_flags; do
     same "fish: $command" "$(flags "$command")" \
         "$(grep -e "'__fish_seen_subcommand_from [a-z ]*\b$command\b" -e "-n 'not " "$fish_words" | fish_flags)"
+done
+
+same 'fish: launcher options' "$launcher_flags" "$(grep -e "; and __relayplum_may_be_launcher' -l " "$fish_words" | fish_flags)"
+
+# The launcher: each of these options stands in quotes in its own sources.
+for flag in $launcher_flags; do
+    checks=$((checks + 1))
+    grep -qsF -e "\"$flag\"" -e "'$flag'" "$top/relayplum" "$top"/tools/build/*.py && continue
+    failed=$((failed + 1))
+    printf 'failed: the launcher: neither relayplum nor tools/build has %s\n' "$flag"
 done
 
 # docs/help: a text for the program, one for its version, and one for each command.

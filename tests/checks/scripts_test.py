@@ -25,10 +25,10 @@ import ending
 import needs
 
 SECONDS, JOBS = 300, 2
-# Scripts that say nothing of themselves: the launcher's test takes no arguments. And those that have their help from argparse
-# alone, and end with a traceback if nobody reads it: their bytes are part of a record, or they are about to move.
-WITHOUT_HELP = {"tests/checks/launcher.sh"}
-WITH_TRACEBACK = {"tests/wrong_bodies.py", "tests/records.py"}
+# Scripts without help: they take no arguments. And one that has its help from argparse alone, and ends with a traceback if
+# nobody reads it: its bytes are part of a record.
+WITHOUT_HELP = {"tests/checks/launcher.sh", "tests/checks/proved.sh"}
+WITH_TRACEBACK = {"tests/wrong_bodies.py"}
 # Which scripts need the newer Python, since they read the model, and which need rt even for their help.
 OF_MODEL = {f"tests/{it}.py" for it in ("checks/soak", "checks/stress", "checks/kill", "bench/speed", "common/model")}
 WITH_RT = {"tests/wrong_bodies.py"}

@@ -1094,6 +1094,51 @@ run messages large.script
 same 'a large script: lines of its messages' 20000 "$(wc -l <output)"
 ends_well 'a large script: its messages'
 
+# A reader that closes the pipe: standard error reports nothing, and the status is that of any write that failed. Here the
+# only reader has closed its end before the command starts.
+mkfifo gone
+exec 7<>gone 8>gone 7<&-
+for words in 'books one.script' 'books --json one.script' 'books number.script' 'books --check number.script' 'messages one.script' \
+    'messages --json one.script' 'run one.script' 'run --json one.script' 'run one.script --explain --trace' \
+    'simulate one.script three.steps' 'simulate --json one.script three.steps' 'simulate one.script --random 7' '--help' \
+    'books --help' '--version'; do
+    "$program" $words >&8 2>errors
+    same "'$words' without a reader: status" 1 $?
+    same "'$words' without a reader: standard error" '' "$(cat errors)"
+done
+exec 8>&-
+# A reader that takes the first line of an output that no pipe can hold.
+for words in 'messages large.script' 'messages --json large.script'; do
+    "$program" $words 2>errors | head -n 1 >output
+    same "'$words' into head: status" 1 "${PIPESTATUS[0]}"
+    same "'$words' into head: lines" 1 "$(wc -l <output)"
+    same "'$words' into head: standard error" '' "$(cat errors)"
+done
+# The reader of a diagram that stops after its first byte; descriptor 8 lets it wait for the diagram. The status and standard
+# output are as ever.
+run simulate large.script large.steps
+plain=$out
+mkfifo drawing
+exec 7<>drawing 8>drawing 9<drawing 7<&-
+head -c 1 <&9 >first 8>&- &
+reader=$!
+exec 9<&-
+run simulate --diagram=drawing large.script large.steps
+exec 8>&-
+wait "$reader"
+same 'a diagram without a reader: what was read' s "$(cat first)"
+same 'a diagram without a reader: standard output' "$plain" "$out"
+ends_well 'a diagram without a reader'
+# Any other write that fails is reported.
+"$program" books one.script >&- 2>errors
+same 'a closed standard output: status' 1 $?
+has 'a closed standard output: why' 'standard output: write_fault: Bad file descriptor' "$(cat errors)"
+if [ -w /dev/full ]; then
+    run simulate --diagram=/dev/full one.script three.steps
+    same 'a diagram to a full disk: status' 0 "$status"
+    has 'a diagram to a full disk: why' '/dev/full: write_fault: No space left' "$err"
+fi
+
 # Bodies are JSON texts to an outside reader too.
 if command -v python3 >/dev/null; then
     for events in "one.script 1" "$top/examples/two-phase.script 7"; do

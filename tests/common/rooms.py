@@ -9,10 +9,10 @@ PROGRAM = TOP / 'crates/cdc_app/out/cdc_app'
 MEMORY = '/dev/shm'
 
 
-def parser_of(text):
-    """A parser of a script's words, with that of the program among them; the text is the script's help."""
+def parser_of(text, default=str(PROGRAM)):
+    """A parser of a script's arguments, with the program among them; the text is the script's help."""
     parser = argparse.ArgumentParser(description=text, formatter_class=argparse.RawDescriptionHelpFormatter)
-    parser.add_argument('--program', default=str(PROGRAM), metavar='PATH', help='default: %(default)s')
+    parser.add_argument('--program', default=default, metavar='PATH', help=f'default: {default or "the one that LLVM makes"}')
     return parser
 
 
@@ -28,7 +28,7 @@ def options_of(parser, words):
     options = parser.parse_args(words)
     options.program = str(pathlib.Path(options.program).resolve())
     if not os.path.isfile(options.program) or not os.access(options.program, os.X_OK):
-        parser.error(f'{options.program} is no program; ./relayplum --version builds it')
+        parser.error(f'{options.program} is no program; `./relayplum books examples/first-transfer.script` builds it')
     return options
 
 

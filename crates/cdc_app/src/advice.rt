@@ -1,5 +1,8 @@
 //! What standard error says to a person, beside the fault's line on standard output.
 
+ghost use Rattle.std.specs.Prelude.{◌↔◌, ◌≡◌, IsTrue};
+ghost use Rattle.std.specs.IoError.{error_kind};
+
 use crate::kept::Seen;
 use crate::progress_advice::trouble;
 use crate::run_places::{Met, Shown};
@@ -11,6 +14,7 @@ use cdc_script::ScriptFault;
 use cdc_telling::{FaultTold, script_fault_told, steps_fault_told};
 use std::alloc::AllocError;
 use std::io;
+use std::io::ErrorKind;
 
 /// Says why a command gave up that has read no file. Where that can't be said the exit status still tells.
 pub fn advise(rt: &HostRuntime, ending: Ending) {
@@ -102,7 +106,15 @@ pub fn shown_name(file: &str) -> &str {
     }
 }
 
-/// One line, or nothing after a command that did all that was asked.
+/// Whether a write failed because the reader closed its end of the pipe, as `head` does. The reader chose to stop, so
+/// standard error reports nothing.
+pub fn is_reader_gone(error: io::Error) -> bool
+    ensures { IsTrue result ↔ (error_kind error ≡ ErrorKind.BrokenPipe) }
+{
+    error.kind() == ErrorKind::BrokenPipe
+}
+
+/// One line, or nothing after a command that did all that was asked or lost its reader.
 fn advice(rt: &HostRuntime, place: &str, ending: Ending) -> io::Result<()> {
     match ending {
         Ending::Done | Ending::BadWords => Ok(()),
@@ -116,6 +128,7 @@ fn advice(rt: &HostRuntime, place: &str, ending: Ending) -> io::Result<()> {
         Ending::Failed(ProgramFault::ReadFault(error)) => eprintln!(rt;
             "{place}: read_fault: {error}"
         ),
+        Ending::Failed(ProgramFault::WriteFault(error)) if is_reader_gone(error) => Ok(()),
         Ending::Failed(ProgramFault::WriteFault(error)) => {
             eprintln!(rt; "standard output: write_fault: {error}")
         }

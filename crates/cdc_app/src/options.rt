@@ -45,6 +45,18 @@ publish, arrive K, answer K, save, send I, rewind I, break I, take I, ack I K or
 queue, K counts the packets, the confirms or a subscriber's acknowledgements ever sent, from 1, and N is a moment in
 nanoseconds.
 
+Launcher options, before the command:
+  --from-records  Build each crate from its proof record [default: unpack its library from proved/ if that fits the
+                  sources and the toolchain, else use its record if that fits, else prove the crate]
+  --prove         Prove every crate here, and use no record; continues a proof that was interrupted
+  --unproved      Run the sources as they are, without a proof, while you are writing them
+  --optimised     Have LLVM build the program: 110 s more CPU time, then 0.64 of the instructions in each run
+                  [default: Rattle's own compiler]; combines with the default way and with --from-records
+  --install DIR   Put the program into DIR/bin, and the man page and the completions into DIR/share
+
+Only ./relayplum, the launcher in the repository, takes launcher options. Its --version also prints how the program was
+built, from which commit and with which kit.
+
 Examples:
   relayplum books examples/two-phase.script
   relayplum messages examples/first-transfer.script

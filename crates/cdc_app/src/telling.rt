@@ -4,7 +4,7 @@
 
 ghost use Rattle.cdc_types.specs.Windows.{IsWindow};
 
-use crate::advice::shown_name;
+use crate::advice::{is_reader_gone, shown_name};
 use crate::kept::Seen;
 use crate::options::{STANDARD_ERROR, Telling};
 use cdc_commands::Ending;
@@ -171,11 +171,17 @@ fn holds_something(rt: &HostRuntime, name: &str) -> bool {
     fs::metadata(rt, name).is_ok_and(|data| data.is_file() && data.len() > 0)
 }
 
-/// Writes a diagram to standard error or to the file of this name, and says where that can't be done.
+/// Writes a diagram to standard error or to the file of this name, and reports a write that failed, unless the file is a
+/// pipe that its reader has closed.
 pub fn draw(rt: &HostRuntime, file: &str, diagram: &str) {
     if file == STANDARD_ERROR {
         let _ = eprint!(rt; "{diagram}");
-    } else if let Err(error) = fs::write(rt, file, diagram) {
-        let _ = eprintln!(rt; "{file}: write_fault: {error}");
+        return;
+    }
+    match fs::write(rt, file, diagram) {
+        Err(error) if !is_reader_gone(error) => {
+            let _ = eprintln!(rt; "{file}: write_fault: {error}");
+        }
+        _ => {}
     }
 }

@@ -1,0 +1,265 @@
+#!/usr/bin/env bash
+# Tests of what is taken from proved/, and of tools/records, which writes and checks it. Nothing is proved here
+# (common/launching.sh).
+NAME=proved
+. "$(dirname "${BASH_SOURCE[0]}")/../common/launching.sh"
+cd "$room/elsewhere" || exit 1
+ln -s "$room/top/relayplum" link
+printf 'low:\nhigh: low\ncdc_app: low high clap index\n' >"$room/top/crates.txt"
+
+# Records and libraries: one is taken where it is of what stands here.
+cat >"$room/proved.py" <<'PROVED'
+"""Writes what proved/ has of a crate, as it stands: proved.py TOP KIT CRATE [library] [open] [copy]. The record has a part of its own
+and two of the toolchain's; `open` spoils its verdict, and `copy` puts one of the toolchain's under a name of its own."""
+import hashlib, json, os, shutil, sys
+top, kit = sys.argv[1:3]
+sys.path.insert(0, f"{top}/tools")
+from build import parts, proved
+from build.crates import Sums, crates_of
+from build.toolchain import Toolchain
+name, words = sys.argv[3], sys.argv[4:]
+crates = crates_of(top)
+crate = next(it for it in crates if it.name == name)
+toolchain, have = Toolchain(), proved.Proved(top)
+key = Sums(crates).key(crate, toolchain.identity)
+said = {"commit": "a1b2c3", "kit": toolchain.name, "identity": toolchain.identity}
+record = f"{top}/../record"
+shutil.rmtree(record, ignore_errors=True)
+os.makedirs(record)
+def put(file, text):
+    os.makedirs(os.path.dirname(file), exist_ok=True)
+    with open(file, "w") as out:
+        out.write(text)
+put(f"{record}/verdict", "logic=" + ("open" if "open" in words else "proved"))
+put(f"{record}/inputs", "".join(f'file "{it}" {sum}\n' for it, sum in crate.sums().items()))
+def keep():
+    shutil.rmtree(f"{os.environ['DO']}/records/{name}", ignore_errors=True)
+    shutil.copytree(record, f"{os.environ['DO']}/records/{name}")
+keep()
+if not crate.is_program:
+    big = open(f"{kit}/rlibs/index.rlib/big").read() if "copy" in words else "own\n"
+    texts = [("part/Rattle-cdc_own", big), ("part/Rattle-index", "one\ntwo\n"), ("part/Rattle-index-some", "line 1\nmine\nline 3\n")]
+    at, rows = 0, []
+    for part, text in texts:
+        rows.append([part, at, len(text)])
+        at += len(text)
+    put(f"{record}/toolchain/checked.a", "".join(text for _, text in texts))
+    put(f"{record}/toolchain/checked.json", "".join(json.dumps(it) + "\n" for it in rows))
+    keep()
+    library = f"{top}/../library.rlib"
+    shutil.rmtree(library, ignore_errors=True)
+    shutil.copytree(f"{record}/toolchain", f"{library}/toolchain")
+    put(f"{library}/lib", open(f"{crate.folder}/src/lib.rt").read())
+    put(f"{library}/below/index/big", open(f"{kit}/rlibs/index.rlib/big").read())
+    all_parts = parts.Parts(toolchain, have.folder, ["index"])
+    proved.cut_out(record, all_parts)
+    os.makedirs(have.folder, exist_ok=True)
+    all_parts.write(all_parts.load())
+have.write(crate, "record", proved.packed(record, proved.files_in(record)), key, **said)
+if "library" in words:
+    files = proved.Files("toolchain", f"{kit}/rlibs", ["index.rlib"])
+    have.write(crate, "library", proved.pack_library(library, files, proved.Files("crate", top, [])), key, **said)
+PROVED
+mkdir -p "$room/kit/rlibs/index.rlib/toolchain" "$DO/records"
+checked() { (printf "$1" && seq 1000) >"$room/kit/rlibs/index.rlib/toolchain/checked.a"; }
+checked 'one\ntwo\nline 1\nline 2\nline 3\n'
+printf '%s\n' '["part/Rattle-index", 0, 8]' '["part/Rattle-index-some", 8, 21]' '["part/Rattle-index-big", 29, 3893]' >"$room/kit/rlibs/index.rlib/toolchain/checked.json"
+seq 1000 >"$room/kit/rlibs/index.rlib/big"
+write() { python3 "$room/proved.py" "$room/top" "$room/kit" "$@"; }
+whole='has own one two line 1 mine line 3 '
+
+write low
+write high
+from_scratch
+call ./link books x
+check 'records: what has one is built from it, and the rest is proved' \
+    "$(printf '%s\n' 'low: record' "low: $whole" 'high: record' "high: $whole" 'cdc_app: proved, jobs 1, by rattle')" "$calls"
+has 'records: it is said' '^relayplum: 2 of 3 crates taken from the proof records in proved/, of a1b2c3; ./relayplum --prove proves them here$' "$err"
+has 'records: what was proved is said' '^relayplum: proved here: cdc_app$' "$err"
+check 'records: nothing of the toolchain is kept in one' '' "$(tar -xOf "$room/top/proved/low.record.tar.xz" toolchain/checked.own | grep -v own)"
+check 'records: of a part that is some lines of the toolchain'"'"'s, its own lines alone' '=mine' "$(xz -dc "$room/top/proved/derived.xz" | grep =)"
+call ./link --prove books x
+check '--prove takes no record' "$built" "$calls"
+write cdc_app
+from_scratch
+call ./link books x
+check 'records: the program is built from them' 'cdc_app: record, by rattle' "$(tail -n 1 <<<"$calls")"
+has 'records: that of all is said' '^relayplum: all crates taken from the proof records in proved/, of a1b2c3' "$err"
+check 'records: the program runs' 'run with books x' "$out"
+call ./link --version
+check '--version: built from records' 'relayplum
+built from the proof records in proved/ of a1b2c3, with kit-1, by Rattle'"'"'s own compiler' "$out"
+write low library
+write high library
+from_scratch
+call ./link books x
+check 'libraries: they are unpacked, and the program alone is built' 'cdc_app: record, by rattle' "$calls"
+has 'libraries: it is said' '^relayplum: all crates taken from the libraries in proved/, of a1b2c3; ./relayplum --prove' "$err"
+check 'libraries: one is put together' "$(printf 'own\none\ntwo\nline 1\nmine\nline 3')" \
+    "$(cat "$room/top/crates/cdc_app/out/start/low.rlib/toolchain/checked.a")"
+check 'libraries: with what the toolchain has' 1000 "$(tail -n 1 "$room/top/crates/cdc_app/out/start/low.rlib/below/index/big")"
+check 'libraries: which is not kept' '' "$(tar -tf "$room/top/proved/low.library.tar.xz" | grep big)"
+check 'libraries: the program runs' 'run with books x' "$out"
+call ./link --version
+has '--version: built from libraries' '^built from the libraries in proved/ of a1b2c3, with kit-1, by Rattle.s own compiler$' "$out"
+call ./link books x
+check 'libraries: nothing is built a second time' '' "$calls"
+call ./link --from-records books x
+check '--from-records builds each crate from its record' "$(printf '%s\n' low: high: cdc_app:)" "$(grep record <<<"$calls" | cut -d' ' -f1)"
+call ./link --from-records books x
+check '--from-records, once more: nothing is built' '' "$calls"
+from_scratch
+call ./link --from-records --optimised books x
+check '--from-records --optimised' 'cdc_app: record, by llvm' "$(tail -n 1 <<<"$calls")"
+echo '// other' >>"$room/top/crates/high/src/lib.rt"
+call ./link books x
+check 'records: a crate of other sources is proved, and what stands on it' "$upwards" "$calls"
+has 'records: it names those that are not taken' '^relayplum: proved/ has the records of other sources, or of another toolchain, of: high cdc_app$' "$err"
+write high library
+from_scratch
+printf 'x' >>"$room/top/proved/high.library.tar.xz"
+call ./link books x
+has 'libraries: one that was changed is not taken' '^relayplum: the library of high in proved/ was not taken: it isn.t the file that proved/index.json names$' "$err"
+check 'libraries: its record is' 'high: record' "$(head -n 1 <<<"$calls")"
+printf 'x' >>"$room/top/proved/high.record.tar.xz"
+from_scratch
+call ./link books x
+has 'records: one that was changed is not taken' '^relayplum: the record of high in proved/ was not taken: it isn.t the file that' "$err"
+check 'records: the crate is proved' "$upwards" "$calls"
+write high open
+from_scratch
+call ./link books x
+check 'records: one that the toolchain refuses is not taken' "$(printf '%s\n' 'high: record' "high: proved, jobs 1")" "$(grep -v has <<<"$calls" | head -n 2)"
+has 'records: who refused it is said' 'of high in proved/ was not taken: the toolchain refuses it: error: a record is not' "$err"
+write high
+checked 'one\ntoo\nline 1\nline 2\nline 3\n'
+from_scratch
+call ./link books x
+has 'records: one of which the toolchain lacks a part is not taken' 'of low in proved/ was not taken: the toolchain has no part part/Rattle-index of the sum' "$err"
+checked 'one\ntwo\nline 1\nline 2\nline 3\n'
+seq 1001 >"$room/kit/rlibs/index.rlib/big"
+from_scratch
+call ./link books x
+has 'libraries: one of which the toolchain has another file is not taken' '^relayplum: the library of low in proved/ was not taken: it can.t be put\|index.rlib/big isn.t the one that it was built with' "$err"
+seq 1000 >"$room/kit/rlibs/index.rlib/big"
+echo 'kill -9 $$' >"$DO/high"
+from_scratch
+call ./link --from-records books x
+has 'records: a check that is killed is no refusal' '^relayplum: the system ended the check of high' "$err"
+rm "$DO/high"
+echo 'kit-3 logic l1' >"$room/kit/KIT-ID"
+from_scratch
+call ./link --from-records books x
+check 'records: those of a kit of another name are taken' 'low: record' "$(head -n 1 <<<"$calls")"
+echo 'kit-3 logic l3' >"$room/kit/KIT-ID"
+from_scratch
+call ./link books x
+check 'records: those of another logic are not' 'low: proved, jobs 1' "$(head -n 1 <<<"$calls")"
+echo '{' >"$room/top/proved/index.json"
+from_scratch
+call ./link books x
+check 'a list that is no list is said' '1 relayplum: proved/index.json can'"'"'t be read' "$status $err"
+rm -r "$room/top/proved"
+echo 'kit-1 logic l1' >"$room/kit/KIT-ID"
+
+# What `rt ci` has built stands in each crate's folder; the gate compares what proved/ has with it.
+as_ci() { # builds all from the records, and puts it where `rt ci` does
+    from_scratch
+    ./link --from-records books x >/dev/null 2>&1
+    for crate in low high; do
+        mkdir -p "$room/top/crates/$crate/out/rlib"
+        rm -rf "$room/top/crates/$crate/out/rlib/$crate.rlib"
+        cp -r "$room/top/crates/cdc_app/out/start/$crate.rlib" "$room/top/crates/$crate/out/rlib/"
+    done
+    cp "$room/top/crates/cdc_app/out/start/cdc_app" "$program.by-rattle"
+}
+gate() {
+    call "$room/top/tools/records" --check "$@"
+    lacks "check $*: no traceback" Traceback "$err"
+}
+fails() { # fails NAME PATTERN: the last call has failed, with a line
+    has "$1" "^records: FAILED: not $2" "$out"
+    check "$1: status" 1 "$status"
+}
+anew() { # writes all that proved/ has, of what stands here
+    rm -rf "$room/top/proved"
+    write low library
+    write high library
+    write cdc_app
+    as_ci
+}
+gate
+check 'check: where there is nothing, there is nothing to compare' '1 passed, 0 failed' "$(tail -n 1 <<<"$out")"
+anew
+call "$room/top/tools/records"
+check 'records are listed' 'low: record current, library current
+high: record current, library current
+cdc_app: record current' "$out"
+gate --all
+check 'check: all of it' '13 passed, 0 failed' "$(tail -n 1 <<<"$out")"
+has 'check: a record' '^records: low as its record makes it is what `rt ci` has built' "$out"
+has 'check: a library' '^records: the library of low as it is packed is what `rt ci` has built$' "$out"
+has 'check: a record from scratch' '^records: the record of high from scratch is the one in proved/$' "$out"
+has 'check: one that is spoilt is refused' '^records: with a byte of its verdict changed, the record of low is refused$' "$out"
+gate --commit 1
+check 'check: an eighth from scratch' 1 "$(($(grep -c 'from scratch' <<<"$out") < 3))"
+echo different >"$DO/records/high/notes"
+gate --all
+fails 'check: a record that comes out otherwise' 'the record of high from scratch is the one in proved/$'
+anew
+echo different >"$room/top/crates/high/out/rlib/high.rlib/lib"
+gate
+fails 'check: a library that comes out otherwise' 'high as its record makes it is what `rt ci` has built'
+fails 'check: a packed library that is another' 'the library of high as it is packed is what `rt ci` has built$'
+anew
+echo '# another' >>"$program.by-rattle"
+gate
+fails 'check: a program that comes out otherwise' 'cdc_app as its record makes it is what `rt ci` has built'
+anew
+write high open
+echo 'kit-9 logic l1' >"$room/kit/KIT-ID"
+gate
+fails 'check: a spoilt record that another kit of the same logic wrote' 'the record of high, which is of what stands here: the toolchain refuses it'
+echo 'kit-1 logic l1' >"$room/kit/KIT-ID"
+anew
+printf x >>"$room/top/proved/low.record.tar.xz"
+gate
+fails 'check: a record that was changed' 'the record of low, which is of what stands here: it isn.t the file that'
+anew
+echo '// more' >>"$room/top/crates/high/src/lib.rt"
+gate
+check 'check: a stale record fails nothing' 0 "$status"
+has 'check: it is named' '^records: that of high is stale: it is of other sources' "$out"
+anew
+write low copy
+gate
+fails 'check: what the toolchain has stands in proved/ once more' 'nothing above 2 KB of proved/ stands in a library of the toolchain$'
+has 'check: it is named' '^  low.record: part/Rattle-cdc_own$' "$out"
+anew
+truncate -s 50000000 "$room/top/proved/more"
+gate
+fails 'check: more than 50 MB' 'proved/ has 50,0[0-9,]* bytes, of at most 50,000,000$'
+rm "$room/top/proved/more"
+
+# Writing: what is missing is proved from scratch, and packed.
+git -C "$room/top" init -q
+git -C "$room/top" add crates crates.txt >/dev/null 2>&1
+git -C "$room/top" -c user.name=t -c user.email=t@t commit -qm x
+rm -rf "$room/top/proved"
+call "$room/top/tools/records" --write
+check 'write: status' '0 ' "$status $err"
+check 'write: each is proved from scratch, then made from its record' 'low: proved, jobs 1 low: record high: proved, jobs 1 high: record' \
+    "$(grep -v has <<<"$calls" | head -n 4 | xargs)"
+call "$room/top/tools/records"
+check 'write: all is there' 2 "$(grep -c 'record current, library current' <<<"$out")"
+as_ci
+gate --all
+check 'write: and is what a check makes' '0 failed' "$(tail -n 1 <<<"$out" | sed 's/.*, //')"
+rm "$room/top/proved/high.library.tar.xz"
+call "$room/top/tools/records" --write
+check 'write: a library that is missing needs no proof' '' "$(grep proved <<<"$calls")"
+echo '// more' >>"$room/top/crates/high/src/lib.rt"
+call "$room/top/tools/records" --write
+check 'write: of what is committed alone' '1 records: the crates have changes that are not committed' "$status $err"
+
+ended

@@ -1,0 +1,24 @@
+"""Installs the program with its man page and its completions."""
+import os
+import shutil
+
+from . import say
+
+# Where each file goes, below the folder that is given.
+FILES = {
+    "docs/relayplum.1": "share/man/man1/relayplum.1",
+    "completions/relayplum.bash": "share/bash-completion/completions/relayplum",
+    "completions/_relayplum": "share/zsh/site-functions/_relayplum",
+    "completions/relayplum.fish": "share/fish/vendor_completions.d/relayplum.fish",
+}
+
+
+def install(program, to):
+    """Puts each file in its place whole, the program first."""
+    for source, place in {program.path: "bin/relayplum", **{f"{program.top}/{it}": place for it, place in FILES.items()}}.items():
+        file = os.path.join(to, place)
+        os.makedirs(os.path.dirname(file), exist_ok=True)
+        shutil.copyfile(source, f"{file}.new")
+        os.chmod(f"{file}.new", 0o755 if place.startswith("bin/") else 0o644)
+        os.replace(f"{file}.new", file)
+        say(f"installed {file}")

@@ -1,0 +1,288 @@
+"""Makes the crates, as many side by side as there is room for: each from its library or its record in proved/, or by a proof."""
+import concurrent.futures
+import contextlib
+import functools
+import json
+import os
+import re
+import shutil
+import subprocess
+import threading
+import time
+
+from . import Stop, say
+from .crates import Snapshot
+from .parts import Parts
+from .proved import Proved, Stale, put_together, unpack_library, unpacked
+
+# What a job needs of memory, in bytes, and the most jobs of a crate beside others.
+EACH, MOST = 3_000_000_000, 2
+# What a crate takes however small it is, as so many bytes of its sources: the order of the crates goes by these.
+ANYWAY = 500_000
+# How a crate may be made, by what has to be trusted besides the toolchain: nothing, who wrote its record, who built its library.
+PROOF, RECORD, LIBRARY = "proof", "record", "library"
+WAYS = (LIBRARY, RECORD, PROOF)
+# The compilers: Rattle's own is quicker, and the program that LLVM makes is.
+QUICK, OPTIMISING = "rattle", "llvm"
+
+
+class Interrupted(Exception):
+    """The build was ended while this crate was made."""
+
+
+def trust(how):
+    """Returns the rank of a way: the higher, the less has to be trusted."""
+    return WAYS.index(how)
+
+
+class Build:
+    """A build of the program in a folder of its own, `at`: the library of each crate, and a note of what it was made from. Nothing
+    is made in a way that asks for more trust than `way`."""
+
+    def __init__(self, top, crates, toolchain, at, way=LIBRARY, compiler=QUICK):
+        self.top, self.crates, self.toolchain, self.at, self.way, self.compiler = top, crates, toolchain, at, way, compiler
+        self.proved = Proved(top)
+        self.parts = Parts(toolchain, self.proved.folder, sorted({it for crate in crates for it in crate.of_toolchain}))
+        self.sources = Snapshot(crates, f"{at}/sources")
+        # By crate: how it was made, and the way to be trusted most of it and of those below; why its library or its record wasn't
+        # taken; how much work follows it up to the program.
+        self.made_by, self.how, self.refused, self.behind = {}, {}, {}, {}
+        self.children, self.alone = set(), threading.Lock()
+
+    # -----------------------------------------------------------------------------------------------------------------
+    # Where things are, and what is there already.
+
+    def library(self, crate):
+        return f"{self.at}/{crate.name}" if crate.is_program else f"{self.at}/{crate.name}.rlib"
+
+    def record(self, crate):
+        return f"{self.at}/{crate.name}.record"
+
+    def note(self, crate):
+        return f"{self.at}/{crate.name}.made"
+
+    def log(self, crate):
+        return f"{self.at}/{crate.name}.log"
+
+    @functools.lru_cache(maxsize=None)
+    def key(self, crate):
+        return self.sources.key(crate, self.toolchain.identity)
+
+    def weakest(self, crate, how):
+        """Returns which way has to be trusted most, of a crate made in one way and of all that are below it."""
+        return min([how, *(self.how[it.name] for it in crate.below)], key=trust)
+
+    def is_made(self, crate):
+        """Returns whether the library that stands there was made of what stands here, in a way that is asked for."""
+        with contextlib.suppress(OSError, ValueError, KeyError):
+            with open(self.note(crate), encoding="utf-8") as it:
+                note = json.load(it)
+            is_whole = os.path.exists(self.library(crate)) and (not crate.is_program or note["compiler"] == self.compiler)
+            if is_whole and note["key"] == self.key(crate) and trust(note["how"]) >= trust(self.way):
+                self.made_by[crate.name], self.how[crate.name] = note["made_by"], note["how"]
+                return True
+        return False
+
+    def note_made(self, crate, made_by):
+        """Notes how a crate was made."""
+        how = self.weakest(crate, made_by)
+        with open(self.note(crate), "w", encoding="utf-8") as it:
+            json.dump({"key": self.key(crate), "made_by": made_by, "how": how, "compiler": self.compiler}, it)
+        self.made_by[crate.name], self.how[crate.name] = made_by, how
+
+    # -----------------------------------------------------------------------------------------------------------------
+    # How one crate is made.
+
+    def run(self, crate, *commands):
+        """Runs commands in the crate's folder, each in a process group of its own, until one fails, and returns its status."""
+        for words in commands:
+            with open(self.log(crate), "ab") as out:
+                how = {"cwd": self.sources.folder(crate), "stdin": subprocess.DEVNULL, "stdout": out, "stderr": subprocess.STDOUT}
+                with self.alone:
+                    if self.children is None:
+                        raise Interrupted
+                    child = subprocess.Popen(words, start_new_session=True, **how)
+                    self.children.add(child)
+                if self.is_ahead(crate):
+                    give_way(child.pid)
+                child.wait()
+            with self.alone:
+                if self.children is None:
+                    raise Interrupted
+                self.children.discard(child)
+            if child.returncode < 0:
+                raise Stop(killed(crate, -child.returncode))
+            if child.returncode:
+                return child.returncode
+        return 0
+
+    def is_ahead(self, crate):
+        """Returns whether another crate has more work behind it."""
+        return self.behind[crate.name] < max((self.behind[it.name] for it in self.crates if it.name not in self.how), default=0)
+
+    def commands(self, crate, words):
+        """Returns the commands that make the crate's library, or the program."""
+        build = [self.toolchain.rattle, "build", *self.toolchain.words(crate, self.at), *words]
+        if not crate.is_program:
+            return [[*build, "-o", self.library(crate)]]
+        to = self.library(crate)
+        return [[*build, *self.toolchain.compiling(self.compiler), "-o", f"{to}.o"], self.toolchain.linking(f"{to}.o", to)]
+
+    def unpack_record(self, crate):
+        record = self.record(crate)
+        unpacked(self.proved.archive(crate, "record"), record)
+        put_together(record, self.parts)
+        return record
+
+    def from_library(self, crate):
+        """Puts the library together as it was built."""
+        text = self.proved.archive(crate, "library")
+        unpack_library(text, self.unpack_record(crate), self.library(crate), {"toolchain": f"{self.toolchain.at}/rlibs", "crate": self.at})
+
+    def from_record(self, crate):
+        """Has the toolchain make the crate of its sources and the record of its proof, which it compares."""
+        record = self.unpack_record(crate)
+        if self.run(crate, *self.commands(crate, ["--crate-checked", record])):
+            with open(self.log(crate), encoding="utf-8", errors="replace") as it:
+                lines = [line for line in it.read().split("\n") if line.startswith(("rattle", "error"))]
+            raise Stale(f"the toolchain refuses it: {(lines or ['it gives no reason'])[0][:300]}")
+
+    def prove(self, crate, jobs):
+        """Proves the crate from scratch and makes it; returns the status. A library holds statements alone, as one that is made from
+        a record does, so each may stand on the other."""
+        statements = [] if crate.is_program else ["--statements"]
+        return self.run(crate, *self.commands(crate, [*self.toolchain.proving(jobs), *statements]))
+
+    def may_take(self, crate, how):
+        """Returns whether the crate may be made from its library or its record. A record may be taken over proved crates too."""
+        if trust(how) < trust(self.way) or not self.proved.serves(crate, "record", self.key(crate)):
+            return False
+        return how == RECORD or (not crate.is_program and self.proved.serves(crate, "library", self.key(crate)))
+
+    def take(self, crate, how, make):
+        """Makes the crate from its library or its record; returns whether that was possible."""
+        if not self.may_take(crate, how):
+            return False
+        try:
+            make(crate)
+            return True
+        except Stale as why:
+            self.refused[crate.name] = how, str(why)
+            return False
+        finally:
+            shutil.rmtree(self.record(crate), ignore_errors=True)
+
+    def make(self, crate, jobs):
+        """Makes a crate, those below it being made."""
+        begun = time.monotonic()
+        if self.is_made(crate):
+            return
+        for file in (self.log(crate), self.note(crate)):
+            with contextlib.suppress(FileNotFoundError):
+                os.remove(file)
+        if self.take(crate, LIBRARY, self.from_library):
+            how, done = LIBRARY, "unpacked as built"
+        elif self.take(crate, RECORD, self.from_record):
+            how, done = RECORD, "built from the record of its proof"
+        else:
+            say(f"proving {crate.name}, {self.count(crate)}")
+            if self.prove(crate, jobs):
+                raise Stop(self.unproved(crate))
+            how, done = PROOF, "proved"
+        self.stop_if_moved(crate)
+        self.note_made(crate, how)
+        say(f"{crate.name} {done}, {self.count(crate)}, {int(time.monotonic() - begun)} s")
+
+    def stop_if_moved(self, crate):
+        """Stops where a source of the crate isn't as it was when the build began. What was made is of the sources as they were."""
+        file = self.sources.moved(crate)
+        if file:
+            raise Stop(f"{file} changed while the program was built: start it again")
+
+    def unproved(self, crate):
+        """Returns what the checker printed of a crate that isn't proved, and the sentence."""
+        with contextlib.suppress(OSError):
+            with open(self.log(crate), encoding="utf-8", errors="replace") as it:
+                return f"{it.read()}relayplum: {crate.name} isn't proved"
+        return f"{crate.name} isn't proved"
+
+    def count(self, crate):
+        return f"{self.crates.index(crate) + 1} of {len(self.crates)}"
+
+    # -----------------------------------------------------------------------------------------------------------------
+    # All of them.
+
+    def end(self):
+        """Ends all that was started."""
+        with self.alone:
+            children, self.children = self.children or set(), None
+        for it in children:
+            with contextlib.suppress(OSError):
+                os.killpg(it.pid, 9)
+
+    def measure(self):
+        """Notes for each crate how much work follows it up to the program."""
+        size = {it.name: ANYWAY + sum(os.path.getsize(f"{it.folder}/{file}") for file in self.sources.of[it.name]) for it in self.crates}
+        for crate in reversed(self.crates):
+            above = [self.behind[it.name] for it in self.crates if crate.name in it.straight]
+            self.behind[crate.name] = size[crate.name] + max(above, default=0)
+
+    def jobs_for(self, crate, idle, ready, left, running, room):
+        """Returns how many jobs a crate gets: one where it isn't proved here, and all there are where everything waits for it."""
+        if self.may_take(crate, RECORD):
+            return 1
+        most = room if all(crate in it.below for it in left) and not running else MOST
+        return max(1, min(most, idle // ready))
+
+    def all(self):
+        """Makes each crate as soon as those below it are made: first those that most work waits for."""
+        self.measure()
+        left, running, room = sorted(self.crates, key=lambda it: -self.behind[it.name]), {}, lanes()
+        with concurrent.futures.ThreadPoolExecutor(room) as pool:
+            try:
+                while left or running:
+                    ready = [it for it in left if all(low.name in self.how for low in it.below)]
+                    idle = room - sum(jobs for _, jobs in running.values())
+                    for at, crate in enumerate(ready):
+                        if idle <= 0:
+                            break
+                        left.remove(crate)
+                        jobs = self.jobs_for(crate, idle, len(ready) - at, left, running, room)
+                        idle -= jobs
+                        running[pool.submit(self.make, crate, jobs)] = crate, jobs
+                    for it in concurrent.futures.wait(running, return_when=concurrent.futures.FIRST_COMPLETED).done:
+                        del running[it]
+                        it.result()
+            except BaseException:
+                self.end()
+                raise
+        for crate in self.crates:
+            self.stop_if_moved(crate)
+
+
+def killed(crate, number):
+    """Returns the sentence of a crate whose check was ended by a signal."""
+    if number == 9:
+        return f"the system ended the check of {crate.name}, most likely since memory ran out: RT_JOBS=1 makes one crate at a time"
+    return f"the check of {crate.name} was ended by signal {number}"
+
+
+def give_way(pid):
+    """Has a process leave the processors to those of the crate that most work waits for. Where the system shares them out among
+    sessions first, its session does."""
+    with contextlib.suppress(OSError):
+        os.setpriority(os.PRIO_PROCESS, pid, 10)
+    with contextlib.suppress(OSError):
+        with open(f"/proc/{pid}/autogroup", "w", encoding="ascii") as it:
+            it.write("10")
+
+
+def lanes():
+    """Returns how many jobs there may be at a time: one for each processor that has memory; RT_JOBS gives another number."""
+    wanted = os.environ.get("RT_JOBS", "")
+    if re.fullmatch("[1-9][0-9]?", wanted):
+        return int(wanted)
+    with open("/proc/meminfo", encoding="utf-8") as it:
+        free = re.search(r"MemAvailable:\s+(\d+)", it.read())
+    memory = int(free[1]) * 1024 // EACH if free else 1
+    return max(1, min(len(os.sched_getaffinity(0)), memory))

@@ -1,0 +1,142 @@
+"""The program where it stands, and the notes of what it was built from."""
+import contextlib
+import fcntl
+import json
+import os
+import shutil
+import subprocess
+import time
+
+from . import Stop, say
+from .crates import APP, Sums, crates_of, sum_of
+from .jobs import LIBRARY, OPTIMISING, PROOF, QUICK, RECORD, Build, Interrupted, trust
+from .proved import Proved, Stale
+from .toolchain import Toolchain
+
+# How the ways are named where the program says how it was built.
+WAYS = {LIBRARY: "the libraries in proved/", RECORD: "the proof records in proved/", PROOF: "proofs made here"}
+COMPILERS = {QUICK: "Rattle's own compiler", OPTIMISING: "LLVM"}
+
+
+class Program:
+    """The program, `path`, and two notes beside it. `built` has the sums of the sources and of the program, the toolchain's
+    identity and the way. `stamps` has what `find` prints of all these files where nothing changed since: the launcher
+    compares it, and asks for the sums only where it differs."""
+
+    def __init__(self, top):
+        self.top = top
+        self.out = f"{top}/crates/{APP}/out"
+        self.path, self.built, self.stamps = f"{self.out}/{APP}", f"{self.out}/{APP}.built", f"{self.out}/{APP}.stamps"
+
+    def note(self):
+        """Returns what the note says, or nothing where there is none."""
+        with contextlib.suppress(OSError, ValueError):
+            with open(self.built, encoding="utf-8") as it:
+                note = json.load(it)
+            if isinstance(note, dict):
+                return note
+        return {}
+
+    def is_current(self, way=LIBRARY, compiler=QUICK):
+        """Returns whether the program is what was built, of the sources and by the toolchain that stand here, in a way and by a
+        compiler at least as good as those that are asked for. Without a toolchain the sources decide."""
+        note = self.note()
+        try:
+            if note["program"] != sum_of(self.path) or trust(note["way"]) < trust(way):
+                return False
+            if compiler == OPTIMISING and note["compiler"] != OPTIMISING:
+                return False
+            if note["toolchain"] != identity(note["toolchain"]):
+                return False
+        except (OSError, KeyError, ValueError):
+            return False
+        return os.access(self.path, os.X_OK) and note["sources"] == Sums(crates_of(self.top)).whole()
+
+    def build(self, way=LIBRARY, compiler=QUICK):
+        """Builds the program. Only one does so at a time."""
+        at = f"{self.out}/start"
+        os.makedirs(at, exist_ok=True)
+        with open(f"{at}/lock", "w", encoding="ascii") as lock:
+            try:
+                fcntl.flock(lock, fcntl.LOCK_EX | fcntl.LOCK_NB)
+            except BlockingIOError:
+                say("another one builds the program already: waiting for it")
+                fcntl.flock(lock, fcntl.LOCK_EX)
+                if self.is_current(way, compiler):
+                    return
+            self.make(at, way, compiler)
+        self.stamp()
+
+    def make(self, at, way, compiler):
+        begun = time.monotonic()
+        crates = crates_of(self.top)
+        toolchain = Toolchain()
+        try:
+            build = Build(self.top, crates, toolchain, at, way, compiler)
+        except Stale as why:
+            raise Stop(str(why)) from None
+        say("the program is built first; a crate that proved/ doesn't have as it stands here is proved, which takes minutes")
+        try:
+            build.all()
+        except Interrupted:
+            raise KeyboardInterrupt from None
+        self.put(build)
+        tell(build)
+        say(f"built in {int(time.monotonic() - begun)} s")
+
+    def put(self, build):
+        """Puts the program in its place, with its note."""
+        for file in (self.built, self.stamps):
+            with contextlib.suppress(FileNotFoundError):
+                os.remove(file)
+        shutil.copyfile(build.library(build.crates[-1]), f"{self.path}.new")
+        os.chmod(f"{self.path}.new", 0o755)
+        os.replace(f"{self.path}.new", self.path)
+        note = {"program": sum_of(self.path), "sources": build.sources.whole(), "toolchain": build.toolchain.identity}
+        note.update(way=build.how[APP], compiler=build.compiler, kit=build.toolchain.name, commits=commits_of(build))
+        with open(f"{self.built}.new", "w", encoding="utf-8") as it:
+            json.dump(note, it)
+        os.replace(f"{self.built}.new", self.built)
+
+    def stamp(self):
+        """Notes what `find` prints of the files that decide, unless one of them changed just now: it could change again at the same
+        time. Where it can't be noted, the next start compares the sums again."""
+        printed = subprocess.run([f"{self.top}/relayplum", "--stamps"], stdout=subprocess.PIPE, stderr=subprocess.DEVNULL, check=False).stdout
+        changed = [float(line.rsplit(b" ", 1)[1]) for line in printed.splitlines() if line.count(b" ") > 3]
+        if has_toolchain(printed) and changed and max(changed) < time.time() - 1 and self.is_current():
+            with contextlib.suppress(OSError):
+                with open(f"{self.stamps}.new", "wb") as out:
+                    out.write(printed)
+                os.replace(f"{self.stamps}.new", self.stamps)
+
+
+def has_toolchain(printed):
+    """Returns whether the toolchain of this machine, if it has one, is among the files that were printed."""
+    return not shutil.which("rt") or f"{Toolchain().at}/KIT-ID ".encode() in printed
+
+
+def identity(otherwise):
+    """Returns the identity of this machine's toolchain, or what is said where it has none."""
+    return Toolchain().identity if shutil.which("rt") else otherwise
+
+
+def commits_of(build):
+    """Returns the commits at which the records and libraries were written that were taken."""
+    return sorted({build.proved.commit(it) for it in build.crates if build.made_by[it.name] != PROOF})
+
+
+def tell(build):
+    """Prints how the crates were made, and why a library or a record was not taken."""
+    taken = [it for it in build.crates if build.made_by[it.name] != PROOF]
+    if taken:
+        which = "all crates" if len(taken) == len(build.crates) else f"{len(taken)} of {len(build.crates)} crates"
+        what = WAYS[min((build.made_by[it.name] for it in taken), key=trust)]
+        say(f"{which} taken from {what}, of {', '.join(commits_of(build))}; ./relayplum --prove proves them here")
+    proved = [it for it in build.crates if build.made_by[it.name] == PROOF]
+    if proved:
+        say(f"proved here: {' '.join(it.name for it in proved)}")
+    for name, (what, why) in build.refused.items():
+        say(f"the {what} of {name} in proved/ was not taken: {why}")
+    stale = [it.name for it in proved if build.proved.has(it, RECORD) and it.name not in build.refused]
+    if stale and build.way != PROOF:
+        say(f"proved/ has the records of other sources, or of another toolchain, of: {' '.join(stale)}")

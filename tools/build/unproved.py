@@ -1,0 +1,50 @@
+"""Runs the sources as they stand, before any proof: for whoever is writing them."""
+import os
+import shutil
+import subprocess
+import sys
+
+from . import Stop, say
+from .crates import APP
+
+# The flags that a number follows, which is no file even where a file has its name.
+NUMBERED = (
+    "--window", "--prefetch", "--lose-confirm", "--lose-publish", "--restart-after", "--repeat", "--close", "--start-after",
+    "--random", "--steps", "--faults",
+)
+
+
+def handed_on(arguments):
+    """Returns the `--data` arguments, and the arguments of the program. The run has a folder of its own, so each file that is read
+    is handed on as a copy, and one that is written by its whole path."""
+    data, handed, before = [], [], ""
+    for place, word in enumerate(arguments):
+        if before == "--progress":
+            handed.append(os.path.realpath(word))
+        elif word.startswith("--diagram=") and word != "--diagram=-":
+            handed.append(f"--diagram={os.path.realpath(word.partition('=')[2])}")
+        elif place > 0 and before not in NUMBERED and (place, word) != (1, "-") and os.path.isfile(word):
+            # (`rt try` takes a name up to its first equals sign)
+            name = f"{len(data) // 2 + 1}-{os.path.basename(word).replace('=', '-')}"
+            data += ["--data", f"{name}={os.path.realpath(word)}"]
+            handed.append(name)
+        else:
+            handed.append(word)
+        before = word
+    return data, handed
+
+
+def run(top, arguments):
+    """Runs the program by `rt try`, and returns its status."""
+    if not shutil.which("rt"):
+        raise Stop("there is no `rt` on the path: Rattle's toolchain is needed")
+    data, handed = handed_on(arguments)
+    say("nothing is proved: the sources are run as they stand, for at most 60 s and 1 MiB of output")
+    ran = subprocess.run(["rt", "try", *data, "--", *handed], cwd=f"{top}/crates/{APP}", stderr=subprocess.PIPE, check=False)
+    lines = ran.stderr.decode(errors="replace").splitlines(True)
+    if any(it.startswith("checked: ended") for it in lines):
+        lines = [it for it in lines if not it.startswith(("checked: ", "run=", "interpreter: ", "races: "))]
+    sys.stderr.write("".join(lines))
+    if ran.returncode == 6:
+        say("the run reached a limit of unproved runs; without --unproved there is none")
+    return ran.returncode
