@@ -305,17 +305,6 @@ def long_folder(hostile):
     return folder
 
 
-def one_goes_on(hostile, what, folder, ends):
-    """Of runs over one file some came to their end, and the others were refused; the file holds a record of one that did."""
-    good = [ended for ended, _ in ends if ended[0] == 0]
-    others = [(ended, b"saved: store: " in errors) for ended, errors in ends if ended[0] != 0]
-    hostile.check(f"{what}: one came to its end", True, bool(good) or ends)
-    hostile.check(f"{what}: the others", [((1, STORE), True)] * len(others), others)
-    left = contents(folder)
-    hostile.check(f"{what}: the record", True, bool(RECORD.fullmatch(left["saved"][1])) or left["saved"])
-    hostile.check(f"{what}: the new name", False, "saved.new" in left)
-
-
 def a_run_while_another_is_on(hostile):
     """The second run comes while the first is held in its second save, with a record saved."""
     what = "a run that comes while another is on"
@@ -329,18 +318,35 @@ def a_run_while_another_is_on(hostile):
     hostile.check(f"{what}: it is on, with a record saved", True, held is not None and os.path.exists(f"{folder}/saved"))
     second = hostile.end(hostile.start(folder, "saved", "long"))
     hostile.check(f"{what}: it is refused", (1, STORE), second[0])
+    hostile.check(f"{what}: standard error", True, b"saved: store: " in second[1] or second[1])
     if held is not None:
         os.close(held)
-    ends = [hostile.end(first), second]
-    hostile.check(f"{what}: not both", 1, [ended[0] for ended, _ in ends].count(0))
-    one_goes_on(hostile, what, folder, ends)
+    ended, errors = hostile.end(first)
+    hostile.check(f"{what}: the first one goes on", 0, ended[0] and (ended, errors))
+    left = contents(folder)
+    hostile.check(f"{what}: the record", True, "saved" in left and bool(RECORD.fullmatch(left["saved"][1])) or left)
+    hostile.check(f"{what}: the new name", False, "saved.new" in left)
 
 
 def two_runs(hostile):
+    """Of runs that begin at once each comes to its end or is refused. It may be that none comes to its end: a store gives its lock
+    back while it looks at its file again, and finds the other one's then. The next run goes on from what they left."""
+    what = "two runs that begin at once"
     for _ in range(4):
         folder = long_folder(hostile)
         runs = [hostile.start(folder, "saved", "long") for _ in range(2)]
-        one_goes_on(hostile, "two runs that begin at once", folder, [hostile.end(it) for it in runs])
+        ends = [hostile.end(it) for it in runs]
+        others = [(ended, b"saved: store: " in errors) for ended, errors in ends if ended[0] != 0]
+        hostile.check(f"{what}: those that don't come to their end", [((1, STORE), True)] * len(others), others)
+        hostile.check(f"{what}: what is left", True, is_whole(folder))
+        goes_on(hostile, what, folder)
+
+
+def goes_on(hostile, what, folder):
+    """The next run comes to its end, and leaves the record alone."""
+    ended, errors = hostile.end(hostile.start(folder, "saved", "long"))
+    hostile.check(f"{what}: a run that goes on", 0, ended[0] and (ended, errors))
+    hostile.check(f"{what}: no other file is left", False, "saved.new" in contents(folder))
 
 
 def is_whole(folder, saved=True):
@@ -373,9 +379,7 @@ def ended_runs(hostile, seed=1):
             right = {"SIGTERM": (-signal.SIGTERM, 0), "a closed standard output": (1, -signal.SIGPIPE, 0)}[how]
             hostile.check(f"{how}: the status", True, ended[0] in right or (ended, errors))
             hostile.check(f"{how}: what is left", True, is_whole(folder))
-        ended, errors = hostile.end(hostile.start(folder, "saved", "long"))
-        hostile.check(f"{how}: a run that goes on", 0, ended[0] and (ended, errors))
-        hostile.check(f"{how}: nothing is left beside the record", False, "saved.new" in contents(folder))
+        goes_on(hostile, how, folder)
 
 
 def main(words):
