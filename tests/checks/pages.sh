@@ -1,6 +1,6 @@
 #!/usr/bin/env bash
 # The man page and the completions, compared with the program's own help: each command and each flag that the help
-# names stands in each of them, and no other does. Flags are compared command by command, except in the man page, which has
+# names is in each of them, and no other is. Flags are compared command by command, except in the man page, which has
 # them in one list. The launcher options, which ./relayplum takes before the command, are compared in the same way.
 # Then docs/help, which `relayplum` answers from before there is a program: each text is what the program prints.
 # Takes the program's path, crates/cdc_app/out/cdc_app where none is given; with `--write` before it, it writes docs/help.
@@ -66,7 +66,7 @@ for command in $with_flags; do
     same "bash: $command" "$(flags "$command")" "$(offered "$command" -)"
     same "bash: $command, a file" '' "$(offered "$command" '')"
 done
-# The launcher, which is called by its path: its options stand before the command, one or several, and a folder follows --install.
+# The launcher, which is called by its path: one or several options come before the command, and a folder follows --install.
 first=$({ commands; flags; printf '%s\n' $launcher_flags; } | sorted)
 same 'bash: the launcher, the first argument' "$first" "$(offered_to ./relayplum '')"
 for flag in $launcher_flags; do
@@ -99,7 +99,7 @@ done
 
 same 'fish: launcher options' "$launcher_flags" "$(grep -e "; and __relayplum_may_be_launcher' -l " "$fish_words" | fish_flags)"
 
-# The launcher: each of these options stands in quotes in its own sources.
+# The launcher: each of these options is in its sources, in quotes.
 for flag in $launcher_flags; do
     checks=$((checks + 1))
     grep -qsF -e "\"$flag\"" -e "'$flag'" "$top/relayplum" "$top"/tools/build/*.py && continue

@@ -1115,7 +1115,7 @@ for words in 'messages large.script' 'messages --json large.script'; do
     same "'$words' into head: standard error" '' "$(cat errors)"
 done
 # The reader of a diagram that stops after its first byte; descriptor 8 lets it wait for the diagram. The status and standard
-# output are as ever.
+# output are those of any diagram.
 run simulate large.script large.steps
 plain=$out
 mkfifo drawing
