@@ -90,7 +90,7 @@ check 'a mended crate builds, and what stands on it' "$upwards" "$calls"
 
 # What is built is what stood there when the build began: a compiler that edits a source meanwhile.
 echo '// as committed' >"$low"
-echo "echo '// edited meanwhile' >>'$low'; rm \"\$DO/low\"" >"$DO/low"
+echo "echo '// edited meanwhile' >>'$low'; seen=\$(cat src/lib.rt); rm \"\$DO/low\"" >"$DO/low"
 start books x
 check 'an edit during the build: it fails' 1 "$status"
 has 'an edit during the build: it is said' '^relayplum: crates/low/src/lib.rt changed while the program was built: start it again$' "$err"

@@ -56,17 +56,7 @@ def run(top, arguments):
     os.execv(program.path, [program.path, *arguments])
 
 
-def open_all():
-    """Sees to it that 0, 1 and 2 are open, so that no file gets one of these numbers. One that was closed can't be written to."""
-    for number in range(3):
-        try:
-            os.fstat(number)
-        except OSError:
-            os.open("/dev/null", os.O_RDONLY)
-
-
 def main(top, arguments):
-    open_all()
     for number in (signal.SIGTERM, signal.SIGHUP):
         signal.signal(number, lambda number, _: sys.exit(128 + number))
     try:
