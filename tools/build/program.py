@@ -10,7 +10,7 @@ import time
 from . import Stop, say
 from .crates import APP, Sums, crates_of, sum_of
 from .jobs import LIBRARY, OPTIMISING, PROOF, QUICK, RECORD, Build, Interrupted, trust
-from .proved import Proved, Stale
+from .proved import Stale
 from .toolchain import Toolchain
 
 # How the ways are named where the program says how it was built.
